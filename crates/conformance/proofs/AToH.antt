@@ -31,40 +31,41 @@ pub numberA : firstOf (readLines rowA) ≡ 0
 unfolding told
 numberA = ap (λ (l : List ℕ). getD l 0 0) numbers
 
-figuresA : figuresIf 0 (boxPlan Direct nestA) ≡ accepted 16 12 24 56
+record Counted : Type 0 where
+  A : figuresIf 0 (boxPlan Direct nestA) ≡ accepted 16 12 24 56
+  B : figuresIf 0 (boxPlan Direct nestB) ≡ accepted 4 2 14 12
+  C : figuresIf 0 (boxPlan Direct nestC) ≡ accepted 8 10 144 36
+  D : figuresIf 0 (boxPlan Direct nestD) ≡ accepted 2 1 1 6
+  E : figuresIf 0 (boxPlan Direct nestE) ≡ accepted 3 2 2 10
+  F : figuresIf 0 (boxPlan Direct nestF) ≡ accepted 2 0 0 4
+  G : figuresIf 0 (boxPlan Direct nestG) ≡ accepted 4 3 3 14
+  Later : figuresIf 0 (boxPlan Direct nestLater) ≡ accepted 4 1 2 10
+  H : figuresIf 0 (boxPlan Direct nestH) ≡ accepted 2 0 0 4
+
+counted : Counted
 unfolding figuresIf offset _and_ _or_ pick every some keep product tileCount cells boxTiles rank place cellAt cellPlace tileAt tilePlace boxTileOf inside
     directions ahead reaches crosses parcel taker slotCells slotTaker atHome slotParcel messagesTo processorOf
-figuresA = refl
+counted = record { A = refl; B = refl; C = refl; D = refl; E = refl; F = refl; G = refl; Later = refl; H = refl }
 
 rowA-is : figures Direct rowA ≡ accepted 16 12 24 56
 unfolding figures
-rowA-is = rw (numberA, isA) figuresA
+rowA-is = rw (numberA, isA) (counted .A)
 
 pub numberB : firstOf (readLines rowB) ≡ 0
 unfolding told
 numberB = ap (λ (l : List ℕ). getD l 1 0) numbers
 
-figuresB : figuresIf 0 (boxPlan Direct nestB) ≡ accepted 4 2 14 12
-unfolding figuresIf offset _and_ _or_ pick every some keep product tileCount cells boxTiles rank place cellAt cellPlace tileAt tilePlace boxTileOf inside
-    directions ahead reaches crosses parcel taker slotCells slotTaker atHome slotParcel messagesTo processorOf
-figuresB = refl
-
 rowB-is : figures Direct rowB ≡ accepted 4 2 14 12
 unfolding figures
-rowB-is = rw (numberB, isB) figuresB
+rowB-is = rw (numberB, isB) (counted .B)
 
 pub numberC : firstOf (readLines rowC) ≡ 0
 unfolding told
 numberC = ap (λ (l : List ℕ). getD l 2 0) numbers
 
-figuresC : figuresIf 0 (boxPlan Direct nestC) ≡ accepted 8 10 144 36
-unfolding figuresIf offset _and_ _or_ pick every some keep product tileCount cells boxTiles rank place cellAt cellPlace tileAt tilePlace boxTileOf inside
-    directions ahead reaches crosses parcel taker slotCells slotTaker atHome slotParcel messagesTo processorOf
-figuresC = refl
-
 rowC-is : figures Direct rowC ≡ accepted 8 10 144 36
 unfolding figures
-rowC-is = rw (numberC, isC) figuresC
+rowC-is = rw (numberC, isC) (counted .C)
 
 rowC-indirect-is : figures Indirect rowC ≡ accepted 8 8 160 32
 unfolding figures
@@ -74,79 +75,49 @@ pub numberD : firstOf (readLines rowD) ≡ 0
 unfolding told
 numberD = ap (λ (l : List ℕ). getD l 3 0) numbers
 
-figuresD : figuresIf 0 (boxPlan Direct nestD) ≡ accepted 2 1 1 6
-unfolding figuresIf offset _and_ _or_ pick every some keep product tileCount cells boxTiles rank place cellAt cellPlace tileAt tilePlace boxTileOf inside
-    directions ahead reaches crosses parcel taker slotCells slotTaker atHome slotParcel messagesTo processorOf
-figuresD = refl
-
 rowD-is : figures Direct rowD ≡ accepted 2 1 1 6
 unfolding figures
-rowD-is = rw (numberD, isD) figuresD
+rowD-is = rw (numberD, isD) (counted .D)
 
 pub numberE : firstOf (readLines rowE) ≡ 0
 unfolding told
 numberE = ap (λ (l : List ℕ). getD l 4 0) numbers
 
-figuresE : figuresIf 0 (boxPlan Direct nestE) ≡ accepted 3 2 2 10
-unfolding figuresIf offset _and_ _or_ pick every some keep product tileCount cells boxTiles rank place cellAt cellPlace tileAt tilePlace boxTileOf inside
-    directions ahead reaches crosses parcel taker slotCells slotTaker atHome slotParcel messagesTo processorOf
-figuresE = refl
-
 rowE-is : figures Direct rowE ≡ accepted 3 2 2 10
 unfolding figures
-rowE-is = rw (numberE, isE) figuresE
+rowE-is = rw (numberE, isE) (counted .E)
 
 pub numberF : firstOf (readLines rowF) ≡ 0
 unfolding told
 numberF = ap (λ (l : List ℕ). getD l 5 0) numbers
 
-figuresF : figuresIf 0 (boxPlan Direct nestF) ≡ accepted 2 0 0 4
-unfolding figuresIf offset _and_ _or_ pick every some keep product tileCount cells boxTiles rank place cellAt cellPlace tileAt tilePlace boxTileOf inside
-    directions ahead reaches crosses parcel taker slotCells slotTaker atHome slotParcel messagesTo processorOf
-figuresF = refl
-
 rowF-is : figures Direct rowF ≡ accepted 2 0 0 4
 unfolding figures
-rowF-is = rw (numberF, isF) figuresF
+rowF-is = rw (numberF, isF) (counted .F)
 
 pub numberG : firstOf (readLines rowG) ≡ 0
 unfolding told
 numberG = ap (λ (l : List ℕ). getD l 6 0) numbers
 
-figuresG : figuresIf 0 (boxPlan Direct nestG) ≡ accepted 4 3 3 14
-unfolding figuresIf offset _and_ _or_ pick every some keep product tileCount cells boxTiles rank place cellAt cellPlace tileAt tilePlace boxTileOf inside
-    directions ahead reaches crosses parcel taker slotCells slotTaker atHome slotParcel messagesTo processorOf
-figuresG = refl
-
 rowG-is : figures Direct rowG ≡ accepted 4 3 3 14
 unfolding figures
-rowG-is = rw (numberG, isG) figuresG
+rowG-is = rw (numberG, isG) (counted .G)
 
 numberLater : firstOf (readLines rowLater) ≡ 0
 unfolding told
 numberLater = ap (λ (l : List ℕ). getD l 8 0) numbers
 
-figuresLater : figuresIf 0 (boxPlan Direct nestLater) ≡ accepted 4 1 2 10
-unfolding figuresIf offset _and_ _or_ pick every some keep product tileCount cells boxTiles rank place cellAt cellPlace tileAt tilePlace boxTileOf inside
-    directions ahead reaches crosses parcel taker slotCells slotTaker atHome slotParcel messagesTo processorOf
-figuresLater = refl
-
 rowLater-is : figures Direct rowLater ≡ accepted 4 1 2 10
 unfolding figures
-rowLater-is = rw (numberLater, isLater) figuresLater
+rowLater-is = rw (numberLater, isLater) (counted .Later)
 
 pub numberH : firstOf (readLines rowH) ≡ 0
 unfolding told
 numberH = ap (λ (l : List ℕ). getD l 7 0) numbers
 
-figuresH : figuresIf 0 (boxPlan Direct nestH) ≡ accepted 2 0 0 4
-unfolding figuresIf offset _and_ _or_ pick every some keep product tileCount cells boxTiles rank place cellAt cellPlace tileAt tilePlace boxTileOf inside
-    directions ahead reaches crosses parcel taker slotCells slotTaker atHome slotParcel messagesTo processorOf
-figuresH = refl
-
 rowH-is : figures Direct rowH ≡ accepted 2 0 0 4
 unfolding figures
-rowH-is = rw (numberH, isH) figuresH
+rowH-is = rw (numberH, isH) (counted .H)
 
 rowH-indirect-is : figures Indirect rowH ≡ accepted 2 0 0 4
 unfolding figures
@@ -154,57 +125,65 @@ rowH-indirect-is = rw (numberH, isH) indirect.figuresH
 
 -- ---- message lines
 
-nestLinesB : linesTo (boxPlan Direct nestB) (count (boxPlan Direct nestB)) ≡ (0 ∷ 0 ∷ 2 ∷ 0 ∷ 1 ∷ 8 ∷ []) ∷ (1 ∷ 1 ∷ 3 ∷ 0 ∷ 1 ∷ 6 ∷ []) ∷ []
+record Listed : Type 0 where
+  B : linesTo (boxPlan Direct nestB) (count (boxPlan Direct nestB)) ≡ (0 ∷ 0 ∷ 2 ∷ 0 ∷ 1 ∷ 8 ∷ []) ∷ (1 ∷ 1 ∷ 3 ∷ 0 ∷ 1 ∷ 6 ∷ []) ∷ []
+  C : linesTo (boxPlan Direct nestC) (count (boxPlan Direct nestC)) ≡ (0 ∷ 0 ∷ 2 ∷ 0 ∷ 1 ∷ 8 ∷ []) ∷ (1 ∷ 0 ∷ 4 ∷ 0 ∷ 2 ∷ 24 ∷ [])
+      ∷ (2 ∷ 0 ∷ 6 ∷ 0 ∷ 3 ∷ 8 ∷ []) ∷ (3 ∷ 1 ∷ 3 ∷ 0 ∷ 1 ∷ 8 ∷ []) ∷ (4 ∷ 1 ∷ 5 ∷ 0 ∷ 2 ∷ 24 ∷ []) ∷ (5 ∷ 1 ∷ 7 ∷ 0 ∷ 3 ∷ 8 ∷ [])
+      ∷ (6 ∷ 2 ∷ 6 ∷ 1 ∷ 3 ∷ 24 ∷ []) ∷ (7 ∷ 3 ∷ 7 ∷ 1 ∷ 3 ∷ 24 ∷ []) ∷ (8 ∷ 4 ∷ 6 ∷ 2 ∷ 3 ∷ 8 ∷ []) ∷ (9 ∷ 5 ∷ 7 ∷ 2 ∷ 3 ∷ 8 ∷ []) ∷ []
+  D : linesTo (boxPlan Direct nestD) (count (boxPlan Direct nestD)) ≡ (0 ∷ 0 ∷ 1 ∷ 0 ∷ 1 ∷ 1 ∷ []) ∷ []
+  G : linesTo (boxPlan Direct nestG) (count (boxPlan Direct nestG)) ≡ (0 ∷ 0 ∷ 1 ∷ 0 ∷ 1 ∷ 1 ∷ []) ∷ (1 ∷ 1 ∷ 2 ∷ 1 ∷ 0 ∷ 1 ∷ [])
+      ∷ (2 ∷ 2 ∷ 3 ∷ 0 ∷ 1 ∷ 1 ∷ []) ∷ []
+  Later : linesTo (boxPlan Direct nestLater) (count (boxPlan Direct nestLater)) ≡ (0 ∷ 0 ∷ 2 ∷ 0 ∷ 1 ∷ 2 ∷ []) ∷ []
+
+listed : Listed
 unfolding linesTo messageLine _and_ _or_ pick every some keep product tileCount cells boxTiles rank place cellAt cellPlace tileAt tilePlace boxTileOf inside
     directions ahead reaches crosses parcel taker slotCells slotTaker atHome slotParcel messagesTo processorOf
-nestLinesB = refl
+listed = record { B = refl; C = refl; D = refl; G = refl; Later = refl }
 
 linesB : linesOf Direct rowB ≡ (0 ∷ 0 ∷ 2 ∷ 0 ∷ 1 ∷ 8 ∷ []) ∷ (1 ∷ 1 ∷ 3 ∷ 0 ∷ 1 ∷ 6 ∷ []) ∷ []
-linesB = rw isB nestLinesB
-
-nestLinesC : linesTo (boxPlan Direct nestC) (count (boxPlan Direct nestC)) ≡ (0 ∷ 0 ∷ 2 ∷ 0 ∷ 1 ∷ 8 ∷ []) ∷ (1 ∷ 0 ∷ 4 ∷ 0 ∷ 2 ∷ 24 ∷ [])
-    ∷ (2 ∷ 0 ∷ 6 ∷ 0 ∷ 3 ∷ 8 ∷ []) ∷ (3 ∷ 1 ∷ 3 ∷ 0 ∷ 1 ∷ 8 ∷ []) ∷ (4 ∷ 1 ∷ 5 ∷ 0 ∷ 2 ∷ 24 ∷ []) ∷ (5 ∷ 1 ∷ 7 ∷ 0 ∷ 3 ∷ 8 ∷ [])
-    ∷ (6 ∷ 2 ∷ 6 ∷ 1 ∷ 3 ∷ 24 ∷ []) ∷ (7 ∷ 3 ∷ 7 ∷ 1 ∷ 3 ∷ 24 ∷ []) ∷ (8 ∷ 4 ∷ 6 ∷ 2 ∷ 3 ∷ 8 ∷ []) ∷ (9 ∷ 5 ∷ 7 ∷ 2 ∷ 3 ∷ 8 ∷ []) ∷ []
-unfolding linesTo messageLine _and_ _or_ pick every some keep product tileCount cells boxTiles rank place cellAt cellPlace tileAt tilePlace boxTileOf inside
-    directions ahead reaches crosses parcel taker slotCells slotTaker atHome slotParcel messagesTo processorOf
-nestLinesC = refl
+linesB = rw isB (listed .B)
 
 linesC : linesOf Direct rowC ≡ (0 ∷ 0 ∷ 2 ∷ 0 ∷ 1 ∷ 8 ∷ []) ∷ (1 ∷ 0 ∷ 4 ∷ 0 ∷ 2 ∷ 24 ∷ []) ∷ (2 ∷ 0 ∷ 6 ∷ 0 ∷ 3 ∷ 8 ∷ []) ∷ (3 ∷ 1 ∷ 3 ∷ 0 ∷ 1 ∷ 8 ∷ [])
     ∷ (4 ∷ 1 ∷ 5 ∷ 0 ∷ 2 ∷ 24 ∷ []) ∷ (5 ∷ 1 ∷ 7 ∷ 0 ∷ 3 ∷ 8 ∷ []) ∷ (6 ∷ 2 ∷ 6 ∷ 1 ∷ 3 ∷ 24 ∷ []) ∷ (7 ∷ 3 ∷ 7 ∷ 1 ∷ 3 ∷ 24 ∷ [])
     ∷ (8 ∷ 4 ∷ 6 ∷ 2 ∷ 3 ∷ 8 ∷ []) ∷ (9 ∷ 5 ∷ 7 ∷ 2 ∷ 3 ∷ 8 ∷ []) ∷ []
-linesC = rw isC nestLinesC
-
-nestLinesD : linesTo (boxPlan Direct nestD) (count (boxPlan Direct nestD)) ≡ (0 ∷ 0 ∷ 1 ∷ 0 ∷ 1 ∷ 1 ∷ []) ∷ []
-unfolding linesTo messageLine _and_ _or_ pick every some keep product tileCount cells boxTiles rank place cellAt cellPlace tileAt tilePlace boxTileOf inside
-    directions ahead reaches crosses parcel taker slotCells slotTaker atHome slotParcel messagesTo processorOf
-nestLinesD = refl
+linesC = rw isC (listed .C)
 
 linesD : linesOf Direct rowD ≡ (0 ∷ 0 ∷ 1 ∷ 0 ∷ 1 ∷ 1 ∷ []) ∷ []
-linesD = rw isD nestLinesD
-
-nestLinesG : linesTo (boxPlan Direct nestG) (count (boxPlan Direct nestG)) ≡ (0 ∷ 0 ∷ 1 ∷ 0 ∷ 1 ∷ 1 ∷ []) ∷ (1 ∷ 1 ∷ 2 ∷ 1 ∷ 0 ∷ 1 ∷ [])
-    ∷ (2 ∷ 2 ∷ 3 ∷ 0 ∷ 1 ∷ 1 ∷ []) ∷ []
-unfolding linesTo messageLine _and_ _or_ pick every some keep product tileCount cells boxTiles rank place cellAt cellPlace tileAt tilePlace boxTileOf inside
-    directions ahead reaches crosses parcel taker slotCells slotTaker atHome slotParcel messagesTo processorOf
-nestLinesG = refl
+linesD = rw isD (listed .D)
 
 linesG : linesOf Direct rowG ≡ (0 ∷ 0 ∷ 1 ∷ 0 ∷ 1 ∷ 1 ∷ []) ∷ (1 ∷ 1 ∷ 2 ∷ 1 ∷ 0 ∷ 1 ∷ []) ∷ (2 ∷ 2 ∷ 3 ∷ 0 ∷ 1 ∷ 1 ∷ []) ∷ []
-linesG = rw isG nestLinesG
+linesG = rw isG (listed .G)
 
-nestLinesLater : linesTo (boxPlan Direct nestLater) (count (boxPlan Direct nestLater)) ≡ (0 ∷ 0 ∷ 2 ∷ 0 ∷ 1 ∷ 2 ∷ []) ∷ []
-unfolding linesTo messageLine _and_ _or_ pick every some keep product tileCount cells boxTiles rank place cellAt cellPlace tileAt tilePlace boxTileOf inside
-    directions ahead reaches crosses parcel taker slotCells slotTaker atHome slotParcel messagesTo processorOf
-nestLinesLater = refl
+record Reported : Type 0 where
+  readers-Later : readersOf nestLater 4 ++ readersOf nestLater 5 ≡ 10 ∷ 11 ∷ []
+  tile-Later : boxTileOf nestLater 10 ∷ boxTileOf nestLater 11 ∷ [] ≡ 3 ∷ 3 ∷ []
+  message-0 : parcel nestB 0 1 ≡ 16 ∷ 17 ∷ 18 ∷ 19 ∷ 24 ∷ 25 ∷ 26 ∷ 27 ∷ []
+  message-1 : parcel nestB 1 1 ≡ 20 ∷ 21 ∷ 22 ∷ 28 ∷ 29 ∷ 30 ∷ []
+  theorem3-2 : theorem3 staysAhead nestB 2 1 ≡ 16 ∷ 17 ∷ 18 ∷ 24 ∷ 25 ∷ 26 ∷ []
+  theorem3-3 : theorem3 staysAhead nestB 3 1 ≡ 19 ∷ 20 ∷ 21 ∷ 22 ∷ 27 ∷ 28 ∷ 29 ∷ 30 ∷ []
+  printed-2 : theorem3 hasRead nestB 2 1 ≡ 17 ∷ 18 ∷ 25 ∷ 26 ∷ []
+  printed-3 : theorem3 hasRead nestB 3 1 ≡ 19 ∷ 20 ∷ 21 ∷ 22 ∷ 27 ∷ 28 ∷ 29 ∷ 30 ∷ []
+  wide : widened nestWide 0 1 ≡ 1 ∷ 2 ∷ []
+  readers : readersOf nestWide 1 ≡ 2 ∷ []
+  at-home : boxTileOf nestWide 2 ≡ 0
 
-nest-readers-Later : readersOf nestLater 4 ++ readersOf nestLater 5 ≡ 10 ∷ 11 ∷ []
+reported : Reported
 unfolding _and_ _or_ pick every some keep product tileCount cells rank place cellAt cellPlace tileAt tilePlace boxTileOf inside ahead reaches crosses parcel
     theorem3 staysAhead hasRead widened greatest least readersOf readsOf readAt member
-nest-readers-Later = refl
-
-nest-tile-Later : boxTileOf nestLater 10 ∷ boxTileOf nestLater 11 ∷ [] ≡ 3 ∷ 3 ∷ []
-unfolding _and_ _or_ pick every some keep product tileCount cells rank place cellAt cellPlace tileAt tilePlace boxTileOf inside ahead reaches crosses parcel
-    theorem3 staysAhead hasRead widened greatest least readersOf readsOf readAt member
-nest-tile-Later = refl
+reported =
+    record {
+      readers-Later = refl;
+      tile-Later = refl;
+      message-0 = refl;
+      message-1 = refl;
+      theorem3-2 = refl;
+      theorem3-3 = refl;
+      printed-2 = refl;
+      printed-3 = refl;
+      wide = refl;
+      readers = refl;
+      at-home = refl;
+    }
 
 cellsE : cellsOf nestE 2 ≡ 4 ∷ []
 unfolding cellsOf keep pick product tileCount cells rank place cellPlace tileAt boxTileOf
@@ -219,51 +198,6 @@ unfolding sweepTo cells product value hasRead readAt cellAt cellPlace place rank
 sweepD = refl
 
 -- ---- the report
-
-nest-message-0 : parcel nestB 0 1 ≡ 16 ∷ 17 ∷ 18 ∷ 19 ∷ 24 ∷ 25 ∷ 26 ∷ 27 ∷ []
-unfolding _and_ _or_ pick every some keep product tileCount cells rank place cellAt cellPlace tileAt tilePlace boxTileOf inside ahead reaches crosses parcel
-    theorem3 staysAhead hasRead widened greatest least readersOf readsOf readAt member
-nest-message-0 = refl
-
-nest-message-1 : parcel nestB 1 1 ≡ 20 ∷ 21 ∷ 22 ∷ 28 ∷ 29 ∷ 30 ∷ []
-unfolding _and_ _or_ pick every some keep product tileCount cells rank place cellAt cellPlace tileAt tilePlace boxTileOf inside ahead reaches crosses parcel
-    theorem3 staysAhead hasRead widened greatest least readersOf readsOf readAt member
-nest-message-1 = refl
-
-nest-theorem3-2 : theorem3 staysAhead nestB 2 1 ≡ 16 ∷ 17 ∷ 18 ∷ 24 ∷ 25 ∷ 26 ∷ []
-unfolding _and_ _or_ pick every some keep product tileCount cells rank place cellAt cellPlace tileAt tilePlace boxTileOf inside ahead reaches crosses parcel
-    theorem3 staysAhead hasRead widened greatest least readersOf readsOf readAt member
-nest-theorem3-2 = refl
-
-nest-theorem3-3 : theorem3 staysAhead nestB 3 1 ≡ 19 ∷ 20 ∷ 21 ∷ 22 ∷ 27 ∷ 28 ∷ 29 ∷ 30 ∷ []
-unfolding _and_ _or_ pick every some keep product tileCount cells rank place cellAt cellPlace tileAt tilePlace boxTileOf inside ahead reaches crosses parcel
-    theorem3 staysAhead hasRead widened greatest least readersOf readsOf readAt member
-nest-theorem3-3 = refl
-
-nest-printed-2 : theorem3 hasRead nestB 2 1 ≡ 17 ∷ 18 ∷ 25 ∷ 26 ∷ []
-unfolding _and_ _or_ pick every some keep product tileCount cells rank place cellAt cellPlace tileAt tilePlace boxTileOf inside ahead reaches crosses parcel
-    theorem3 staysAhead hasRead widened greatest least readersOf readsOf readAt member
-nest-printed-2 = refl
-
-nest-printed-3 : theorem3 hasRead nestB 3 1 ≡ 19 ∷ 20 ∷ 21 ∷ 22 ∷ 27 ∷ 28 ∷ 29 ∷ 30 ∷ []
-unfolding _and_ _or_ pick every some keep product tileCount cells rank place cellAt cellPlace tileAt tilePlace boxTileOf inside ahead reaches crosses parcel
-    theorem3 staysAhead hasRead widened greatest least readersOf readsOf readAt member
-nest-printed-3 = refl
-
-nest-wide : widened nestWide 0 1 ≡ 1 ∷ 2 ∷ []
-unfolding _and_ _or_ pick every some keep product tileCount cells rank place cellAt cellPlace tileAt tilePlace boxTileOf inside ahead reaches crosses parcel
-    theorem3 staysAhead hasRead widened greatest least readersOf readsOf readAt member
-nest-wide = refl
-
-nest-readers : readersOf nestWide 1 ≡ 2 ∷ []
-unfolding _and_ _or_ pick every some keep product tileCount cells rank place cellAt cellPlace tileAt tilePlace boxTileOf inside ahead reaches crosses parcel
-    theorem3 staysAhead hasRead widened greatest least readersOf readsOf readAt member
-nest-readers = refl
-
-nest-at-home : boxTileOf nestWide 2 ≡ 0
-unfolding _and_ _or_ pick every some keep product tileCount cells rank place cellAt cellPlace tileAt tilePlace boxTileOf inside ahead reaches crosses parcel
-    theorem3 staysAhead hasRead widened greatest least readersOf readsOf readAt member
-nest-at-home = refl
 
 -- ---- the tables
 
@@ -290,23 +224,23 @@ rows =
       box-E = rw isE boxE;
       sweep-D = rw isD sweepD;
       Later = rowLater-is;
-      lines-Later = rw isLater nestLinesLater;
+      lines-Later = rw isLater (listed .Later);
       held-Later = rw isLater parcel-later;
-      readers-Later = rw isLater nest-readers-Later;
-      tile-Later = rw isLater nest-tile-Later;
+      readers-Later = rw isLater (reported .readers-Later);
+      tile-Later = rw isLater (reported .tile-Later);
     }
 
 pub report-differs : ReportDiffers
 report-differs =
     record {
-      message-0 = rw isB nest-message-0;
-      message-1 = rw isB nest-message-1;
-      theorem3-2 = rw isB nest-theorem3-2;
-      theorem3-3 = rw isB nest-theorem3-3;
-      printed-2 = rw isB nest-printed-2;
-      printed-3 = rw isB nest-printed-3;
+      message-0 = rw isB (reported .message-0);
+      message-1 = rw isB (reported .message-1);
+      theorem3-2 = rw isB (reported .theorem3-2);
+      theorem3-3 = rw isB (reported .theorem3-3);
+      printed-2 = rw isB (reported .printed-2);
+      printed-3 = rw isB (reported .printed-3);
       exact = rw isWide parcel-wide;
-      wide = rw isWide nest-wide;
-      readers = rw isWide nest-readers;
-      at-home = rw isWide nest-at-home;
+      wide = rw isWide (reported .wide);
+      readers = rw isWide (reported .readers);
+      at-home = rw isWide (reported .at-home);
     }

@@ -29,49 +29,34 @@ use Rattle.conformance.specs.ShapedRows.{mail, ones, turns, rowTriangle,
 
 -- ---- the nests
 
-isTriangle : nestOf rowTriangle ≡ nestTriangle
-unfolding ofKind filled nestBy nestOf pick keep those tabulate
-isTriangle = refl
-
 abbrev nestAlone : Nest
 nestAlone = withBound 2 1 1 (2 ∷ 2 ∷ 0 ∷ 0 ∷ []) (1 ∷ 1 ∷ 0 ∷ 0 ∷ []) (1 ∷ 0 ∷ 0 ∷ 0 ∷ [])
     (1 ∷ 1 ∷ replicate 30 0) (1 ∷ replicate 7 0) 2 32768 0
-
-isAlone : nestOf rowAlone ≡ nestAlone
-unfolding ofKind filled nestBy nestOf pick keep those tabulate
-isAlone = refl
 
 abbrev nestSingle : Nest
 nestSingle = withBound 2 1 1 (4 ∷ 4 ∷ 0 ∷ 0 ∷ []) (2 ∷ 2 ∷ 0 ∷ 0 ∷ []) (2 ∷ 0 ∷ 0 ∷ 0 ∷ [])
     (1 ∷ 0 ∷ replicate 30 0) (1 ∷ replicate 7 0) 2 32771 0
 
-isSingle : nestOf rowSingle ≡ nestSingle
-unfolding ofKind filled nestBy nestOf pick keep those tabulate
-isSingle = refl
-
 abbrev nestWhole : Nest
 nestWhole = withBound 2 1 1 (8 ∷ 8 ∷ 0 ∷ 0 ∷ []) (4 ∷ 4 ∷ 0 ∷ 0 ∷ []) (2 ∷ 0 ∷ 0 ∷ 0 ∷ [])
     (2 ∷ 1 ∷ replicate 30 0) (1 ∷ replicate 7 0) 0 32759 0
-
-isWhole : nestOf rowWhole ≡ nestWhole
-unfolding ofKind filled nestBy nestOf pick keep those tabulate
-isWhole = refl
-
-isColumn : nestOf rowColumn ≡ nestColumn
-unfolding ofKind filled nestBy nestOf pick keep those tabulate
-isColumn = refl
-
-isOutside : nestOf rowOutside ≡ nestOutside
-unfolding ofKind filled nestBy nestOf pick keep those tabulate
-isOutside = refl
 
 abbrev nestSlope : Nest
 nestSlope = withBound 2 1 3 (8 ∷ 8 ∷ 0 ∷ 0 ∷ []) (2 ∷ 2 ∷ 0 ∷ 0 ∷ []) (2 ∷ 0 ∷ 0 ∷ 0 ∷ [])
     (1 ∷ 0 ∷ 0 ∷ 0 ∷ 0 ∷ 1 ∷ 0 ∷ 0 ∷ 1 ∷ 1 ∷ replicate 22 0) (1 ∷ 1 ∷ 1 ∷ replicate 5 0) 2 32768 0
 
-isSlope : nestOf rowSlope ≡ nestSlope
+record Read : Type 0 where
+  triangle : nestOf rowTriangle ≡ nestTriangle
+  alone : nestOf rowAlone ≡ nestAlone
+  single : nestOf rowSingle ≡ nestSingle
+  whole : nestOf rowWhole ≡ nestWhole
+  column : nestOf rowColumn ≡ nestColumn
+  outside : nestOf rowOutside ≡ nestOutside
+  slope : nestOf rowSlope ≡ nestSlope
+
+read : Read
 unfolding ofKind filled nestBy nestOf pick keep those tabulate
-isSlope = refl
+read = record { triangle = refl; alone = refl; single = refl; whole = refl; column = refl; outside = refl; slope = refl }
 
 -- ---- their numbers
 
@@ -99,29 +84,17 @@ numberWhole = ap (λ (l : List ℕ). getD l 3 0) numbers
 
 -- ---- figures, messages and words
 
-figuresTriangle : figuresIf 0 (planOf Direct nestTriangle) ≡ accepted 3 1 1 8
-unfolding figuresIf offset _and_ _or_ pick every some keep product rank place cellAt cellPlace tileAt tilePlace boxTileOf tileCount cells boxTiles level
-    raised meets inShape exists existing tiles inside directions ahead reaches processorOf boxTile reachesShape shapedParcel taker follows shapedTaker
-    shapedSlotTaker shapedHome shapedSlotParcel messagesOf
-figuresTriangle = refl
+record Counted : Type 0 where
+  triangle : figuresIf 0 (planOf Direct nestTriangle) ≡ accepted 3 1 1 8
+  alone : figuresIf 0 (planOf Direct nestAlone) ≡ accepted 3 0 0 6
+  single : figuresIf 0 (planOf Direct nestSingle) ≡ accepted 1 0 0 2
+  whole : figuresIf 0 (planOf Direct nestWhole) ≡ accepted 4 2 14 12
 
-figuresAlone : figuresIf 0 (planOf Direct nestAlone) ≡ accepted 3 0 0 6
+counted : Counted
 unfolding figuresIf offset _and_ _or_ pick every some keep product rank place cellAt cellPlace tileAt tilePlace boxTileOf tileCount cells boxTiles level
     raised meets inShape exists existing tiles inside directions ahead reaches processorOf boxTile reachesShape shapedParcel taker follows shapedTaker
     shapedSlotTaker shapedHome shapedSlotParcel messagesOf
-figuresAlone = refl
-
-figuresSingle : figuresIf 0 (planOf Direct nestSingle) ≡ accepted 1 0 0 2
-unfolding figuresIf offset _and_ _or_ pick every some keep product rank place cellAt cellPlace tileAt tilePlace boxTileOf tileCount cells boxTiles level
-    raised meets inShape exists existing tiles inside directions ahead reaches processorOf boxTile reachesShape shapedParcel taker follows shapedTaker
-    shapedSlotTaker shapedHome shapedSlotParcel messagesOf
-figuresSingle = refl
-
-figuresWhole : figuresIf 0 (planOf Direct nestWhole) ≡ accepted 4 2 14 12
-unfolding figuresIf offset _and_ _or_ pick every some keep product rank place cellAt cellPlace tileAt tilePlace boxTileOf tileCount cells boxTiles level
-    raised meets inShape exists existing tiles inside directions ahead reaches processorOf boxTile reachesShape shapedParcel taker follows shapedTaker
-    shapedSlotTaker shapedHome shapedSlotParcel messagesOf
-figuresWhole = refl
+counted = record { triangle = refl; alone = refl; single = refl; whole = refl }
 
 messagesSlope : planOf Direct nestSlope .messages ≡ mail 0 4 (9 ∷ []) ∷ mail 1 4 (10 ∷ 11 ∷ []) ∷ mail 2 5 (12 ∷ 13 ∷ []) ∷ mail 3 6 (14 ∷ 15 ∷ [])
     ∷ mail 4 7 (27 ∷ [])
@@ -178,20 +151,20 @@ readersColumn = refl
 pub shaped-rows : ShapedRows
 shaped-rows =
     record {
-      triangle = rw (numberTriangle, isTriangle) figuresTriangle;
-      triangle-tiles = rw isTriangle tilesTriangle;
-      triangle-messages = rw isTriangle messagesTriangle;
-      triangle-sweep = rw isTriangle sweepTriangle;
-      triangle-run = rw isTriangle runTriangle;
-      triangle-grid = rw isTriangle gridTriangle;
-      alone = rw (numberAlone, isAlone) figuresAlone;
-      single = rw (numberSingle, isSingle) figuresSingle;
-      single-tile = rw isSingle tilesSingle;
-      whole = rw (numberWhole, isWhole) figuresWhole;
-      column = rw isColumn messagesColumn;
-      column-dues = rw isColumn duesColumn;
-      column-reader = rw isColumn readersColumn;
-      column-tile = rw isColumn tileColumn;
-      outside = rw isOutside messagesOutside;
-      slope = rw isSlope messagesSlope;
+      triangle = rw (numberTriangle, read .triangle) (counted .triangle);
+      triangle-tiles = rw (read .triangle) tilesTriangle;
+      triangle-messages = rw (read .triangle) messagesTriangle;
+      triangle-sweep = rw (read .triangle) sweepTriangle;
+      triangle-run = rw (read .triangle) runTriangle;
+      triangle-grid = rw (read .triangle) gridTriangle;
+      alone = rw (numberAlone, read .alone) (counted .alone);
+      single = rw (numberSingle, read .single) (counted .single);
+      single-tile = rw (read .single) tilesSingle;
+      whole = rw (numberWhole, read .whole) (counted .whole);
+      column = rw (read .column) messagesColumn;
+      column-dues = rw (read .column) duesColumn;
+      column-reader = rw (read .column) readersColumn;
+      column-tile = rw (read .column) tileColumn;
+      outside = rw (read .outside) messagesOutside;
+      slope = rw (read .slope) messagesSlope;
     }

@@ -18,63 +18,74 @@ use Rattle.plan.specs.Hops.{hopsAlong, hops}
 use Rattle.conformance.specs.Rows.{rowSix, rowLine, rowTwice, rowMiddle, accepted, figures, figuresIf, messageLine, linesTo, SingleCounts}
 use Rattle.conformance.proofs.RowNests.{nestSix, nestLine, nestTwice, nestMiddle, isSix, isLine, isTwice, isMiddle}
 
--- ---- row Six
+-- ---- numbers and figures of all rows
 
-numberSix : firstOf (readLines rowSix) ≡ 0
+record Numbered : Type 0 where
+  six : firstOf (readLines rowSix) ≡ 0
+  line : firstOf (readLines rowLine) ≡ 0
+  twice : firstOf (readLines rowTwice) ≡ 0
+  middle : firstOf (readLines rowMiddle) ≡ 0
+
+numbered : Numbered
 unfolding firstOf _and_ _or_ not pick every some keep those tabulate product tileCount cells boxTiles processors ofKind filled nestBy nestOf ragged blank
     checked mayStand fitsAt wellFormed strayRecord outside badLength tooLarge needlesslyWide same beyond faulty badDistance reached badTile badSpread
     lastSpread badProcessors
-numberSix = quick rowSix ∙ refl
+numbered = record { six = quick rowSix ∙ refl; line = quick rowLine ∙ refl; twice = quick rowTwice ∙ refl; middle = quick rowMiddle ∙ refl }
 
-figuresSix : figuresIf 0 (boxPlan Direct nestSix) ≡ accepted 18 25 25 86
+record Counted : Type 0 where
+  six : figuresIf 0 (boxPlan Direct nestSix) ≡ accepted 18 25 25 86
+  line : figuresIf 0 (boxPlan Direct nestLine) ≡ accepted 4 1 4 10
+  twice : figuresIf 0 (boxPlan Direct nestTwice) ≡ accepted 4 3 5 14
+  middle : figuresIf 0 (boxPlan Direct nestMiddle) ≡ accepted 8 1 1 18
+
+counted : Counted
 unfolding figuresIf offset _and_ _or_ pick every some keep product tileCount cells boxTiles rank place cellAt cellPlace tileAt tilePlace boxTileOf inside
     directions ahead reaches crosses parcel taker slotCells slotTaker atHome slotParcel messagesTo processorOf
-figuresSix = refl
+counted = record { six = refl; line = refl; twice = refl; middle = refl }
+
+record Indirectly : Type 0 where
+  six : figuresIf 0 (boxPlan Indirect nestSix) ≡ accepted 18 15 25 66
+  line : figuresIf 0 (boxPlan Indirect nestLine) ≡ accepted 4 1 4 10
+  twice : figuresIf 0 (boxPlan Indirect nestTwice) ≡ accepted 4 2 4 12
+  middle : figuresIf 0 (boxPlan Indirect nestMiddle) ≡ accepted 8 2 2 20
+
+indirectly : Indirectly
+unfolding figuresIf offset _and_ _or_ pick every some keep product tileCount cells boxTiles rank place cellAt cellPlace tileAt tilePlace boxTileOf inside
+    directions ahead reaches crosses before hasOrigin origin passes passed neighbour one slotCells slotTaker atHome slotParcel messagesTo processorOf
+indirectly = record { six = refl; line = refl; twice = refl; middle = refl }
+
+-- ---- row Six
 
 six : figures Direct rowSix ≡ accepted 18 25 25 86
 unfolding figures
-six = rw (numberSix, isSix) figuresSix
-
-figuresSix-indirect : figuresIf 0 (boxPlan Indirect nestSix) ≡ accepted 18 15 25 66
-unfolding figuresIf offset _and_ _or_ pick every some keep product tileCount cells boxTiles rank place cellAt cellPlace tileAt tilePlace boxTileOf inside
-    directions ahead reaches crosses before hasOrigin origin passes passed neighbour one slotCells slotTaker atHome slotParcel messagesTo processorOf
-figuresSix-indirect = refl
+six = rw (numbered .six, isSix) (counted .six)
 
 six-indirect : figures Indirect rowSix ≡ accepted 18 15 25 66
 unfolding figures
-six-indirect = rw (numberSix, isSix) figuresSix-indirect
+six-indirect = rw (numbered .six, isSix) (indirectly .six)
 
 -- ---- row Line
 
-numberLine : firstOf (readLines rowLine) ≡ 0
-unfolding firstOf _and_ _or_ not pick every some keep those tabulate product tileCount cells boxTiles processors ofKind filled nestBy nestOf ragged blank
-    checked mayStand fitsAt wellFormed strayRecord outside badLength tooLarge needlesslyWide same beyond faulty badDistance reached badTile badSpread
-    lastSpread badProcessors
-numberLine = quick rowLine ∙ refl
-
-figuresLine : figuresIf 0 (boxPlan Direct nestLine) ≡ accepted 4 1 4 10
-unfolding figuresIf offset _and_ _or_ pick every some keep product tileCount cells boxTiles rank place cellAt cellPlace tileAt tilePlace boxTileOf inside
-    directions ahead reaches crosses parcel taker slotCells slotTaker atHome slotParcel messagesTo processorOf
-figuresLine = refl
-
 line : figures Direct rowLine ≡ accepted 4 1 4 10
 unfolding figures
-line = rw (numberLine, isLine) figuresLine
-
-figuresLine-indirect : figuresIf 0 (boxPlan Indirect nestLine) ≡ accepted 4 1 4 10
-unfolding figuresIf offset _and_ _or_ pick every some keep product tileCount cells boxTiles rank place cellAt cellPlace tileAt tilePlace boxTileOf inside
-    directions ahead reaches crosses before hasOrigin origin passes passed neighbour one slotCells slotTaker atHome slotParcel messagesTo processorOf
-figuresLine-indirect = refl
+line = rw (numbered .line, isLine) (counted .line)
 
 line-indirect : figures Indirect rowLine ≡ accepted 4 1 4 10
 unfolding figures
-line-indirect = rw (numberLine, isLine) figuresLine-indirect
+line-indirect = rw (numbered .line, isLine) (indirectly .line)
 
-linesLine : linesTo (boxPlan Direct nestLine) (count (boxPlan Direct nestLine))
-    ≡ (0 ∷ 0 ∷ 3 ∷ 0 ∷ 1 ∷ 4 ∷ []) ∷ []
+record Listed : Type 0 where
+  line : linesTo (boxPlan Direct nestLine) (count (boxPlan Direct nestLine))
+      ≡ (0 ∷ 0 ∷ 3 ∷ 0 ∷ 1 ∷ 4 ∷ []) ∷ []
+  twice : linesTo (boxPlan Direct nestTwice) (count (boxPlan Direct nestTwice))
+      ≡ (0 ∷ 0 ∷ 2 ∷ 0 ∷ 1 ∷ 2 ∷ []) ∷ (1 ∷ 0 ∷ 3 ∷ 0 ∷ 1 ∷ 1 ∷ []) ∷ (2 ∷ 1 ∷ 3 ∷ 0 ∷ 1 ∷ 2 ∷ []) ∷ []
+  middle : linesTo (boxPlan Direct nestMiddle) (count (boxPlan Direct nestMiddle))
+      ≡ (0 ∷ 0 ∷ 7 ∷ 0 ∷ 3 ∷ 1 ∷ []) ∷ []
+
+listed : Listed
 unfolding linesTo messageLine _and_ _or_ pick every some keep product tileCount cells boxTiles rank place cellAt cellPlace tileAt tilePlace boxTileOf inside
     directions ahead reaches crosses parcel taker slotCells slotTaker atHome slotParcel messagesTo processorOf
-linesLine = refl
+listed = record { line = refl; twice = refl; middle = refl }
 
 linesLine-indirect : linesTo (boxPlan Indirect nestLine) (count (boxPlan Indirect nestLine))
     ≡ (0 ∷ 2 ∷ 3 ∷ 0 ∷ 1 ∷ 4 ∷ []) ∷ []
@@ -88,35 +99,13 @@ hopsLine = refl
 
 -- ---- row Twice
 
-numberTwice : firstOf (readLines rowTwice) ≡ 0
-unfolding firstOf _and_ _or_ not pick every some keep those tabulate product tileCount cells boxTiles processors ofKind filled nestBy nestOf ragged blank
-    checked mayStand fitsAt wellFormed strayRecord outside badLength tooLarge needlesslyWide same beyond faulty badDistance reached badTile badSpread
-    lastSpread badProcessors
-numberTwice = quick rowTwice ∙ refl
-
-figuresTwice : figuresIf 0 (boxPlan Direct nestTwice) ≡ accepted 4 3 5 14
-unfolding figuresIf offset _and_ _or_ pick every some keep product tileCount cells boxTiles rank place cellAt cellPlace tileAt tilePlace boxTileOf inside
-    directions ahead reaches crosses parcel taker slotCells slotTaker atHome slotParcel messagesTo processorOf
-figuresTwice = refl
-
 twice : figures Direct rowTwice ≡ accepted 4 3 5 14
 unfolding figures
-twice = rw (numberTwice, isTwice) figuresTwice
-
-figuresTwice-indirect : figuresIf 0 (boxPlan Indirect nestTwice) ≡ accepted 4 2 4 12
-unfolding figuresIf offset _and_ _or_ pick every some keep product tileCount cells boxTiles rank place cellAt cellPlace tileAt tilePlace boxTileOf inside
-    directions ahead reaches crosses before hasOrigin origin passes passed neighbour one slotCells slotTaker atHome slotParcel messagesTo processorOf
-figuresTwice-indirect = refl
+twice = rw (numbered .twice, isTwice) (counted .twice)
 
 twice-indirect : figures Indirect rowTwice ≡ accepted 4 2 4 12
 unfolding figures
-twice-indirect = rw (numberTwice, isTwice) figuresTwice-indirect
-
-linesTwice : linesTo (boxPlan Direct nestTwice) (count (boxPlan Direct nestTwice))
-    ≡ (0 ∷ 0 ∷ 2 ∷ 0 ∷ 1 ∷ 2 ∷ []) ∷ (1 ∷ 0 ∷ 3 ∷ 0 ∷ 1 ∷ 1 ∷ []) ∷ (2 ∷ 1 ∷ 3 ∷ 0 ∷ 1 ∷ 2 ∷ []) ∷ []
-unfolding linesTo messageLine _and_ _or_ pick every some keep product tileCount cells boxTiles rank place cellAt cellPlace tileAt tilePlace boxTileOf inside
-    directions ahead reaches crosses parcel taker slotCells slotTaker atHome slotParcel messagesTo processorOf
-linesTwice = refl
+twice-indirect = rw (numbered .twice, isTwice) (indirectly .twice)
 
 heldTwice : parcel nestTwice 0 2 ∷ parcel nestTwice 0 3 ∷ [] ≡ (4 ∷ 5 ∷ []) ∷ (5 ∷ []) ∷ []
 unfolding _and_ _or_ pick every some keep product tileCount cells rank place cellAt cellPlace tileAt tilePlace boxTileOf inside ahead reaches crosses parcel
@@ -124,35 +113,13 @@ heldTwice = refl
 
 -- ---- row Middle
 
-numberMiddle : firstOf (readLines rowMiddle) ≡ 0
-unfolding firstOf _and_ _or_ not pick every some keep those tabulate product tileCount cells boxTiles processors ofKind filled nestBy nestOf ragged blank
-    checked mayStand fitsAt wellFormed strayRecord outside badLength tooLarge needlesslyWide same beyond faulty badDistance reached badTile badSpread
-    lastSpread badProcessors
-numberMiddle = quick rowMiddle ∙ refl
-
-figuresMiddle : figuresIf 0 (boxPlan Direct nestMiddle) ≡ accepted 8 1 1 18
-unfolding figuresIf offset _and_ _or_ pick every some keep product tileCount cells boxTiles rank place cellAt cellPlace tileAt tilePlace boxTileOf inside
-    directions ahead reaches crosses parcel taker slotCells slotTaker atHome slotParcel messagesTo processorOf
-figuresMiddle = refl
-
 middle : figures Direct rowMiddle ≡ accepted 8 1 1 18
 unfolding figures
-middle = rw (numberMiddle, isMiddle) figuresMiddle
-
-figuresMiddle-indirect : figuresIf 0 (boxPlan Indirect nestMiddle) ≡ accepted 8 2 2 20
-unfolding figuresIf offset _and_ _or_ pick every some keep product tileCount cells boxTiles rank place cellAt cellPlace tileAt tilePlace boxTileOf inside
-    directions ahead reaches crosses before hasOrigin origin passes passed neighbour one slotCells slotTaker atHome slotParcel messagesTo processorOf
-figuresMiddle-indirect = refl
+middle = rw (numbered .middle, isMiddle) (counted .middle)
 
 middle-indirect : figures Indirect rowMiddle ≡ accepted 8 2 2 20
 unfolding figures
-middle-indirect = rw (numberMiddle, isMiddle) figuresMiddle-indirect
-
-linesMiddle : linesTo (boxPlan Direct nestMiddle) (count (boxPlan Direct nestMiddle))
-    ≡ (0 ∷ 0 ∷ 7 ∷ 0 ∷ 3 ∷ 1 ∷ []) ∷ []
-unfolding linesTo messageLine _and_ _or_ pick every some keep product tileCount cells boxTiles rank place cellAt cellPlace tileAt tilePlace boxTileOf inside
-    directions ahead reaches crosses parcel taker slotCells slotTaker atHome slotParcel messagesTo processorOf
-linesMiddle = refl
+middle-indirect = rw (numbered .middle, isMiddle) (indirectly .middle)
 
 linesMiddle-indirect : linesTo (boxPlan Indirect nestMiddle) (count (boxPlan Indirect nestMiddle))
     ≡ (0 ∷ 0 ∷ 4 ∷ 0 ∷ 2 ∷ 1 ∷ []) ∷ (1 ∷ 6 ∷ 7 ∷ 2 ∷ 3 ∷ 1 ∷ []) ∷ []
@@ -173,16 +140,16 @@ single-counts =
       six-indirect = six-indirect;
       line = line;
       line-indirect = line-indirect;
-      lines-line = rw isLine linesLine;
+      lines-line = rw isLine (listed .line);
       lines-line-indirect = rw isLine linesLine-indirect;
       hops-line = rw isLine hopsLine;
       twice = twice;
       twice-indirect = twice-indirect;
-      lines-twice = rw isTwice linesTwice;
+      lines-twice = rw isTwice (listed .twice);
       held-twice = rw isTwice heldTwice;
       middle = middle;
       middle-indirect = middle-indirect;
-      lines-middle = rw isMiddle linesMiddle;
+      lines-middle = rw isMiddle (listed .middle);
       lines-middle-indirect = rw isMiddle linesMiddle-indirect;
       hops-middle = rw isMiddle hopsMiddle;
     }
