@@ -33,11 +33,20 @@ use Rattle.transport.specs.declared.Waiting.{Waiting}
 use Rattle.transport.specs.Calls.{messagesCall, ownersCall, waitsOf, awaitedCall, takeInCall}
 use Rattle.part_calls.specs.declared.AreaLengths.{AreaLengths}
 use Rattle.part_calls.specs.front.Calls.{ownSizesCall, ownMessagesCall, ownFreshCall, ownTurnCall, ownPostCall, ownArriveCall, ownCollectCall}
+use Rattle.packets.specs.declared.chunks.Taken.{Taken}
+use Rattle.packets.specs.Fingerprint.{fingerprintOf}
+use Rattle.packets.specs.Calls as packets
+use Rattle.packets.specs.Cut.{Chunk, assembly, takingOf, takeChunkCall}
+use Rattle.wire.specs.declared.Written.{Written}
+use Rattle.wire.specs.declared.PacketLine.{PacketLine}
+use Rattle.wire.specs.declared.inbox.Received.{Received}
+use Rattle.wire.specs.Wire.{Label, letterOf, packetCall, lineFrom, sendCall, Inbox, receivedAs, receiveCall}
 use Rattle.chart.specs.declared.Told.{Told as Text}
 use Rattle.chart.specs.Call as chart
 use Rattle.chart.specs.Call.{lengthCall, written}
 use Rattle.calls.specs.declared.tenant.Viewed.{Viewed}
 use Rattle.calls.specs.declared.hour.NextOpening.{NextOpening}
+use Rattle.calls.specs.declared.mail.Fingerprint.{Fingerprint}
 use Rattle.calls.specs.View.{viewOf}
 use Rattle.calls.specs.Opens.{opensOf}
 
@@ -186,6 +195,34 @@ AwaitedGave bytes route records status p old w marks =
 -- message m with these words, taken in by processor p
 abbrev pub TakeInGave : List ℕ → ℕ → List ℕ → Areas → ℕ → ℕ → List ℕ → ℕ → Areas → Type 0
 TakeInGave bytes route source a p m words n b = answer n (inWords b) ≡ takeInCall bytes route source (inWords a) p m words
+
+-- ---- src/mail.rt: packets, and messages as packets
+
+abbrev pub FingerprintGave : List ℕ → ℕ → Fingerprint → Type 0
+FingerprintGave bytes route told = told ≡ record { number = 0; fingerprint = fingerprintOf bytes route }
+
+-- chunk k of these words, into a space that was `old`
+abbrev pub PacketGave : Label → List ℕ → ℕ → List ℕ → Written → List ℕ → Type 0
+PacketGave l words k old w space = answer (w .number) (letterOf (w .length) space) ≡ packetCall l words k old
+
+-- what bytes say for this fingerprint and run, and their words, which were `old`
+abbrev pub PacketReadGave : ℕ → ℕ → List ℕ → List ℕ → PacketLine → List ℕ → Type 0
+PacketReadGave f run packet old line words =
+    (line ≡ lineFrom (packets.readCall f run packet old)) × (words ≡ packets.readCall f run packet old .words)
+
+-- a chunk put to what came of its item, which was `old` with this mask
+abbrev pub ChunkGave : Chunk → List ℕ → ℕ → Taken → List ℕ → Type 0
+ChunkGave c old mask t area = takingOf t area ≡ takeChunkCall c (assembly old mask)
+
+-- chunk k of message m, sent by processor p
+abbrev pub SendGave : List ℕ → ℕ → ℕ → ℕ → List ℕ → List ℕ → ℕ → ℕ → ℕ → List ℕ → Written → List ℕ → Type 0
+SendGave bytes route run life buffer status p m k old w space =
+    answer (w .number) (letterOf (w .length) space) ≡ sendCall bytes route run life buffer status p m k old
+
+-- bytes as they came for processor p, with what came so far
+abbrev pub ReceiveGave : List ℕ → ℕ → ℕ → List ℕ → Areas → ℕ → List ℕ → Inbox → Received → Inbox → Areas → Type 0
+ReceiveGave bytes route run source a p packet i r j b =
+    answer (r .number) (receivedAs (r .whole) (r .message) j (inWords b)) ≡ receiveCall bytes route run source (inWords a) p packet i
 
 -- ---- src/chart_text.rt: for the charting desk
 

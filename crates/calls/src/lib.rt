@@ -19,6 +19,7 @@ pub mod hour; // hour.rt: with hours when processors may run
 pub mod round; // round.rt: the driver by rounds
 pub mod carrier; // carrier.rt: what a transport asks where processors share no memory
 pub mod board; // board.rt: for one processor that is lent its own part alone
+pub mod mail; // mail.rt: packets, and messages as packets
 
 // One turn of a processor.
 #[no_mangle]

@@ -6,20 +6,20 @@ ghost use lib.Bits.{bitOr};
 ghost use Rattle.base.specs.Tests.{one};
 ghost use Rattle.base.specs.Numbers.{firstOf};
 ghost use Rattle.packets.specs.Cut.{chunksOf, chunkLength, chunkOf, assembly, there, complete, placed, takeLines, takingOf, takeChunkCall};
+use crate::MOST_WORDS;
 use base::copy_part;
 use base::least;
 use base::word_index;
 
 // What became of a chunk: a number, 1 where the message is whole now, and the mask of chunks that are there. At a refusal the mask is as it was.
+#[repr(C)]
 pub struct Taken {
     pub number: u32,
     pub whole: u32,
     pub mask: u64,
 }
 
-const MOST_WORDS: usize = 285; // of a packet
-
-const MOST_AREA: usize = 18240; // 64 chunks, as many as a mask has bits
+pub const MOST_AREA: usize = 18240; // 64 chunks, as many as a mask has bits
 
 // How many chunks so many words have.
 pub fn chunks_of(words: usize) -> usize
@@ -78,7 +78,7 @@ fn flag(test: bool) -> u32
 }
 
 // The first true line, for an area of so many words.
-fn number_of(chunk: u32, chunks: u32, words: &[u32], area: usize) -> u32
+pub fn number_of(chunk: u32, chunks: u32, words: &[u32], area: usize) -> u32
     ensures { λ r. ⌜ r ≡ firstOf (takeLines (chunkOf chunk chunks (now (words .entry))) area) ⌝ }
 {
     if MOST_AREA < area {

@@ -41,7 +41,9 @@ pub struct Reading {
 
 const MAGIC: u32 = 0x31505752; // the bytes "RWP1"
 
-const MOST_WORDS: usize = 285; // of one packet, so that 32 bytes of 1,232 are left for a key's tag behind it
+pub const MOST_WORDS: usize = 285; // of one packet, so that 32 bytes of 1,232 are left for a key's tag behind it
+
+pub const LONGEST: usize = 1200; // bytes of a packet with so many words
 
 const WORDS_AT: usize = 56; // behind fourteen header words
 

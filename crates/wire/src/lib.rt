@@ -1,34 +1,187 @@
-// Between the areas of a run and the wire: a chunk of a message out of its sender's buffer as a packet, and bytes as they came taken in at its taker's.
-// specs/Wire.antt says what the calls answer.
+// Between the areas of a run and the wire: a chunk of an item, or of a message out of its sender's buffer, as a packet; what a packet says; and, in inbox.rt,
+// bytes as they came taken in at a message's taker's. specs/Wire.antt says what the calls answer.
 ghost use mathlib.Core.Path.{_≡_};
 ghost use mathlib.Core.List.{[], _∷_};
+ghost use Prim.Native.Nat.{_≤_};
 ghost use lib.ListN.{length};
-ghost use Rattle.base.specs.Tests.{not};
-ghost use Rattle.base.specs.Numbers.{line, firstOf};
-ghost use Rattle.machine.specs.Machine.{stateOf};
+ghost use Rattle.base.specs.Numbers.{firstOf};
+ghost use Rattle.machine.specs.Plan.{words};
 ghost use Rattle.plan.specs.Shaped.{planOf};
 ghost use Rattle.engine.specs.Calls.{answer};
 ghost use Rattle.tables.specs.Tables.{Planned};
-ghost use Rattle.packets.specs.Cut.{assembly};
-ghost use Rattle.wire.specs.Wire.{sentOr, sendCall, ofMessage, OpenedAs, receivedOf, receiveCall};
+ghost use Rattle.packets.specs.Packet.{encodePacket};
+ghost use Rattle.packets.specs.Calls.{readCall};
+ghost use Rattle.wire.specs.Wire.{label, letter, letterOf, packetCall, lineFrom, sendLines, sentOr, sendCall};
+
+pub mod inbox; // inbox.rt: bytes as they came, at a message's taker's
+
 use base::word_index;
 use layout::Sizes;
 use nest::Nest;
 use packets::Header;
-use packets::chunks::Taken;
+use packets::LONGEST;
+use packets::MOST_WORDS;
+use packets::chunks::MOST_AREA;
 use packets::chunks::chunk_length;
 use packets::chunks::chunks_of;
-use packets::chunks::take_chunk;
 use recipe::open;
 use summary::line_at;
 use tables::nth;
 use tables::totals;
 
-const MESSAGE: u32 = 1; // a packet's kind
+pub const MESSAGE: u32 = 1; // a packet's kind
 
-const MOST_WORDS: usize = 285; // of a packet
+// What was written: a number, and how many bytes the packet has.
+#[repr(C)]
+pub struct Written {
+    pub number: u32,
+    pub length: u32,
+}
 
-// ---- sending
+// What a packet says beside recipe, route and run, which were asked for, and how many words it brings. Zeros at a refusal.
+#[repr(C)]
+pub struct PacketLine {
+    pub number: u32,
+    pub kind: u32,
+    pub sender: u32,
+    pub taker: u32,
+    pub item: u32,
+    pub chunk: u32,
+    pub chunks: u32,
+    pub count: u32,
+    pub life: u64,
+}
+
+// ---- any item
+
+fn unwritten(number: u32) -> Written
+    ensures { λ r. ⌜ (r .number ≡ number) × (r .length ≡ 0) ⌝ }
+{
+    Written { number, length: 0 }
+}
+
+// A packet into the first bytes of a space that is long enough for every packet.
+fn put_packet(header: Header, words: &[u32], space: &mut [u8]) -> u32
+    requires { ⌜ (length (now words) ≤ 285) × (length (now space) ≡ 1200) ⌝ }
+    ensures { λ r. ⌜ letterOf r (now (space .exit)) ≡ letter (encodePacket header (now (words .entry))) (now (space .entry)) ⌝ }
+{
+    let end = 60 + 4 * words.len();
+    packets::write(header, words, &mut space[0..end]);
+    end as u32
+}
+
+// A chunk of an item's words as a packet.
+pub fn packet(
+    fingerprint: u64,
+    run: u64,
+    life: u64,
+    kind: u32,
+    sender: u32,
+    taker: u32,
+    item: u32,
+    chunk: u32,
+    words: &[u32],
+    space: &mut [u8],
+) -> Written
+    ensures { λ r. ⌜ answer (r .number) (letterOf (r .length) (now (space .exit)))
+        ≡ packetCall (label fingerprint run life kind sender taker item) (now (words .entry)) chunk (now (space .entry)) ⌝ }
+{
+    if space.len() != LONGEST {
+        return unwritten(9);
+    }
+    let n = words.len();
+    if MOST_AREA < n {
+        return unwritten(9);
+    }
+    let chunks = chunks_of(n);
+    let k = word_index(chunk);
+    if k >= chunks {
+        return unwritten(11);
+    }
+    let at = k * MOST_WORDS;
+    let end = at + chunk_length(n, chunk);
+    let length = put_packet(
+        Header {
+            fingerprint,
+            run,
+            life,
+            kind,
+            sender,
+            taker,
+            item,
+            chunk,
+            chunks: chunks as u32,
+        },
+        &words[at..end],
+        space,
+    );
+    Written { number: 0, length }
+}
+
+// What bytes say that came, whatever they are; their words are written at 0 alone.
+pub fn packet_read(fingerprint: u64, run: u64, packet: &[u8], words: &mut [u32]) -> PacketLine
+    ensures { λ r. ⌜ (r ≡ lineFrom (readCall fingerprint run (now (packet .entry)) (now (words .entry))))
+        × (now (words .exit) ≡ readCall fingerprint run (now (packet .entry)) (now (words .entry)) .words) ⌝ }
+{
+    let reading = packets::read(fingerprint, run, packet, words);
+    let header = reading.header;
+    PacketLine {
+        number: reading.number,
+        kind: header.kind,
+        sender: header.sender,
+        taker: header.taker,
+        item: header.item,
+        chunk: header.chunk,
+        chunks: header.chunks,
+        count: reading.count,
+        life: header.life,
+    }
+}
+
+// ---- a message
+
+// The first true line of sending, past the recipe's; of buffer and space the lengths alone.
+fn unsendable(
+    nest: Nest,
+    sizes: Sizes,
+    lens: &[u16; 9217],
+    buffer: usize,
+    status: &[u8],
+    processor: u32,
+    message: u32,
+    chunk: u32,
+    space: usize,
+) -> u32
+    requires { ⌜ Planned nest sizes (now lens) ⌝ }
+    ensures { λ r. ⌜ r ≡ firstOf (sendLines (planOf (sizes .route) nest) buffer (now (status .entry)) processor message chunk space) ⌝ }
+{
+    let t = totals(nest, sizes, lens);
+    if buffer != t.words {
+        return 9;
+    }
+    if status.len() != t.messages {
+        return 9;
+    }
+    if space != LONGEST {
+        return 9;
+    }
+    let m = word_index(message);
+    if m >= t.messages {
+        return 11;
+    }
+    let place = nth(nest, sizes, lens, m);
+    let line = line_at(nest, sizes, lens, place);
+    if line.from != processor {
+        return 11;
+    }
+    if word_index(chunk) >= chunks_of(place.words) {
+        return 11;
+    }
+    if status[m] < 2 {
+        return 14;
+    }
+    0
+}
 
 // Past the recipe's lines.
 fn send_message(
@@ -39,68 +192,71 @@ fn send_message(
     run: u64,
     life: u64,
     buffer: &[u32],
+    status: &[u8],
+    processor: u32,
     message: u32,
     chunk: u32,
     space: &mut [u8],
-) -> u32
+) -> Written
     requires { ⌜ Planned nest sizes (now lens) ⌝ }
-    ensures { λ r. ⌜ answer r (now (space .exit))
-        ≡ sentOr (planOf (sizes .route) nest) fingerprint run life (now (buffer .entry)) message chunk (now (space .entry)) ⌝ }
+    ensures { λ r. ⌜ answer (r .number) (letterOf (r .length) (now (space .exit)))
+        ≡ sentOr (planOf (sizes .route) nest) fingerprint run life (now (buffer .entry)) (now (status .entry)) processor message chunk
+        (now (space .entry)) ⌝ }
 {
-    let t = totals(nest, sizes, lens);
-    if buffer.len() != t.words {
-        return 9;
+    let number = unsendable(
+        nest,
+        sizes,
+        lens,
+        buffer.len(),
+        status,
+        processor,
+        message,
+        chunk,
+        space.len(),
+    );
+    if number != 0 {
+        return unwritten(number);
     }
-    let m = word_index(message);
-    if m >= t.messages {
-        return 11;
-    }
-    let place = nth(nest, sizes, lens, m);
-    let n = place.words;
-    let chunks = chunks_of(n);
-    let k = word_index(chunk);
-    if k >= chunks {
-        return 11;
-    }
+    let place = nth(nest, sizes, lens, word_index(message));
     let line = line_at(nest, sizes, lens, place);
-    let at = place.offset + k * MOST_WORDS;
-    let end = at + chunk_length(n, chunk);
-    packets::write(
-        Header {
-            fingerprint,
-            run,
-            life,
-            kind: MESSAGE,
-            sender: line.from,
-            taker: line.to,
-            item: message,
-            chunk,
-            chunks: chunks as u32,
-        },
+    let at = place.offset;
+    let end = at + place.words;
+    packet(
+        fingerprint,
+        run,
+        life,
+        MESSAGE,
+        line.from,
+        line.to,
+        message,
+        chunk,
         &buffer[at..end],
         space,
     )
 }
 
-// A chunk of a message, out of its sender's buffer, as a packet of this run and this life.
+// A chunk of a message that this processor has posted, out of its buffer, as a packet of this run and this life: the first time and whenever it is posted
+// again.
 pub fn send(
     encoded: &[u8],
     route: u32,
     run: u64,
     life: u64,
     buffer: &[u32],
+    status: &[u8],
+    processor: u32,
     message: u32,
     chunk: u32,
     space: &mut [u8],
-) -> u32
-    ensures { λ r. ⌜ answer r (now (space .exit))
-        ≡ sendCall (now (encoded .entry)) route run life (now (buffer .entry)) message chunk (now (space .entry)) ⌝ }
+) -> Written
+    ensures { λ r. ⌜ answer (r .number) (letterOf (r .length) (now (space .exit)))
+        ≡ sendCall (now (encoded .entry)) route run life (now (buffer .entry)) (now (status .entry)) processor message chunk (now (space .entry)) ⌝ }
 {
     let mut lens = [0u16; 9217];
     let opening = open(encoded, route, &mut lens);
     let number = opening.number;
     if number != 0 {
-        return number;
+        return unwritten(number);
     }
     let nest = opening.nest;
     let sizes = opening.sizes;
@@ -113,112 +269,10 @@ pub fn send(
         run,
         life,
         buffer,
+        status,
+        processor,
         message,
         chunk,
         space,
     )
-}
-
-// ---- receiving
-
-struct Opened {
-    number: u32,
-    chunk: u32,
-    chunks: u32,
-    count: u32,
-}
-
-// Whether a packet is of this message.
-fn of_message(kind: u32, item: u32, message: u32) -> u32
-    ensures { λ r. ⌜ r ≡ firstOf (line 11 (not (ofMessage kind item message)) ∷ []) ⌝ }
-{
-    if kind != MESSAGE {
-        return 11;
-    }
-    if item != message {
-        return 11;
-    }
-    0
-}
-
-// The packet's number for this message, and where that is 0 its chunk and its words.
-fn open_packet(fingerprint: u64, run: u64, message: u32, packet: &[u8], words: &mut [u32]) -> Opened
-    requires { ⌜ length (now words) ≡ 285 ⌝ }
-    ensures { λ r. ⌜ OpenedAs fingerprint run message (now (packet .entry)) (r .number) (r .chunk) (r .chunks) (r .count) (now (words .exit)) ⌝ }
-{
-    let reading = packets::read(fingerprint, run, packet, words);
-    let number = reading.number;
-    if number != 0 {
-        return Opened {
-            number,
-            chunk: 0,
-            chunks: 0,
-            count: 0,
-        };
-    }
-    let header = reading.header;
-    let of = of_message(header.kind, header.item, message);
-    Opened {
-        number: of,
-        chunk: header.chunk,
-        chunks: header.chunks,
-        count: reading.count,
-    }
-}
-
-// Bytes as they came for a message, at its taker's: into what came of it so far, and once it is whole into the taker's own areas.
-pub fn receive(
-    encoded: &[u8],
-    route: u32,
-    run: u64,
-    source: &[u32],
-    memories: &[u32],
-    buffer: &mut [u32],
-    progress: &[u32],
-    status: &mut [u8],
-    processor: u32,
-    message: u32,
-    packet: &[u8],
-    area: &mut [u32],
-    mask: u64,
-) -> Taken
-    ensures { λ r. ⌜ receivedOf r (now (area .exit)) (stateOf (now (memories .entry)) (now (buffer .exit)) (now (progress .entry)) (now (status .exit)))
-        ≡ receiveCall (now (encoded .entry)) route run (now (source .entry))
-        (stateOf (now (memories .entry)) (now (buffer .entry)) (now (progress .entry)) (now (status .entry))) processor message (now (packet .entry))
-        (assembly (now (area .entry)) mask) ⌝ }
-{
-    let fingerprint = packets::fingerprint(encoded, route);
-    let mut words = [0u32; 285];
-    let opened = open_packet(fingerprint, run, message, packet, &mut words);
-    let number = opened.number;
-    if number != 0 {
-        return Taken {
-            number,
-            whole: 0,
-            mask,
-        };
-    }
-    let count = word_index(opened.count);
-    let taken = take_chunk(opened.chunk, opened.chunks, &words[0..count], area, mask);
-    if taken.whole == 0 {
-        return taken;
-    }
-    let now = taken.mask;
-    let last = transport::take_in(
-        encoded,
-        route,
-        source,
-        memories,
-        buffer,
-        progress,
-        status,
-        processor,
-        message,
-        area,
-    );
-    Taken {
-        number: last,
-        whole: 1,
-        mask: now,
-    }
 }

@@ -9,15 +9,18 @@ use Rattle.wire.proofs.send.Tie as tie
 open-requires : tie.Need-open-requires
 open-requires c κs = refl
 
+unwritten-requires : tie.Need-unwritten-requires
+unwritten-requires c κs = search needs
+
 returns : tie.Need-returns
 returns c =
-    let at-open = c .before in
+    let at-if1 = c .before in
+    let at-open = at-if1 .before in
     let S = at-open .before .before .before .before .before in
     let A = S .args in
     let opens = at-open .«open» in
-    send-read (A .encoded .now) (A .route) (A .run) (A .life) (A .buffer .now) (A .message)
-    (A .chunk) (A .space .now)
-    (opens .result .number) (opens .ensures .number) (c .if1 .taken)
+    send-read (A .encoded .now) (A .route) (A .run) (A .life) (A .buffer .now) (A .status .now) (A .processor) (A .message) (A .chunk) (A .space .now)
+    (c .unwritten .result) (opens .result .number) (c .unwritten .ensures) (opens .ensures .number) (at-if1 .if1 .taken)
 
 fingerprint-requires : tie.Need-fingerprint-requires
 fingerprint-requires c κs = search needs
@@ -40,8 +43,8 @@ returns-2 c =
     let S = at-open .before .before .before .before .before in
     let A = S .args in
     let opens = at-open .«open» in
-    at-send-message .send-message .ensures ∙ send-rest (A .encoded .now) (A .route) (A .run) (A .life) (A .buffer .now)
-    (A .message) (A .chunk) (A .space .now)
+    at-send-message .send-message .ensures
+    ∙ send-rest (A .encoded .now) (A .route) (A .run) (A .life) (A .buffer .now) (A .status .now) (A .processor) (A .message) (A .chunk) (A .space .now)
     (planOf (opens .result .sizes .route) (opens .result .nest))
     (opens .ensures .opened (at-if1 .if1 .left))
     (at-fingerprint .fingerprint .result) (at-fingerprint .fingerprint .ensures)
@@ -51,6 +54,7 @@ send-spec =
     tie.close
     (tie.spec
     open-requires
+    unwritten-requires
     returns
     fingerprint-requires
     send-message-requires
