@@ -108,7 +108,7 @@ module _ (Step : Boards → BoardEvent → ℕ → Boards → Type 0) (acts : Ne
       ∙ subst (λ (w : Network). acts w e .number ≢ 0 → acts w e .after ≡ w) (sym words-at) (D .refused e)
       (λ z. q (number-of (is end e n y h) ∙ z))
 
-  pub fixed-boards : FixedBoards Step acts bytes route source start events numbers end
+  pub fixed-boards : FixedBoards Step acts (recipe bytes route) source start events numbers end
   fixed-boards =
       record {
         numbers-are = run-numbers Step boardWords acts is g;

@@ -285,7 +285,8 @@ module _ (bytes : List ℕ) (route : ℕ) where
             grid = λ o low old grid h.
                 let z = sym (number-of (rig-collect-is o old grid 0 h)) in
                 let l = collect-length bytes route _ o _ _ old (sym (number-of h)) in
-                after-of (rig-collect-is o old grid 0 h) ∙ rig-demand .each o low .collecting .grid (rig-demand .each o low .collecting .then-all old l z) old l;
+                after-of (rig-collect-is o old grid 0 h)
+                ∙ rig-demand .each o low .collecting .grid (rig-demand .each o low .collecting .then-all old l z) old l;
           }
 
   -- ---- two runs apart

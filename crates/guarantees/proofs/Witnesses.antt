@@ -75,7 +75,8 @@ lent source l =
 
 gives-0 : freshRigCall rowD 0 sourcesD (freshRig p) .number ≡ 0
 unfolding freshRig
-gives-0 = rig-demands .begins rowD 0 sourcesD (freshRig p) open-D (lent (sourcesD .first) refl) (lent (sourcesD .second) refl) (length-replicate {A = ℕ} (p .processors) 2)
+gives-0 =
+    rig-demands .begins rowD 0 sourcesD (freshRig p) open-D (lent (sourcesD .first) refl) (lent (sourcesD .second) refl) (length-replicate {A = ℕ} (p .processors) 2)
 
 both-are : (n : ℕ) (r : Rig) (x : Answered Rig) → x .number ≡ n → x .after ≡ r → answer n r ≡ x
 both-are n r x e f = rw (sym e, sym f) refl

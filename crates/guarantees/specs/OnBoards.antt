@@ -10,7 +10,7 @@ use lib.Dec.{eqb}
 use Rattle.base.specs.Tests.{pick}
 use Rattle.base.specs.Lists.{Bytes, part, pack}
 use Rattle.base.specs.Numbers.{firstOf}
-use Rattle.machine.specs.Plan.{count, heldBy}
+use Rattle.machine.specs.Plan.{Plan, count, heldBy}
 use Rattle.machine.specs.Machine.{placeOf, Answered}
 use Rattle.machine.specs.Runs.{turnOf, deliveryOf, last, answers, stepsIn}
 use Rattle.layout.specs.Sizes.{routeOf}
@@ -53,81 +53,85 @@ pub record CallAt (boards b : ℕ) (Gives : Areas → ℕ → Areas → Type 0) 
 abbrev pub newPacket : ℕ → ℕ → List ℕ → List Packet
 newPacket n m ws = pick (eqb n 0) (record { message = m; words = ws } ∷ []) []
 
--- ---- an event, by the relation of its call
-module _ (bytes : List ℕ) (route : ℕ) where
-  -- on the boards, each lent whole areas
-  abbrev pub BoardGave : Sources → Boards → BoardEvent → ℕ → Boards → Type 0
-  BoardGave sources x (turnAt b) n y =
-      CallAt (recipe bytes route .processors) b (λ a k c. EventGave bytes route (sources b) a (turnOf b) k c) [] x n y
-  BoardGave sources x (postAt b m) n y =
-      CallAt (recipe bytes route .processors) b (λ a k c. EventGave bytes route (sources b) a (deliveryOf m) k c)
-      (newPacket n m (placeOf (recipe bytes route) (x .areas b .buffer) m)) x n y
-  BoardGave sources x (broughtTo b m ws) n y = CallAt (recipe bytes route .processors) b (λ a. TakeInGave bytes route (sources b) a b m ws) [] x n y
-
-  -- each lent its own part
-  abbrev pub PartGave : Sources → Boards → BoardEvent → ℕ → Boards → Type 0
-  PartGave sources x (turnAt b) n y = CallAt (recipe bytes route .processors) b (PartTurnGave bytes route (sources b) b) [] x n y
-  PartGave sources x (postAt b m) n y =
-      CallAt (recipe bytes route .processors) b (PartPostGave bytes route b m)
-      (newPacket n m (part (x .areas b .buffer) (mailAt (recipe bytes route) b m) (length (heldBy (recipe bytes route) m)))) x n y
-  PartGave sources x (broughtTo b m ws) n y = CallAt (recipe bytes route .processors) b (PartArriveGave bytes route b m ws) [] x n y
-
--- ---- a beginning: one recipe and one route for all, each board's fresh start gave 0, and nothing is posted
-pub record BegunBoards (bytes : List ℕ) (route : ℕ) (source : List ℕ) (sources : Sources) (lent : ℕ → Areas) (start : Boards) : Type 0 where
-  pub small : Bytes bytes
-  pub accepted : firstOf (linesFor (routeOf route) bytes) ≡ 0
-  pub whole : length source ≡ recipe bytes route .cells
-  pub own : (b : ℕ) → b < recipe bytes route .processors → SameSource (recipe bytes route) b (sources b) source
-  pub gave : (b : ℕ) → b < recipe bytes route .processors → FreshGave bytes route (sources b) (lent b) 0 (start .areas b)
-  pub none : start .packets ≡ []
-
-pub record BegunParts (bytes : List ℕ) (route : ℕ) (source : List ℕ) (sources : Sources) (lent : ℕ → Areas) (start : Boards) : Type 0 where
-  pub small : Bytes bytes
-  pub accepted : firstOf (linesFor (routeOf route) bytes) ≡ 0
-  pub whole : length source ≡ recipe bytes route .cells
-  pub own : (b : ℕ) → b < recipe bytes route .processors → sources b ≡ pack source (ownCells (recipe bytes route) b)
-  pub gave : (b : ℕ) → b < recipe bytes route .processors → PartFreshGave bytes route b (lent b) 0 (start .areas b)
-  pub none : start .packets ≡ []
-
 -- ---- the claims, about events with their numbers from `start` to `end`: by `acts` on words, of calls that give `Step`
-pub record FixedBoards (Step : Boards → BoardEvent → ℕ → Boards → Type 0) (acts : Network → BoardEvent → Answered Network) (bytes : List ℕ) (route : ℕ)
+pub record FixedBoards (Step : Boards → BoardEvent → ℕ → Boards → Type 0) (acts : Network → BoardEvent → Answered Network) (p : Plan)
     (source : List ℕ) (start : Boards) (events : List BoardEvent) (numbers : List ℕ) (end : Boards) : Type 0 where
   -- number by number and word by word the run over words, which has what demand 3 asks
   pub numbers-are : numbers ≡ answers acts (boardWords start) events
   pub words-are : boardWords end ≡ last acts (boardWords start) events
-  pub demand : OnBoards acts (boardWords start) events (recipe bytes route) source
+  pub demand : OnBoards acts (boardWords start) events p source
   -- what it says of a further call: some event gives 0 exactly when the steps are fewer, and a refusal leaves the very records of every board
-  pub goes-on : stepsIn numbers < whole (recipe bytes route)
+  pub goes-on : stepsIn numbers < whole p
       → (e : BoardEvent) × Carries acts (boardWords end) (e ∷ []) × ((n : ℕ) (y : Boards) → Step end e n y → n ≡ 0)
-  pub then-fewer : (e : BoardEvent) (y : Boards) → Carries acts (boardWords end) (e ∷ []) → Step end e 0 y → stepsIn numbers < whole (recipe bytes route)
+  pub then-fewer : (e : BoardEvent) (y : Boards) → Carries acts (boardWords end) (e ∷ []) → Step end e 0 y → stepsIn numbers < whole p
   pub refused : (e : BoardEvent) (n : ℕ) (y : Boards) → Step end e n y → n ≢ 0 → (b : ℕ) → y .areas b ≡ end .areas b
   -- brought to the wrong board it is 11
-  pub wrong-board : (b m : ℕ) (ws : List ℕ) (n : ℕ) (y : Boards) → m < count (recipe bytes route) → length ws ≡ length (heldBy (recipe bytes route) m)
-      → takerAt (recipe bytes route) m ≢ b → Step end (broughtTo b m ws) n y → n ≡ 11
+  pub wrong-board : (b m : ℕ) (ws : List ℕ) (n : ℕ) (y : Boards) → m < count p → length ws ≡ length (heldBy p m)
+      → takerAt p m ≢ b → Step end (broughtTo b m ws) n y → n ≡ 11
 
--- collecting part by part, whatever the others have done
-pub record CollectsParts (bytes : List ℕ) (route : ℕ) (source : List ℕ) (numbers : List ℕ) (end : Boards) : Type 0 where
-  pub collects : (b : ℕ) → b < recipe bytes route .processors → (old grid : List ℕ) → PartCollectGave bytes route b (end .areas b .memories) (end .areas b .progress) old 0 grid
-      → Collected (recipe bytes route) source b old grid
-  pub then-all : ((b : ℕ) → b < recipe bytes route .processors
-      → (old : List ℕ) × ((grid : List ℕ) × PartCollectGave bytes route b (end .areas b .memories) (end .areas b .progress) old 0 grid))
-      → stepsIn numbers ≡ whole (recipe bytes route)
-  pub each-collects : stepsIn numbers ≡ whole (recipe bytes route) → (b : ℕ) → b < recipe bytes route .processors
-      → (old grid : List ℕ) (n : ℕ) → length old ≡ recipe bytes route .cells → PartCollectGave bytes route b (end .areas b .memories) (end .areas b .progress) old n grid → n ≡ 0
+-- ---- one recipe and one route for all boards
+module _ (bytes : List ℕ) (route : ℕ) where
+  abbrev pub plan : Plan
+  plan = recipe bytes route
 
-pub record OverBoards (bytes : List ℕ) (route : ℕ) (source : List ℕ) (sources : Sources) (lent : ℕ → Areas) (start : Boards) : Type 0 where
-  -- every event at a board that there is can be given, whatever the areas are
-  pub can-give : (x : Boards) (e : BoardEvent) → boardOf e < recipe bytes route .processors → (n : ℕ) × ((y : Boards) × BoardGave bytes route sources x e n y)
-  pub can-give-parts : (x : Boards) (e : BoardEvent) → boardOf e < recipe bytes route .processors → (n : ℕ) × ((y : Boards) × PartGave bytes route sources x e n y)
-  pub on-boards : BegunBoards bytes route source sources lent start → (events : List BoardEvent) (numbers : List ℕ) (end : Boards)
-      → Gave (BoardGave bytes route sources) start events numbers end → Carries (wholeBoards bytes route sources) (boardWords start) events
-      → FixedBoards (BoardGave bytes route sources) (wholeBoards bytes route sources) bytes route source start events numbers end
-  pub on-whole-areas : BegunBoards bytes route source sources lent start → (events : List BoardEvent)
-      → Carries (wholeBoards bytes route sources) (boardWords start) events
-      → OnWholeAreas (wholeBoards bytes route sources) (boardWords start) events (recipe bytes route) source (collectCall bytes route source)
-  pub on-parts : BegunParts bytes route source sources lent start → (events : List BoardEvent) (numbers : List ℕ) (end : Boards)
-      → Gave (PartGave bytes route sources) start events numbers end → Carries (partBoards bytes route sources) (boardWords start) events
-      → FixedBoards (PartGave bytes route sources) (partBoards bytes route sources) bytes route source start events numbers end
-  pub parts-collected : BegunParts bytes route source sources lent start → (events : List BoardEvent) (numbers : List ℕ) (end : Boards)
-      → Gave (PartGave bytes route sources) start events numbers end → Carries (partBoards bytes route sources) (boardWords start) events
-      → CollectsParts bytes route source numbers end
+  -- ---- an event, by the relation of its call: on the boards, each lent whole areas
+  abbrev pub BoardGave : Sources → Boards → BoardEvent → ℕ → Boards → Type 0
+  BoardGave sources x (turnAt b) n y =
+      CallAt (plan .processors) b (λ a k c. EventGave bytes route (sources b) a (turnOf b) k c) [] x n y
+  BoardGave sources x (postAt b m) n y =
+      CallAt (plan .processors) b (λ a k c. EventGave bytes route (sources b) a (deliveryOf m) k c)
+      (newPacket n m (placeOf plan (x .areas b .buffer) m)) x n y
+  BoardGave sources x (broughtTo b m ws) n y = CallAt (plan .processors) b (λ a. TakeInGave bytes route (sources b) a b m ws) [] x n y
+
+  -- each lent its own part
+  abbrev pub PartGave : Sources → Boards → BoardEvent → ℕ → Boards → Type 0
+  PartGave sources x (turnAt b) n y = CallAt (plan .processors) b (PartTurnGave bytes route (sources b) b) [] x n y
+  PartGave sources x (postAt b m) n y =
+      CallAt (plan .processors) b (PartPostGave bytes route b m)
+      (newPacket n m (part (x .areas b .buffer) (mailAt plan b m) (length (heldBy plan m)))) x n y
+  PartGave sources x (broughtTo b m ws) n y = CallAt (plan .processors) b (PartArriveGave bytes route b m ws) [] x n y
+
+  -- ---- a beginning: one recipe and one route for all, each board's fresh start gave 0, and nothing is posted
+  pub record BegunBoards (source : List ℕ) (sources : Sources) (lent : ℕ → Areas) (start : Boards) : Type 0 where
+    pub small : Bytes bytes
+    pub accepted : firstOf (linesFor (routeOf route) bytes) ≡ 0
+    pub whole : length source ≡ plan .cells
+    pub own : (b : ℕ) → b < plan .processors → SameSource plan b (sources b) source
+    pub gave : (b : ℕ) → b < plan .processors → FreshGave bytes route (sources b) (lent b) 0 (start .areas b)
+    pub none : start .packets ≡ []
+
+  pub record BegunParts (source : List ℕ) (sources : Sources) (lent : ℕ → Areas) (start : Boards) : Type 0 where
+    pub small : Bytes bytes
+    pub accepted : firstOf (linesFor (routeOf route) bytes) ≡ 0
+    pub whole : length source ≡ plan .cells
+    pub own : (b : ℕ) → b < plan .processors → sources b ≡ pack source (ownCells plan b)
+    pub gave : (b : ℕ) → b < plan .processors → PartFreshGave bytes route b (lent b) 0 (start .areas b)
+    pub none : start .packets ≡ []
+
+  -- collecting part by part, whatever the others have done
+  pub record CollectsParts (source : List ℕ) (numbers : List ℕ) (end : Boards) : Type 0 where
+    pub collects : (b : ℕ) → b < plan .processors → (old grid : List ℕ)
+        → PartCollectGave bytes route b (end .areas b .memories) (end .areas b .progress) old 0 grid → Collected plan source b old grid
+    pub then-all : ((b : ℕ) → b < plan .processors
+        → (old : List ℕ) × ((grid : List ℕ) × PartCollectGave bytes route b (end .areas b .memories) (end .areas b .progress) old 0 grid))
+        → stepsIn numbers ≡ whole plan
+    pub each-collects : stepsIn numbers ≡ whole plan → (b : ℕ) → b < plan .processors
+        → (old grid : List ℕ) (n : ℕ) → length old ≡ plan .cells
+        → PartCollectGave bytes route b (end .areas b .memories) (end .areas b .progress) old n grid → n ≡ 0
+
+  pub record OverBoards (source : List ℕ) (sources : Sources) (lent : ℕ → Areas) (start : Boards) : Type 0 where
+    -- every event at a board that there is can be given, whatever the areas are
+    pub can-give : (x : Boards) (e : BoardEvent) → boardOf e < plan .processors → (n : ℕ) × ((y : Boards) × BoardGave sources x e n y)
+    pub can-give-parts : (x : Boards) (e : BoardEvent) → boardOf e < plan .processors → (n : ℕ) × ((y : Boards) × PartGave sources x e n y)
+    pub on-boards : BegunBoards source sources lent start → (events : List BoardEvent) (numbers : List ℕ) (end : Boards)
+        → Gave (BoardGave sources) start events numbers end → Carries (wholeBoards bytes route sources) (boardWords start) events
+        → FixedBoards (BoardGave sources) (wholeBoards bytes route sources) plan source start events numbers end
+    pub on-whole-areas : BegunBoards source sources lent start → (events : List BoardEvent)
+        → Carries (wholeBoards bytes route sources) (boardWords start) events
+        → OnWholeAreas (wholeBoards bytes route sources) (boardWords start) events plan source (collectCall bytes route source)
+    pub on-parts : BegunParts source sources lent start → (events : List BoardEvent) (numbers : List ℕ) (end : Boards)
+        → Gave (PartGave sources) start events numbers end → Carries (partBoards bytes route sources) (boardWords start) events
+        → FixedBoards (PartGave sources) (partBoards bytes route sources) plan source start events numbers end
+    pub parts-collected : BegunParts source sources lent start → (events : List BoardEvent) (numbers : List ℕ) (end : Boards)
+        → Gave (PartGave sources) start events numbers end → Carries (partBoards bytes route sources) (boardWords start) events
+        → CollectsParts source numbers end
