@@ -21,7 +21,7 @@ use Rattle.base.proofs.Tests.{both, and-true, not-true, true-not, never-both, e
 use Rattle.base.proofs.Lists.{length-put}
 use Rattle.base.proofs.Entries.{part-at, put-same, put-rest}
 use Rattle.base.proofs.Numbers.{first-nil, first-false, none-first}
-use Rattle.packets.specs.Cut.{chunksOf, Chunk, cut, Assembly, assembly, there, complete, chunkLength, fits, placed, takeLines, Taking, takenBy}
+use Rattle.packets.specs.Cut.{chunksOf, Chunk, cut, Assembly, assembly, there, complete, chunkLength, fits, placed, takeLines, Taking, takingBy}
 use Rattle.packets.specs.Cut.{takeChunkCall, takeAll, Comes, own, misfit, AllCome, Among, ChunksHold}
 
 -- ---- bits
@@ -188,7 +188,7 @@ held-take : (ws : List ℕ) (c : Chunk) (a : Assembly) → Held ws a → Comes w
 unfolding takeChunkCall
 held-take ws c a held come = go (firstOf (takeLines c (length (a .area)))) refl
   where
-    go : (n : ℕ) → firstOf (takeLines c (length (a .area))) ≡ n → Held ws (takenBy n c a .after)
+    go : (n : ℕ) → firstOf (takeLines c (length (a .area))) ≡ n → Held ws (takingBy n c a .after)
     go zero z = own-held ws c a held (no-line c (length (a .area)) z) come
     go (suc n) z = held
 
@@ -196,7 +196,7 @@ take-stays : (c : Chunk) (a : Assembly) (j : ℕ) → there (a .mask) j ≡ true
 unfolding takeChunkCall
 take-stays c a j e = go (firstOf (takeLines c (length (a .area))))
   where
-    go : (n : ℕ) → there (takenBy n c a .after .mask) j ≡ true
+    go : (n : ℕ) → there (takingBy n c a .after .mask) j ≡ true
     go zero = placed-stays (c .chunk) j (c .words) a e
     go (suc n) = e
 
@@ -209,7 +209,7 @@ take-there : (ws : List ℕ) (k : ℕ) (a : Assembly) → length ws ≤ 18240 �
     → there (takeChunkCall (cut ws k) a .after .mask) k ≡ true
 unfolding takeChunkCall cut
 take-there ws k a h e b =
-    ap (λ (n : ℕ). there (takenBy n (cut ws k) a .after .mask) k)
+    ap (λ (n : ℕ). there (takingBy n (cut ws k) a .after .mask) k)
     (ap (λ (n : ℕ). firstOf (takeLines (cut ws k) n)) e ∙ no-lines (cut ws k) (length ws) h (fits-cut ws k b))
     ∙ placed-there k (part ws (k * 285) 285) a
 
@@ -217,7 +217,7 @@ pub refused : (c : Chunk) (a : Assembly) → (takeChunkCall c a .number ≡ 0 �
 unfolding takeChunkCall
 refused c a h = go (firstOf (takeLines c (length (a .area)))) h
   where
-    go : (n : ℕ) → (takenBy n c a .number ≡ 0 → ⊥) → takenBy n c a .after ≡ a
+    go : (n : ℕ) → (takingBy n c a .number ≡ 0 → ⊥) → takingBy n c a .after ≡ a
     go zero k = absurd (k refl)
     go (suc n) k = refl
 
@@ -225,7 +225,7 @@ pub repeated : (c : Chunk) (a : Assembly) → there (a .mask) (c .chunk) ≡ tru
 unfolding takeChunkCall
 repeated c a e = go (firstOf (takeLines c (length (a .area))))
   where
-    go : (n : ℕ) → takenBy n c a .after ≡ a
+    go : (n : ℕ) → takingBy n c a .after ≡ a
     go zero = placed-again (c .chunk) (c .words) a e
     go (suc n) = refl
 

@@ -19,7 +19,7 @@ use Rattle.base.specs.Numbers.{Line, line, firstOf}
 use Rattle.base.proofs.Tests.{both, and-true, and-false, and-no, not-false, every-more, every-not}
 use Rattle.base.proofs.Numbers.{first-true, first-false, none-first}
 use Rattle.packets.specs.Cut.{chunksOf, Chunk, chunkOf, Assembly, assembly, there, complete, chunkLength, fits, placed, takeLines, Taking}
-use Rattle.packets.specs.Cut.{takenBy, takeChunkCall, takingOf}
+use Rattle.packets.specs.Cut.{takingBy, takeChunkCall, takingOf}
 use Rattle.packets.specs.declared.chunks.Taken.{Taken}
 use Rattle.packets.proofs.Assembling.{few, ends, placed-again, fits-below, no-line, no-lines}
 
@@ -118,9 +118,9 @@ module _ (c : Chunk) (area : List ℕ) (mask : ℕ) where
   pub taken-refused : (n : ℕ) → n ≡ firstOf (takeLines c (length area)) → (n ≡ 0 → ⊥)
       → takingOf (record { number = n; whole = 0; mask = mask }) area ≡ takeChunkCall c (assembly area mask)
   unfolding takeChunkCall
-  taken-refused n e h = go n h ∙ ap (λ (x : ℕ). takenBy x c (assembly area mask)) e
+  taken-refused n e h = go n h ∙ ap (λ (x : ℕ). takingBy x c (assembly area mask)) e
     where
-      go : (x : ℕ) → (x ≡ 0 → ⊥) → takingOf (record { number = x; whole = 0; mask = mask }) area ≡ takenBy x c (assembly area mask)
+      go : (x : ℕ) → (x ≡ 0 → ⊥) → takingOf (record { number = x; whole = 0; mask = mask }) area ≡ takingBy x c (assembly area mask)
       go zero k = absurd (k refl)
       go (suc x) k = refl
 
@@ -131,7 +131,7 @@ module _ (c : Chunk) (area : List ℕ) (mask : ℕ) where
   taken-done out now w t z e et ew =
       ap₂ (λ (x : ℕ) (a : Assembly). taking x a)
       (ew ∙ ap one (et ∙ ap (λ (a : Assembly). complete (c .chunks) (a .mask)) e)) e
-      ∙ ap (λ (x : ℕ). takenBy x c (assembly area mask)) z
+      ∙ ap (λ (x : ℕ). takingBy x c (assembly area mask)) z
     where
       taking : ℕ → Assembly → Taking
       taking x a = record { number = 0; whole = x; after = a }

@@ -80,17 +80,17 @@ pub record Taking : Type 0 where
   pub whole : ℕ
   pub after : Assembly
 
-abbrev pub takenBy : ℕ → Chunk → Assembly → Taking
-takenBy zero c a =
+abbrev pub takingBy : ℕ → Chunk → Assembly → Taking
+takingBy zero c a =
     record {
       number = 0;
       whole = one (complete (c .chunks) (placed (c .chunk) (c .words) a .mask));
       after = placed (c .chunk) (c .words) a;
     }
-takenBy (suc n) c a = record { number = suc n; whole = 0; after = a }
+takingBy (suc n) c a = record { number = suc n; whole = 0; after = a }
 
 unfoldable pub takeChunkCall : Chunk → Assembly → Taking
-takeChunkCall c a = takenBy (firstOf (takeLines c (length (a .area)))) c a
+takeChunkCall c a = takingBy (firstOf (takeLines c (length (a .area)))) c a
 
 abbrev pub takingOf : Taken → List ℕ → Taking
 takingOf r area = record { number = r .number; whole = r .whole; after = assembly area (r .mask) }

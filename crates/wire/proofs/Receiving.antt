@@ -39,14 +39,15 @@ use Rattle.engine.specs.Calls.{answer, recipe, areas}
 use Rattle.engine.specs.Given.{unfitLines}
 use Rattle.engine.proofs.Turns.{answered-no, answered-yes}
 use Rattle.engine.proofs.Lines.{Opened, areas-are, unfit-none, call-read}
-use Rattle.transport.specs.arrivals.Taking.{takes, asLong, MayTake, receivedOr}
+use Rattle.transport.specs.arrivals.Taking.{MayTake, receivedOr}
+use Rattle.network.specs.Brought.{takenBy}
 use Rattle.packets.specs.declared.Header.{Header}
 use Rattle.packets.specs.declared.Reading.{Reading}
 use Rattle.packets.specs.declared.chunks.Taken.{Taken}
 use Rattle.packets.specs.Fingerprint.{fingerprintOf}
 use Rattle.packets.specs.Packet.{countOf, headerOf, wordsOf, damaged, stale, decodeLines}
 use Rattle.packets.specs.Calls.{Read, readOf, readBy, readLines, readCall}
-use Rattle.packets.specs.Cut.{Chunk, chunkOf, Assembly, assembly, complete, fits, placed, takeLines, Taking, takenBy, takingOf, takeChunkCall}
+use Rattle.packets.specs.Cut.{Chunk, chunkOf, Assembly, assembly, complete, fits, placed, takeLines, Taking, takingBy, takingOf, takeChunkCall}
 use Rattle.packets.proofs.Answers.{whole-is}
 use Rattle.packets.proofs.Assembling.{no-line, no-lines}
 use Rattle.packets.proofs.RoundTrip.{words-long}
@@ -300,11 +301,11 @@ module _ (r : Route) (x : Nest) (z : Sizes) (sized : Sized x z) (same : z .route
     abbrev a : Assembly
     a = cameWith p i h ws
 
-    taken-is : takingOf t ys ≡ takenBy 0 (chunkOf (h .chunk) (h .chunks) ws) (cameOf p i (h .item))
+    taken-is : takingOf t ys ≡ takingBy 0 (chunkOf (h .chunk) (h .chunks) ws) (cameOf p i (h .item))
     unfolding takeChunkCall
     taken-is =
         e ∙ ap (takeChunkCall (chunkOf (h .chunk) (h .chunks) ws)) area-is
-        ∙ ap (λ (k : ℕ). takenBy k (chunkOf (h .chunk) (h .chunks) ws) (cameOf p i (h .item)))
+        ∙ ap (λ (k : ℕ). takingBy k (chunkOf (h .chunk) (h .chunks) ws) (cameOf p i (h .item)))
         (no-lines (chunkOf (h .chunk) (h .chunks) ws) (length (cameOf p i (h .item) .area)) (omega (arith, came-long, few))
         (ap (λ (k : ℕ). fits k (chunkOf (h .chunk) (h .chunks) ws)) came-long ∙ known .fit))
 
@@ -364,7 +365,7 @@ module _ (r : Route) (x : Nest) (z : Sizes) (sized : Sized x z) (same : z .route
           long = or-right _ (eq-eqb _ _ (ap length message-is ∙ a-long ∙ found .words));
         }
 
-    no-lines-left : firstOf (line 11 (not (takes p b m)) ∷ line 14 (not (eqb (getD (s .status) m 0) 0)) ∷ []) ≡ 0
+    no-lines-left : firstOf (line 11 (not (takenBy p b m)) ∷ line 14 (not (eqb (getD (s .status) m 0) 0)) ∷ []) ≡ 0
     no-lines-left =
         first-false 11 _ _ (not-true (and-true (lt-ltb m (count p) low) (eq-eqb _ _ (ap (takerAt p) em ∙ known .here))))
         ∙ first-false 14 _ _ (not-true (eq-eqb _ _ (ap (λ (k : ℕ). getD (s .status) k 0) em ∙ known .free))) ∙ first-nil
