@@ -61,7 +61,8 @@ part-words l i n w j = go (decLt j n)
 
 -- ---- what was sent
 
-module _ (bytes : List ℕ) (route run life : ℕ) (buffer status : List ℕ) (b m k : ℕ) (space : List ℕ) (sent : Sent bytes route run life buffer status b m k space) where
+module _ (bytes : List ℕ) (route run life : ℕ) (buffer status : List ℕ) (b m k : ℕ) (space : List ℕ)
+    (sent : Sent bytes route run life buffer status b m k space) where
   abbrev p : Plan
   p = recipe bytes route
 
@@ -82,7 +83,8 @@ module _ (bytes : List ℕ) (route run life : ℕ) (buffer status : List ℕ) (b
   open-lines = none-front (linesFor (routeOf route) bytes) (sendLines p (length buffer) status b m k (length space)) numbers
 
   its-lines : firstOf (sendLines p (length buffer) status b m k (length space)) ≡ 0
-  its-lines = none-behind (linesFor (routeOf route) bytes) (sendLines p (length buffer) status b m k (length space)) (numbered-for (routeOf route) bytes) numbers
+  its-lines =
+      none-behind (linesFor (routeOf route) bytes) (sendLines p (length buffer) status b m k (length space)) (numbered-for (routeOf route) bytes) numbers
 
   abbrev known : Sendable p (length buffer) status b m k (length space)
   known = sendable p (length buffer) status b m k (length space) its-lines
@@ -221,7 +223,8 @@ module _ (bytes : List ℕ) (route run : ℕ) (source : List ℕ) (s : State) (b
           ∙ sym (answered-no (suc k) (takenPacket (recipe bytes route) s i (headerOf q) (wordsOf q)) unchanged (λ y. absurd (omega (arith, y))))
           ∙ ap (λ (x : ℕ). answer x unchanged) (number k g)
 
-      by : (d : Bool) → damaged q ≡ d → (t : Bool) → stale (fingerprintOf bytes route) run q ≡ t → receiveCall bytes route run source s b q i ≡ answer n unchanged
+      by : (d : Bool) → damaged q ≡ d → (t : Bool) → stale (fingerprintOf bytes route) run q ≡ t
+          → receiveCall bytes route run source s b q i ≡ answer n unchanged
       by true d t g = stops 25 (first-true 26 _ _ d)
       by false d true g = stops 26 (first-false 26 _ _ d ∙ first-true 27 _ _ g)
       by false d false g =

@@ -51,12 +51,14 @@ chunkCame p s i m ws k =
 
 pub record WireHolds : Type 0 where
   -- a sent packet is one packet of this recipe, route and run: chunk k of the words that stood in the sender's buffer
-  pub decoded : (bytes : List ℕ) (route run life : ℕ) (buffer status : List ℕ) (b m k : ℕ) (space : List ℕ) → Sent bytes route run life buffer status b m k space
+  pub decoded : (bytes : List ℕ) (route run life : ℕ) (buffer status : List ℕ) (b m k : ℕ) (space : List ℕ)
+      → Sent bytes route run life buffer status b m k space
       → decodePacket (fingerprintOf bytes route) run (sentBytes (sendCall bytes route run life buffer status b m k space))
       ≡ packet (headed (messageLabel (recipe bytes route) (fingerprintOf bytes route) run life m) k (length (heldBy (recipe bytes route) m)))
       (cut (placeOf (recipe bytes route) buffer m) k .words)
   -- received by whomever, it is this chunk of that message for its taker, and 11 for every other
-  pub carried : (bytes : List ℕ) (route run life : ℕ) (buffer status : List ℕ) (b m k : ℕ) (space : List ℕ) → Sent bytes route run life buffer status b m k space
+  pub carried : (bytes : List ℕ) (route run life : ℕ) (buffer status : List ℕ) (b m k : ℕ) (space : List ℕ)
+      → Sent bytes route run life buffer status b m k space
       → (source : List ℕ) (s : State) (c : ℕ) (i : Inbox)
       → receiveCall bytes route run source s c (sentBytes (sendCall bytes route run life buffer status b m k space)) i
       ≡ answered (firstOf (arrivalLines (recipe bytes route) source s c m i))
@@ -69,7 +71,8 @@ pub record WireHolds : Type 0 where
       → firstOf (linesFor (routeOf route) bytes) ≡ 0 → decodePacket (fingerprintOf bytes route) run q ≡ refused n
       → receiveCall bytes route run source s b q i ≡ answer n (receivedAs 0 0 i s)
   -- so is a sent packet that was changed on its way within 32 neighbouring bits
-  pub burst : (bytes : List ℕ) (route run life : ℕ) (buffer status : List ℕ) (b m k : ℕ) (space : List ℕ) → Sent bytes route run life buffer status b m k space
+  pub burst : (bytes : List ℕ) (route run life : ℕ) (buffer status : List ℕ) (b m k : ℕ) (space : List ℕ)
+      → Sent bytes route run life buffer status b m k space
       → (source : List ℕ) (s : State) (c : ℕ) (q : List ℕ) (i : Inbox) → Bytes q
       → Burst (sentBytes (sendCall bytes route run life buffer status b m k space)) q
       → receiveCall bytes route run source s c q i ≡ answer 26 (receivedAs 0 0 i s)

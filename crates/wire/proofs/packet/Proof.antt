@@ -37,10 +37,15 @@ unwritten-requires-3 c κs = search needs
 
 returns-3 : tie.Need-returns-3
 returns-3 c =
-    let A = c .before .before .before .before .before .before .before .before .args in
+    let at2 = c .before .before in
+    let at3 = at2 .before in
+    let at4 = at3 .before in
+    let at5 = at4 .before in
+    let at8 = at5 .before .before .before in
+    let A = at8 .args in
     sending.packet-none (label (A .fingerprint) (A .run) (A .life) (A .kind) (A .sender) (A .taker) (A .item)) (A .words .now) (A .chunk) (A .space .now)
-    (c .before .before .before .before .before .if1 .left) (omega (arith, c .before .before .before .before .if2 .left)) (c .unwritten3 .result) (c .unwritten3 .ensures)
-    (omega (arith, c .before .if3 .taken, c .before .before .word-index .ensures, c .before .before .before .chunks-of .ensures))
+    (at5 .if1 .left) (omega (arith, at4 .if2 .left)) (c .unwritten3 .result) (c .unwritten3 .ensures)
+    (omega (arith, c .before .if3 .taken, at2 .word-index .ensures, at3 .chunks-of .ensures))
 
 mul-at : tie.Need-mul-at
 mul-at c = search needs
@@ -52,7 +57,11 @@ add-end : tie.Need-add-end
 add-end c = search needs
 
 cast-t19 : tie.Need-cast-t19
-cast-t19 c = omega (arith, c .before .before .before .chunks-of .ensures, few (length (c .before .before .before .before .before .before .before .before .args .words .now)) (omega (arith, c .before .before .before .before .if2 .left)))
+cast-t19 c =
+    let at3 = c .before .before .before in
+    let at4 = at3 .before in
+    let at8 = at4 .before .before .before .before in
+    omega (arith, at3 .chunks-of .ensures, few (length (at8 .args .words .now)) (omega (arith, at4 .if2 .left)))
 
 mul-put-packet : tie.Need-mul-put-packet
 mul-put-packet c = search needs
@@ -65,9 +74,12 @@ part-put-packet-start c = search needs
 
 part-put-packet-end : tie.Need-part-put-packet-end
 part-put-packet-end c =
-    let A = c .before .before .before .before .before .before .before .before .args in
-    sending.chunk-room (A .words .now) (A .chunk) (c .before .before .word-index .result) (c .chunk-length .result) (c .before .before .word-index .ensures) (c .chunk-length .ensures)
-    (omega (arith, c .before .if3 .left, c .before .before .word-index .ensures, c .before .before .before .chunks-of .ensures))
+    let at2 = c .before .before in
+    let at3 = at2 .before in
+    let at8 = at3 .before .before .before .before .before in
+    let A = at8 .args in
+    sending.chunk-room (A .words .now) (A .chunk) (at2 .word-index .result) (c .chunk-length .result) (at2 .word-index .ensures) (c .chunk-length .ensures)
+    (omega (arith, c .before .if3 .left, at2 .word-index .ensures, at3 .chunks-of .ensures))
 
 put-packet-requires : tie.Need-put-packet-requires
 put-packet-requires c κs = search needs
@@ -77,13 +89,28 @@ same-length c = search needs
 
 returns-4 : tie.Need-returns-4
 returns-4 c =
-    let A = c .before .before .before .before .before .before .before .before .before .before .before .before .before .args in
+    let at2 = c .before .before in
+    let at5 = at2 .before .before .before in
+    let at6 = at5 .before in
+    let at7 = at6 .before in
+    let at8 = at7 .before in
+    let at9 = at8 .before in
+    let at10 = at9 .before in
+    let at13 = at10 .before .before .before in
+    let A = at13 .args in
     sending.packet-done (label (A .fingerprint) (A .run) (A .life) (A .kind) (A .sender) (A .taker) (A .item)) (A .words .now) (A .chunk) (A .space .now)
-    (c .before .before .before .before .before .before .before .before .before .before .if1 .left) (omega (arith, c .before .before .before .before .before .before .before .before .before .if2 .left)) (c .before .before .put-packet .result) _ (omega (arith, c .before .before .before .before .before .before .if3 .left, c .before .before .before .before .before .before .before .word-index .ensures, c .before .before .before .before .before .before .before .before .chunks-of .ensures))
-    (sending.chunk-packet (A .words .now) (A .chunk) (c .before .before .before .before .before .before .before .word-index .result) (c .before .before .before .before .before .chunk-length .result) (c .before .before .before .before .before .before .before .word-index .ensures) (c .before .before .before .before .before .chunk-length .ensures)
-    (omega (arith, c .before .before .before .before .before .before .if3 .left, c .before .before .before .before .before .before .before .word-index .ensures, c .before .before .before .before .before .before .before .before .chunks-of .ensures))
-    (A .fingerprint) (A .run) (A .life) (A .kind) (A .sender) (A .taker) (A .item) (c .before .before .before .before .before .before .before .before .chunks-of .result) (A .space .now) (c .before .before .before .before .before .before .before .before .chunks-of .ensures) _
-    (c .before .before .put-packet .ensures))
+    (at10 .if1 .left) (omega (arith, at9 .if2 .left)) (at2 .put-packet .result) _ (omega (
+      arith,
+      at6 .if3 .left,
+      at7 .word-index .ensures,
+      at8 .chunks-of
+          .ensures,
+    ))
+    (sending.chunk-packet (A .words .now) (A .chunk) (at7 .word-index .result) (at5 .chunk-length .result) (at7 .word-index .ensures) (at5 .chunk-length
+    .ensures)
+    (omega (arith, at6 .if3 .left, at7 .word-index .ensures, at8 .chunks-of .ensures))
+    (A .fingerprint) (A .run) (A .life) (A .kind) (A .sender) (A .taker) (A .item) (at8 .chunks-of .result) (A .space .now) (at8 .chunks-of .ensures) _
+    (at2 .put-packet .ensures))
 
 pub packet-spec : {M : Type 1} → statement M
 packet-spec =

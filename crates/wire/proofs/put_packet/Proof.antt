@@ -33,9 +33,11 @@ same-length c = search needs
 
 returns : tie.Need-returns
 returns c =
-    let A = c .before .before .before .before .before .before .args in
-    put-in (A .header) (A .words .now) (A .space .now) (c .before .before .write .last .1 .1 .0) (c .before .before .write .result) (60 + 4 * length (A .words .now)) refl (c .before .before .before .before .before .before .pre .0)
-    (c .before .before .before .before .before .before .pre .1) (c .before .before .write .ensures)
+    let at2 = c .before .before in
+    let at6 = at2 .before .before .before .before in
+    let A = at6 .args in
+    put-in (A .header) (A .words .now) (A .space .now) (at2 .write .last .1 .1 .0) (at2 .write .result) (60 + 4 * length (A .words .now)) refl (at6 .pre .0)
+    (at6 .pre .1) (at2 .write .ensures)
 
 pub put-packet-spec : {M : Type 1} → statement M
 put-packet-spec =

@@ -78,7 +78,46 @@ abbrev high : Received → Val
 high r = only (LL.vals U.the-type U′.the-laws r)
 
 abbrev stayed : Stays (receiving.ended .signature .params) (receiving.ended .kept)
-stayed = (stay-dropped (shrSliceOf (0 ∷ []) tt (plain (λ _. u8))) yes, (stay-dropped (plain (λ _. u32)) yes, (stay-dropped (plain (λ _. u64)) yes, (stay-dropped (shrSliceOf (1 ∷ []) tt (plain (λ _. u32))) yes, (stay-dropped (shrSliceOf (2 ∷ []) tt (plain (λ _. u32))) yes, (gave-slice (3 ∷ []) tt (plain (λ _. u32)), (stay-dropped (shrSliceOf (4 ∷ []) tt (plain (λ _. R))) yes, (gave-slice (5 ∷ []) tt (plain (λ _. u8)), (stay-dropped (plain (λ _. u32)) yes, (stay-dropped (shrSliceOf (6 ∷ []) tt (plain (λ _. u8))) yes, (gave-slice (7 ∷ []) tt (plain (λ _. u32)), (gave-slice (8 ∷ []) tt (plain (λ _. u64)), tt))))))))))))
+stayed = (
+  stay-dropped (shrSliceOf (0 ∷ []) tt (plain (λ _. u8))) yes,
+  (
+    stay-dropped (plain (λ _. u32)) yes,
+    (
+      stay-dropped (plain (λ _. u64)) yes,
+      (
+        stay-dropped (shrSliceOf (1 ∷ []) tt (plain (λ _. u32))) yes,
+        (
+          stay-dropped (shrSliceOf (2 ∷ []) tt (plain (λ _. u32))) yes,
+          (
+            gave-slice (3 ∷ []) tt
+                (plain (λ _. u32)),
+            (
+              stay-dropped (shrSliceOf (4 ∷ []) tt (plain (λ _. R))) yes,
+              (
+                gave-slice (5 ∷ []) tt (plain (λ _. u8)),
+                (
+                  stay-dropped (plain (λ _.
+                      u32)) yes,
+                  (
+                    stay-dropped (shrSliceOf (6 ∷ []) tt (plain (λ _. u8))) yes,
+                    (
+                      gave-slice (7 ∷ []) tt (plain (λ _. u32)),
+                      (
+                        gave-slice (8 ∷ []) tt (plain (λ _.
+                            u64)),
+                        tt,
+                      ),
+                    ),
+                  ),
+                ),
+              ),
+            ),
+          ),
+        ),
+      ),
+    ),
+  ),
+)
 
 -- the contract of the call over words
 module _ {M : Type 1} (𝓤 : URA M) (H : Heap 𝓤) (A : Atoms 𝓤) (mem : Memory → SProp 𝓤) (run′ : Routine → Fun 𝓤) where
@@ -100,15 +139,62 @@ module _ {M : Type 1} (𝓤 : URA M) (H : Heap 𝓤) (A : Atoms 𝓤) (W : Given
     (κ8 : Lft) (q8 : Share) (x8 : RefT (List ℕ)) (g8 : Room u64 (length (now x8)))
     (bounds : AllOutlive 9 (receiving.signature .outlives) (κ0, (κ1, (κ2, (κ3, (κ4, (κ5, (κ6, (κ7, (κ8, tt)))))))))) where
   abbrev at : Vals receiving.signature (κ0, (κ1, (κ2, (κ3, (κ4, (κ5, (κ6, (κ7, (κ8, tt)))))))))
-  at = (slice x0 ∷ [], (vint w32 route ∷ [], (vint w64 run ∷ [], (slice x1 ∷ [], (slice x2 ∷ [], (slice x3 ∷ [], (slice x4 ∷ [], (slice x5 ∷ [], (vint w32 processor ∷ [], (slice x6 ∷ [], (slice x7 ∷ [], (slice x8 ∷ [], tt))))))))))))
+  at = (
+    slice x0 ∷ [],
+    (
+      vint w32 route ∷ [],
+      (
+        vint w64 run ∷ [],
+        (
+          slice x1 ∷ [],
+          (
+            slice x2 ∷ [],
+            (
+              slice x3 ∷ [],
+              (
+                slice x4 ∷ [],
+                (
+                  slice x5 ∷ [],
+                  (
+                    vint w32
+                        processor ∷ [],
+                    (slice x6 ∷ [], (slice x7 ∷ [], (slice x8 ∷ [], tt))),
+                  ),
+                ),
+              ),
+            ),
+          ),
+        ),
+      ),
+    ),
+  )
 
   abbrev Post : Val → SProp 𝓤
   Post =
-      walkOf 𝓤 H A receiving.ended stayed (receiving.clauses 𝓤 H A mem run′) .post (((κ0, (κ1, (κ2, (κ3, (κ4, (κ5, (κ6, (κ7, (κ8, tt))))))))), (q0, (q1, (q2, (q3, (q4, (q5, (q6, (q7, (q8, tt))))))))), bounds, (x0, (route, (run, (x1, (x2, (x3, (x4, (x5, (processor, (x6, (x7, (x8, tt)))))))))))), at), tt)
+      walkOf 𝓤 H A receiving.ended stayed (receiving.clauses 𝓤 H A mem run′) .post (
+        (
+          (κ0, (κ1, (κ2, (κ3, (κ4, (κ5, (κ6, (κ7, (κ8, tt))))))))),
+          (
+            q0,
+            (
+              q1,
+              (
+                q2,
+                (q3, (q4, (q5, (q6, (q7, (q8, tt)))))),
+              ),
+            ),
+          ),
+          bounds,
+          (x0, (route, (run, (x1, (x2, (x3, (x4, (x5, (processor, (x6, (x7, (x8, tt)))))))))))),
+          at,
+        ),
+        tt,
+      )
 
   -- the lifetimes, all of them and those that the call over words is lent; what the parameters own
   abbrev Toks : List (Item 𝓤)
-  Toks = ‵ (flft κ0 q0) ∷ ‵ (flft κ1 q1) ∷ ‵ (flft κ2 q2) ∷ ‵ (flft κ3 q3) ∷ ‵ (flft κ4 q4) ∷ ‵ (flft κ5 q5) ∷ ‵ (flft κ6 q6) ∷ ‵ (flft κ7 q7) ∷ ‵ (flft κ8 q8) ∷ []
+  Toks = ‵ (flft κ0 q0) ∷ ‵ (flft κ1 q1) ∷ ‵ (flft κ2 q2) ∷ ‵ (flft κ3 q3) ∷ ‵ (flft κ4 q4) ∷ ‵ (flft κ5 q5) ∷ ‵ (flft κ6 q6) ∷ ‵ (flft κ7 q7) ∷ ‵ (flft κ8
+      q8) ∷ []
 
   abbrev Lives : List (Item 𝓤)
   Lives = ‵ (flft κ0 q0) ∷ ‵ (flft κ1 q1) ∷ ‵ (flft κ2 q2) ∷ ‵ (flft κ3 q3) ∷ ‵ (flft κ5 q5) ∷ ‵ (flft κ6 q6) ∷ ‵ (flft κ7 q7) ∷ ‵ (flft κ8 q8) ∷ []
@@ -132,7 +218,8 @@ module _ {M : Type 1} (𝓤 : URA M) (H : Heap 𝓤) (A : Atoms 𝓤) (W : Given
   abbrev κw : Lft × (Lft × (Lft × (Lft × (Lft × (Lft × (Lft × (Lft × Unit {0})))))))
   κw = (κ0, (κ1, (κ2, (κ3, (κ5, (κ6, (κ7, (κ8, tt))))))))
 
-  abbrev xw : Flat → RefT (List ℕ) × (ℕ × (ℕ × (RefT (List ℕ) × (RefT (List ℕ) × (RefT (List ℕ) × (Flat × (RefT (List ℕ) × (ℕ × (RefT (List ℕ) × (RefT (List ℕ) × (RefT (List ℕ) × Unit {0})))))))))))
+  abbrev xw : Flat → RefT (List ℕ) × (ℕ × (ℕ × (RefT (List ℕ) × (RefT (List ℕ) × (RefT (List ℕ) × (Flat × (RefT (List ℕ) × (ℕ × (RefT (List ℕ) × (RefT (List
+      ℕ) × (RefT (List ℕ) × Unit {0})))))))))))
   xw f = (x0, (route, (run, (x1, (x2, (x3, (f, (x5, (processor, (x6, (x7, (x8, tt))))))))))))
 
   abbrev Args : Flat → List Fml
@@ -151,7 +238,28 @@ module _ {M : Type 1} (𝓤 : URA M) (H : Heap 𝓤) (A : Atoms 𝓤) (W : Given
       ∷ MutSlice (named 8) κ8 u64 .own x8 (slice x8 ∷ []) ∷ []
 
   abbrev to-words : Flat → Words 𝓤 H A mem run′ .Ghost
-  to-words f = ((κw, (q0, (q1, (q2, (q3, (q5, (q6, (q7, (q8, tt)))))))), tt, xw f, (slice x0 ∷ [], (vint w32 route ∷ [], (vint w64 run ∷ [], (slice x1 ∷ [], (slice x2 ∷ [], (slice x3 ∷ [], (low f ∷ [], (slice x5 ∷ [], (vint w32 processor ∷ [], (slice x6 ∷ [], (slice x7 ∷ [], (slice x8 ∷ [], tt))))))))))))), tt)
+  to-words f = (
+    (
+      κw,
+      (q0, (q1, (q2, (q3, (q5, (q6, (q7, (q8, tt)))))))),
+      tt,
+      xw f,
+      (
+        slice x0 ∷ [],
+        (
+          vint w32 route ∷ [],
+          (
+            vint w64 run ∷ [],
+            (
+              slice x1 ∷ [],
+              (slice x2 ∷ [], (slice x3 ∷ [], (low f ∷ [], (slice x5 ∷ [], (vint w32 processor ∷ [], (slice x6 ∷ [], (slice x7 ∷ [], (slice x8 ∷ [], tt)))))))),
+            ),
+          ),
+        ),
+      ),
+    ),
+    tt,
+  )
 
   goes-words : (f : Flat) → length (f .words) ≡ 192 → ent 𝓤 (⋆ 𝓤 H A (sepAll 𝓤 Lives ∷ ‵ (fsepAll (Args f)) ∷ [])) (Words 𝓤 H A mem run′ .pre (to-words f))
   goes-words f w = qed W (sepAll 𝓤 Lives ∷ ‵ (fsepAll (Args f)) ∷ []) ∵ says ! w $ done !
@@ -168,15 +276,64 @@ module _ {M : Type 1} (𝓤 : URA M) (H : Heap 𝓤) (A : Atoms 𝓤) (W : Given
       → length y7 ≡ length (now x7)
       → length y8 ≡ length (now x8)
       → Said r y3 y5 y7 y8 (flatWords (now x4))
-      → ent 𝓤 (⋆ 𝓤 H A (sepAll 𝓤 Lives ∷ ‵ (flft κ4 q4) ∷ ‵ (finally u32 (x3 .name) y3) ∷ ‵ (finally u8 (x5 .name) y5) ∷ ‵ (finally u32 (x7 .name) y7) ∷ ‵ (finally u64 (x8 .name) y8) ∷ [])) (Post (high r))
+      → ent 𝓤 (⋆ 𝓤 H A (sepAll 𝓤 Lives ∷ ‵ (flft κ4 q4) ∷ ‵ (finally u32 (x3 .name) y3) ∷ ‵ (finally u8 (x5 .name) y5) ∷ ‵ (finally u32 (x7 .name) y7) ∷ ‵
+      (finally u64 (x8 .name) y8) ∷ [])) (Post (high r))
   exits r y3 y5 y7 y8 is e3 e5 e7 e8 said =
-      qed W (sepAll 𝓤 Lives ∷ ‵ (flft κ4 q4) ∷ ‵ (finally u32 (x3 .name) y3) ∷ ‵ (finally u8 (x5 .name) y5) ∷ ‵ (finally u32 (x7 .name) y7) ∷ ‵ (finally u64 (x8 .name) y8) ∷ []) ∵
-      suffices ! _ (ends-at 𝓤 H A receiving.ended stayed (receiving.clauses 𝓤 H A mem run′) W (((κ0, (κ1, (κ2, (κ3, (κ4, (κ5, (κ6, (κ7, (κ8, tt))))))))), (q0, (q1, (q2, (q3, (q4, (q5, (q6, (q7, (q8, tt))))))))), bounds, (x0, (route, (run, (x1, (x2, (x3, (x4, (x5, (processor, (x6, (x7, (x8, tt)))))))))))), at), tt)
+      qed W (sepAll 𝓤 Lives ∷ ‵ (flft κ4 q4) ∷ ‵ (finally u32 (x3 .name) y3) ∷ ‵ (finally u8 (x5 .name) y5) ∷ ‵ (finally u32 (x7 .name) y7) ∷ ‵ (finally u64
+      (x8 .name) y8) ∷ []) ∵
+      suffices ! _ (ends-at 𝓤 H A receiving.ended stayed (receiving.clauses 𝓤 H A mem run′) W (
+        (
+          (κ0, (κ1, (κ2, (κ3, (κ4, (κ5, (κ6, (κ7, (κ8, tt))))))))),
+          (q0, (q1, (q2, (q3, (q4, (q5, (q6, (q7, (q8, tt))))))))),
+          bounds,
+          (
+            x0,
+            (
+              route,
+              (
+                run,
+                (
+                  x1,
+                  (
+                    x2,
+                    (
+                      x3,
+                      (
+                        x4,
+                        (
+                          x5,
+                          (
+                            processor,
+                            (
+                              x6,
+                              (
+                                x7,
+                                (
+                                  x8,
+                                  tt,
+                                ),
+                              ),
+                            ),
+                          ),
+                        ),
+                      ),
+                    ),
+                  ),
+                ),
+              ),
+            ),
+          ),
+          at,
+        ),
+        tt,
+      )
       (high r) r (tt, (tt, (tt, (tt, (tt, (y3, (tt, (y5, (tt, (tt, (y7, (y8, tt))))))))))))
       (tt, (tt, (tt, (tt, (tt, (e3, (tt, (e5, (tt, (tt, (e7, (e8, tt))))))))))))) $ says ! said $
-      splits ! Lives $ move ! (0 ∷ 1 ∷ 2 ∷ 3 ∷ 8 ∷ 4 ∷ 5 ∷ 6 ∷ 7 ∷ []) $ joins ! Toks $ frame ! $ nothing ! $ nothing ! $ nothing ! $ nothing ! $ nothing ! $ nothing ! $ nothing ! $ nothing ! $
+      splits ! Lives $ move ! (0 ∷ 1 ∷ 2 ∷ 3 ∷ 8 ∷ 4 ∷ 5 ∷ 6 ∷ 7 ∷ []) $ joins ! Toks $ frame ! $ nothing ! $ nothing ! $ nothing ! $ nothing ! $ nothing ! $
+      nothing ! $ nothing ! $ nothing ! $
       move ! (11 ∷ 10 ∷ 0 ∷ 1 ∷ 9 ∷ 2 ∷ 8 ∷ 3 ∷ 4 ∷ 5 ∷ 6 ∷ 7 ∷ []) $
-      fjoins ! (ftrue ∷ ftrue ∷ ftrue ∷ ftrue ∷ ftrue ∷ finally u32 (x3 .name) y3 ∷ ftrue ∷ finally u8 (x5 .name) y5 ∷ ftrue ∷ ftrue ∷ finally u32 (x7 .name) y7 ∷ finally u64 (x8 .name) y8 ∷ []) $
+      fjoins ! (ftrue ∷ ftrue ∷ ftrue ∷ ftrue ∷ ftrue ∷ finally u32 (x3 .name) y3 ∷ ftrue ∷ finally u8 (x5 .name) y5 ∷ ftrue ∷ ftrue ∷ finally u32 (x7 .name)
+      y7 ∷ finally u64 (x8 .name) y8 ∷ []) $
       owned ! E (Is E) (LL.makes U.the-type U′.the-plain 𝓤 H A) r _ is $ keep ! (1 ∷ 0 ∷ []) $ done !
 
   module _ (C : Calls 𝓤 H) (Λ : Loops 𝓤 H) (fm : FmC 𝓤 H (W .laws) C)
@@ -209,7 +366,8 @@ module _ {M : Type 1} (𝓤 : URA M) (H : Heap 𝓤) (A : Atoms 𝓤) (W : Given
     -- the locals: those of the compiler hold nothing; the one bound by `let` is given
     abbrev At : Item 𝓤 → List (Item 𝓤) → List (Item 𝓤)
     At f more =
-        rooms 𝓤 ((words64 (erased) mut, l21) ∷ (tyRef erased mut (tyInt w64), l20) ∷ (words32 (erased) mut, l19) ∷ (tyRef erased mut (tyInt w32), l18) ∷ (bytes (erased) mut, l17) ∷ (tyRef erased mut (tyInt w8), l16) ∷ (words32 (erased) mut, l15) ∷ (tyRef erased mut (tyInt w32), l14) ∷ [])
+        rooms 𝓤 ((words64 (erased) mut, l21) ∷ (tyRef erased mut (tyInt w64), l20) ∷ (words32 (erased) mut, l19) ∷ (tyRef erased mut (tyInt w32), l18) ∷
+        (bytes (erased) mut, l17) ∷ (tyRef erased mut (tyInt w8), l16) ∷ (words32 (erased) mut, l15) ∷ (tyRef erased mut (tyInt w32), l14) ∷ [])
         (f ∷ ‵ (fdies S′.mir l13) ∷ holds 𝓤 (((words64 (named 8) mut, l12), slice x8)
         ∷ ((words32 (named 7) mut, l11), slice x7)
         ∷ ((bytes (named 6) imm, l10), slice x6)
@@ -225,7 +383,8 @@ module _ {M : Type 1} (𝓤 : URA M) (H : Heap 𝓤) (A : Atoms 𝓤) (W : Given
         (rooms 𝓤 ((U′.mir, l0) ∷ []) more))
 
     -- what the call over words says of the areas after it
-    abbrev Lasts : Unit {0} × (Unit {0} × (Unit {0} × (Unit {0} × (Unit {0} × (List ℕ × (Unit {0} × (List ℕ × (Unit {0} × (Unit {0} × (List ℕ × (List ℕ × Unit {0}))))))))))) → List (Item 𝓤)
+    abbrev Lasts : Unit {0} × (Unit {0} × (Unit {0} × (Unit {0} × (Unit {0} × (List ℕ × (Unit {0} × (List ℕ × (Unit {0} × (Unit {0} × (List ℕ × (List ℕ ×
+        Unit {0}))))))))))) → List (Item 𝓤)
     Lasts us =
         ‵ ftrue
         ∷ ‵ ftrue
@@ -238,11 +397,16 @@ module _ {M : Type 1} (𝓤 : URA M) (H : Heap 𝓤) (A : Atoms 𝓤) (W : Given
         ∷ ‵ ftrue
         ∷ ‵ ftrue
         ∷ (‵ (finally u32 (x7 .name) (us .1 .1 .1 .1 .1 .1 .1 .1 .1 .1 .0)) ⊛ ‵ (feq ℕ (length (us .1 .1 .1 .1 .1 .1 .1 .1 .1 .1 .0)) (length (now x7))))
-        ∷ (‵ (finally u64 (x8 .name) (us .1 .1 .1 .1 .1 .1 .1 .1 .1 .1 .1 .0)) ⊛ ‵ (feq ℕ (length (us .1 .1 .1 .1 .1 .1 .1 .1 .1 .1 .1 .0)) (length (now x8)))) ∷ []
+        ∷ (‵ (finally u64 (x8 .name) (us .1 .1 .1 .1 .1 .1 .1 .1 .1 .1 .1 .0)) ⊛ ‵ (feq ℕ (length (us .1 .1 .1 .1 .1 .1 .1 .1 .1 .1 .1 .0)) (length (now
+        x8)))) ∷ []
 
     worded : Triple 𝓤 (C #wire·inbox·receive) (Words 𝓤 H A mem run′)
         → (f : Flat) → Is F f (low f ∷ []) → Carries f (flatWords (now x4))
-        → Sq W (At (‵ (fat fullShare S′.mir l13 0 (low f))) (‵ (flft κ0 q0) ∷ ‵ (flft κ1 q1) ∷ ‵ (flft κ2 q2) ∷ ‵ (flft κ3 q3) ∷ ‵ (flft κ4 q4) ∷ ‵ (flft κ5 q5) ∷ ‵ (flft κ6 q6) ∷ ‵ (flft κ7 q7) ∷ ‵ (flft κ8 q8) ∷ ‵ (ShrSlice (named 0) κ0 u8 .own x0 (slice x0 ∷ [])) ∷ ‵ (ShrSlice (named 1) κ1 u32 .own x1 (slice x1 ∷ [])) ∷ ‵ (ShrSlice (named 2) κ2 u32 .own x2 (slice x2 ∷ [])) ∷ ‵ (MutSlice (named 3) κ3 u32 .own x3 (slice x3 ∷ [])) ∷ ‵ (MutSlice (named 5) κ5 u8 .own x5 (slice x5 ∷ [])) ∷ ‵ (ShrSlice (named 6) κ6 u8 .own x6 (slice x6 ∷ [])) ∷ ‵ (MutSlice (named 7) κ7 u32 .own x7 (slice x7 ∷ [])) ∷ ‵ (MutSlice (named 8) κ8 u64 .own x8 (slice x8 ∷ [])) ∷ []))
+        → Sq W (At (‵ (fat fullShare S′.mir l13 0 (low f))) (‵ (flft κ0 q0) ∷ ‵ (flft κ1 q1) ∷ ‵ (flft κ2 q2) ∷ ‵ (flft κ3 q3) ∷ ‵ (flft κ4 q4) ∷ ‵ (flft κ5
+        q5) ∷ ‵ (flft κ6 q6) ∷ ‵ (flft κ7 q7) ∷ ‵ (flft κ8 q8) ∷ ‵ (ShrSlice (named 0) κ0 u8 .own x0 (slice x0 ∷ [])) ∷ ‵ (ShrSlice (named 1) κ1 u32 .own x1
+        (slice x1 ∷ [])) ∷ ‵ (ShrSlice (named 2) κ2 u32 .own x2 (slice x2 ∷ [])) ∷ ‵ (MutSlice (named 3) κ3 u32 .own x3 (slice x3 ∷ [])) ∷ ‵ (MutSlice (named
+        5) κ5 u8 .own x5 (slice x5 ∷ [])) ∷ ‵ (ShrSlice (named 6) κ6 u8 .own x6 (slice x6 ∷ [])) ∷ ‵ (MutSlice (named 7) κ7 u32 .own x7 (slice x7 ∷ [])) ∷ ‵
+        (MutSlice (named 8) κ8 u64 .own x8 (slice x8 ∷ [])) ∷ []))
         (runs C Λ En mir′.t-2 (atRet En Post))
     worded known₁ f is-f e-f =
         assigns ! (addr ! (from ! (fld ! refl (hop ! (look-in ! 30 (sub ! 0 refl (whole !))) (stop !))))) (from ! (stop !)) (init ! 14 refl (tt, tt)) $
@@ -268,27 +432,50 @@ module _ {M : Type 1} (𝓤 : URA M) (H : Heap 𝓤) (A : Atoms 𝓤) (W : Given
         move ! (64 ∷ 63 ∷ 62 ∷ 0 ∷ 61 ∷ 1 ∷ 60 ∷ 59 ∷ 58 ∷ 2 ∷ 3 ∷ 57 ∷ []) $
         fjoins ! (Args f) $ move ! (53 ∷ 52 ∷ 51 ∷ 50 ∷ 48 ∷ 47 ∷ 46 ∷ 45 ∷ []) $ joins ! Lives $
         use2 W (raw (Words 𝓤 H A mem run′ .pre (to-words f))) (goes-words f (e-f .room)) $
-        calls-at ! fm (Words 𝓤 H A mem run′) known₁ (to-words f) (and-then ! (load ! (from ! (stop !)) (look ! 41 refl)) (and-then ! (load ! (from ! (stop !)) (look ! 39 refl)) (and-then ! (load ! (from ! (stop !)) (look ! 37 refl)) (and-then ! (load ! (from ! (stop !)) (look ! 35 refl)) (and-then ! (load ! (from ! (stop !)) (look ! 33 refl)) (and-then ! (load ! (from ! (stop !)) (look ! 13 refl)) (and-then ! (load ! (from ! (stop !)) (look ! 17 refl)) (and-then ! (load ! (from ! (stop !)) (look ! 9 refl)) (and-then ! (load ! (from ! (stop !)) (look ! 25 refl)) (and-then ! (load ! (from ! (stop !)) (look ! 23 refl)) (and-then ! (load ! (from ! (stop !)) (look ! 5 refl)) (and-then ! (load ! (from ! (stop !)) (look ! 1 refl)) (no-more !))))))))))))) (λ w.
+        calls-at ! fm (Words 𝓤 H A mem run′) known₁ (to-words f) (and-then ! (load ! (from ! (stop !)) (look ! 41 refl)) (and-then ! (load ! (from ! (stop
+        !)) (look ! 39 refl)) (and-then ! (load ! (from ! (stop !)) (look ! 37 refl)) (and-then ! (load ! (from ! (stop !)) (look ! 35 refl)) (and-then !
+        (load ! (from ! (stop !)) (look ! 33 refl)) (and-then ! (load ! (from ! (stop !)) (look ! 13 refl)) (and-then ! (load ! (from ! (stop !)) (look ! 17
+        refl)) (and-then ! (load ! (from ! (stop !)) (look ! 9 refl)) (and-then ! (load ! (from ! (stop !)) (look ! 25 refl)) (and-then ! (load ! (from !
+        (stop !)) (look ! 23 refl)) (and-then ! (load ! (from ! (stop !)) (look ! 5 refl)) (and-then ! (load ! (from ! (stop !)) (look ! 1 refl)) (no-more
+        !))))))))))))) (λ w.
         use1 W (later (some (λ (r : Received). (sepAll 𝓤 Lives ⊛ ‵ (E .own r (w ∷ []))) ⊛ raw
         (ensured 𝓤 H A words.ended (words.clauses 𝓤 H A mem run′) κw (xw f) tt r)))) (id⊢ 𝓤 _) $
         await ! tt $ pick ! (λ r. split ! $ move ! (1 ∷ []) $
-        use1 W (some (λ (us : Unit {0} × (Unit {0} × (Unit {0} × (Unit {0} × (Unit {0} × (List ℕ × (Unit {0} × (List ℕ × (Unit {0} × (Unit {0} × (List ℕ × (List ℕ × Unit {0})))))))))))). sepAll 𝓤 (Lasts us) ⊛ raw
-        (fact 𝓤 ((l : List ℕ) → Carries f l → Said r (us .1 .1 .1 .1 .1 .0) (us .1 .1 .1 .1 .1 .1 .1 .0) (us .1 .1 .1 .1 .1 .1 .1 .1 .1 .1 .0) (us .1 .1 .1 .1 .1 .1 .1 .1 .1 .1 .1 .0) l)))) (id⊢ 𝓤 _) $
+        use1 W (some (λ (us : Unit {0} × (Unit {0} × (Unit {0} × (Unit {0} × (Unit {0} × (List ℕ × (Unit {0} × (List ℕ × (Unit {0} × (Unit {0} × (List ℕ ×
+        (List ℕ × Unit {0})))))))))))). sepAll 𝓤 (Lasts us) ⊛ raw
+        (fact 𝓤 ((l : List ℕ) → Carries f l → Said r (us .1 .1 .1 .1 .1 .0) (us .1 .1 .1 .1 .1 .1 .1 .0) (us .1 .1 .1 .1 .1 .1 .1 .1 .1 .1 .0) (us .1 .1 .1
+        .1 .1 .1 .1 .1 .1 .1 .1 .0) l)))) (id⊢ 𝓤 _) $
         pick ! (λ us. split ! $ move ! (1 ∷ []) $
-        heard ! ((l : List ℕ) → Carries f l → Said r (us .1 .1 .1 .1 .1 .0) (us .1 .1 .1 .1 .1 .1 .1 .0) (us .1 .1 .1 .1 .1 .1 .1 .1 .1 .1 .0) (us .1 .1 .1 .1 .1 .1 .1 .1 .1 .1 .1 .0) l) (λ said.
-        splits ! (Lasts us) $ move ! (6 ∷ []) $ split ! $ move ! (1 ∷ []) $ feqL ! (λ e3. move ! (5 ∷ []) $ split ! $ move ! (1 ∷ []) $ feqL ! (λ e5. move ! (3 ∷ []) $ split ! $ move ! (1 ∷ []) $ feqL ! (λ e7. move ! (3 ∷ []) $ split ! $ move ! (1 ∷ []) $ feqL ! (λ e8.
+        heard ! ((l : List ℕ) → Carries f l → Said r (us .1 .1 .1 .1 .1 .0) (us .1 .1 .1 .1 .1 .1 .1 .0) (us .1 .1 .1 .1 .1 .1 .1 .1 .1 .1 .0) (us .1 .1 .1
+        .1 .1 .1 .1 .1 .1 .1 .1 .0) l) (λ said.
+        splits ! (Lasts us) $ move ! (6 ∷ []) $ split ! $ move ! (1 ∷ []) $ feqL ! (λ e3. move ! (5 ∷ []) $ split ! $ move ! (1 ∷ []) $ feqL ! (λ e5. move !
+        (3 ∷ []) $ split ! $ move ! (1 ∷ []) $ feqL ! (λ e7. move ! (3 ∷ []) $ split ! $ move ! (1 ∷ []) $ feqL ! (λ e8.
         move ! (12 ∷ []) $ split ! $ move ! (1 ∷ []) $
         peeks ! E (Is E) (shows 𝓤 H A E) r (w ∷ []) (λ is′.
         land ! (from ! (stop !)) (init ! 56 refl (LL.lawful U.the-type U′.the-laws 𝓤 H A W .typed r _ is′ .0)) $
         rewrite ! 56 (λ (u : Val). ‵ (fat fullShare U′.mir l0 0 u)) (ap only (LL.tells U.the-type U′.the-laws r (w ∷ []) is′)) refl $
         returns ! (look ! 56 refl) $
-        forgets ! 14 (((_, _), _) ∷ ((_, _), _) ∷ ((_, _), _) ∷ ((_, _), _) ∷ ((_, _), _) ∷ ((_, _), _) ∷ ((_, _), _) ∷ ((_, _), _) ∷ ((_, _), _) ∷ ((_, _), _) ∷ ((_, _), _) ∷ ((_, _), _) ∷ ((_, _), _) ∷ ((_, _), _) ∷ ((_, _), _) ∷ ((_, _), _) ∷ ((_, _), _) ∷ ((_, _), _) ∷ ((_, _), _) ∷ ((_, _), _) ∷ ((_, _), _) ∷ ((_, _), _) ∷ []) refl $
+        forgets ! 14 (((_, _), _) ∷ ((_, _), _) ∷ ((_, _), _) ∷ ((_, _), _) ∷ ((_, _), _) ∷ ((_, _), _) ∷ ((_, _), _) ∷ ((_, _), _) ∷ ((_, _), _) ∷ (
+          (_, _),
+          _,
+        ) ∷ ((_, _), _) ∷ ((_, _), _) ∷ ((_, _), _) ∷ ((_, _), _) ∷ ((_, _), _) ∷ ((_, _), _) ∷ ((_, _), _) ∷ ((_, _), _) ∷ ((_, _), _) ∷ ((_, _), _) ∷ (
+          (
+            _,
+            _,
+          ),
+          _,
+        ) ∷ ((_, _), _) ∷ []) refl $
         sorts ! 14 44 (keep ! (1 ∷ 14 ∷ 5 ∷ 4 ∷ 3 ∷ 2 ∷ [])) $ turned ! 22 $
-        free-all ! _ $ by ! (exits r (us .1 .1 .1 .1 .1 .0) (us .1 .1 .1 .1 .1 .1 .1 .0) (us .1 .1 .1 .1 .1 .1 .1 .1 .1 .1 .0) (us .1 .1 .1 .1 .1 .1 .1 .1 .1 .1 .1 .0) (subst (λ (vs : List Val). Is E r vs) (LL.tells U.the-type U′.the-laws r (w ∷ []) is′) is′) e3 e5 e7 e8
+        free-all ! _ $ by ! (exits r (us .1 .1 .1 .1 .1 .0) (us .1 .1 .1 .1 .1 .1 .1 .0) (us .1 .1 .1 .1 .1 .1 .1 .1 .1 .1 .0) (us .1 .1 .1 .1 .1 .1 .1 .1 .1
+        .1 .1 .0) (subst (λ (vs : List Val). Is E r vs) (LL.tells U.the-type U′.the-laws r (w ∷ []) is′) is′) e3 e5 e7 e8
         (said (flatWords (now x4)) e-f)))))))))))
 
     begun : Triple 𝓤 (C #records·flatten) (Flatten 𝓤 H A mem run′) → Triple 𝓤 (C #wire·inbox·receive) (Words 𝓤 H A mem run′)
-        → Sq W (At (‵ (froom S′.mir l13 0)) (‵ (flft κ0 q0) ∷ ‵ (flft κ1 q1) ∷ ‵ (flft κ2 q2) ∷ ‵ (flft κ3 q3) ∷ ‵ (flft κ4 q4) ∷ ‵ (flft κ5 q5) ∷ ‵ (flft κ6 q6) ∷ ‵ (flft κ7 q7) ∷ ‵ (flft κ8 q8) ∷ ‵ (ShrSlice (named 0) κ0 u8 .own x0 (slice x0 ∷ [])) ∷ ‵ (ShrSlice (named 1) κ1 u32 .own x1 (slice x1 ∷ [])) ∷ ‵ (ShrSlice (named 2) κ2 u32 .own x2 (slice x2 ∷ [])) ∷ ‵ (MutSlice (named 3) κ3 u32 .own x3 (slice x3 ∷ [])) ∷ ‵ (ShrSlice (named 4) κ4 R .own x4 (slice x4 ∷ [])) ∷ ‵ (MutSlice (named 5) κ5 u8 .own x5 (slice x5 ∷ [])) ∷ ‵ (ShrSlice (named 6) κ6 u8 .own x6 (slice x6 ∷ [])) ∷ ‵ (MutSlice (named 7) κ7 u32 .own x7 (slice x7 ∷ [])) ∷ ‵ (MutSlice (named 8) κ8 u64 .own x8 (slice x8 ∷ [])) ∷ []))
+        → Sq W (At (‵ (froom S′.mir l13 0)) (‵ (flft κ0 q0) ∷ ‵ (flft κ1 q1) ∷ ‵ (flft κ2 q2) ∷ ‵ (flft κ3 q3) ∷ ‵ (flft κ4 q4) ∷ ‵ (flft κ5 q5) ∷ ‵ (flft κ6
+        q6) ∷ ‵ (flft κ7 q7) ∷ ‵ (flft κ8 q8) ∷ ‵ (ShrSlice (named 0) κ0 u8 .own x0 (slice x0 ∷ [])) ∷ ‵ (ShrSlice (named 1) κ1 u32 .own x1 (slice x1 ∷ []))
+        ∷ ‵ (ShrSlice (named 2) κ2 u32 .own x2 (slice x2 ∷ [])) ∷ ‵ (MutSlice (named 3) κ3 u32 .own x3 (slice x3 ∷ [])) ∷ ‵ (ShrSlice (named 4) κ4 R .own x4
+        (slice x4 ∷ [])) ∷ ‵ (MutSlice (named 5) κ5 u8 .own x5 (slice x5 ∷ [])) ∷ ‵ (ShrSlice (named 6) κ6 u8 .own x6 (slice x6 ∷ [])) ∷ ‵ (MutSlice (named
+        7) κ7 u32 .own x7 (slice x7 ∷ [])) ∷ ‵ (MutSlice (named 8) κ8 u64 .own x8 (slice x8 ∷ [])) ∷ []))
         (runs C Λ En mir′.t-1 (atRet En Post))
     begun known₀ known₁ =
         move ! (48 ∷ 57 ∷ []) $
@@ -300,13 +487,44 @@ module _ {M : Type 1} (𝓤 : URA M) (H : Heap 𝓤) (A : Atoms 𝓤) (W : Given
   walk : (C : Calls 𝓤 H) (Λ : Loops 𝓤 H) → FmC 𝓤 H (W .laws) C
       → Triple 𝓤 (C #records·flatten) (Flatten 𝓤 H A mem run′)
       → Triple 𝓤 (C #wire·inbox·receive) (Words 𝓤 H A mem run′)
-      → ent 𝓤 (onEntry 𝓤 H A receiving.signature (κ0, (κ1, (κ2, (κ3, (κ4, (κ5, (κ6, (κ7, (κ8, tt))))))))) (q0, (q1, (q2, (q3, (q4, (q5, (q6, (q7, (q8, tt)))))))))
+      → ent 𝓤 (onEntry 𝓤 H A receiving.signature (κ0, (κ1, (κ2, (κ3, (κ4, (κ5, (κ6, (κ7, (κ8, tt))))))))) (
+        q0,
+        (
+          q1,
+          (
+            q2,
+            (
+              q3,
+              (
+                q4,
+                (
+                  q5,
+                  (
+                    q6,
+                    (
+                      q7,
+                      (
+                        q8,
+                        tt,
+                      ),
+                    ),
+                  ),
+                ),
+              ),
+            ),
+          ),
+        ),
+      )
       (x0, (route, (run, (x1, (x2, (x3, (x4, (x5, (processor, (x6, (x7, (x8, tt)))))))))))) at)
-      (WpFn 𝓤 H C Λ code.function (slice x0 ∷ vint w32 route ∷ vint w64 run ∷ slice x1 ∷ slice x2 ∷ slice x3 ∷ slice x4 ∷ slice x5 ∷ vint w32 processor ∷ slice x6 ∷ slice x7 ∷ slice x8 ∷ []) Post)
+      (WpFn 𝓤 H C Λ code.function (slice x0 ∷ vint w32 route ∷ vint w64 run ∷ slice x1 ∷ slice x2 ∷ slice x3 ∷ slice x4 ∷ slice x5 ∷ vint w32 processor ∷
+      slice x6 ∷ slice x7 ∷ slice x8 ∷ []) Post)
   walk C Λ fm known₀ known₁ =
       qed W (sepAll 𝓤 Toks ∷ ‵ (fsepAll Own) ∷ []) ∵
-      enter ! C Λ code.function (slice x0 ∷ vint w32 route ∷ vint w64 run ∷ slice x1 ∷ slice x2 ∷ slice x3 ∷ slice x4 ∷ slice x5 ∷ vint w32 processor ∷ slice x6 ∷ slice x7 ∷ slice x8 ∷ []) _ $
-      alloc1 ! (λ l0. alloc1 ! (λ l1. alloc1 ! (λ l2. alloc1 ! (λ l3. alloc1 ! (λ l4. alloc1 ! (λ l5. alloc1 ! (λ l6. alloc1 ! (λ l7. alloc1 ! (λ l8. alloc1 ! (λ l9. alloc1 ! (λ l10. alloc1 ! (λ l11. alloc1 ! (λ l12. alloc1 ! (λ l13. alloc1 ! (λ l14. alloc1 ! (λ l15. alloc1 ! (λ l16. alloc1 ! (λ l17. alloc1 ! (λ l18. alloc1 ! (λ l19. alloc1 ! (λ l20. alloc1 ! (λ l21. alloc0 ! $ params1 ! $
+      enter ! C Λ code.function (slice x0 ∷ vint w32 route ∷ vint w64 run ∷ slice x1 ∷ slice x2 ∷ slice x3 ∷ slice x4 ∷ slice x5 ∷ vint w32 processor ∷ slice
+      x6 ∷ slice x7 ∷ slice x8 ∷ []) _ $
+      alloc1 ! (λ l0. alloc1 ! (λ l1. alloc1 ! (λ l2. alloc1 ! (λ l3. alloc1 ! (λ l4. alloc1 ! (λ l5. alloc1 ! (λ l6. alloc1 ! (λ l7. alloc1 ! (λ l8. alloc1
+      ! (λ l9. alloc1 ! (λ l10. alloc1 ! (λ l11. alloc1 ! (λ l12. alloc1 ! (λ l13. alloc1 ! (λ l14. alloc1 ! (λ l15. alloc1 ! (λ l16. alloc1 ! (λ l17.
+      alloc1 ! (λ l18. alloc1 ! (λ l19. alloc1 ! (λ l20. alloc1 ! (λ l21. alloc0 ! $ params1 ! $
       pass1 ! (init ! 40 refl (tt, (tt, (record { fits = g0 .0 }, tt)))) $
       pass1 ! (init ! 38 refl (tt, record { fits = route-fits })) $
       pass1 ! (init ! 36 refl (tt, record { fits = run-fits })) $
@@ -330,8 +548,74 @@ module _ {M : Type 1} (𝓤 : URA M) (H : Heap 𝓤) (A : Atoms 𝓤) (W : Given
       → Walks 𝓤 H A receiving.ended stayed (WpFn 𝓤 H C Λ code.function) (receiving.clauses 𝓤 H A mem run′)
   receiving-walks C Λ fm known₀ known₁ =
       walked 𝓤 H A receiving.ended stayed (receiving.clauses 𝓤 H A mem run′) (WpFn 𝓤 H C Λ code.function)
-      (λ κs. (slice-vals, (uint-vals w32, (uint-vals w64, (slice-vals, (slice-vals, (slice-vals, (slice-vals, (slice-vals, (uint-vals w32, (slice-vals, (slice-vals, (slice-vals, tt)))))))))))))
-      (λ κs. (shr-slice-tells (named 0) (κs .0) u8, (uint-tells w32, (uint-tells w64, (shr-slice-tells (named 1) (κs .1 .0) u32, (shr-slice-tells (named 2) (κs .1 .1 .0) u32, (mut-slice-tells (named 3) (κs .1 .1 .1 .0) u32, (shr-slice-tells (named 4) (κs .1 .1 .1 .1 .0) R, (mut-slice-tells (named 5) (κs .1 .1 .1 .1 .1 .0) u8, (uint-tells w32, (shr-slice-tells (named 6) (κs .1 .1 .1 .1 .1 .1 .0) u8, (mut-slice-tells (named 7) (κs .1 .1 .1 .1 .1 .1 .1 .0) u32, (mut-slice-tells (named 8) (κs .1 .1 .1 .1 .1 .1 .1 .1 .0) u64, tt)))))))))))))
+      (λ κs. (
+        slice-vals,
+        (
+          uint-vals w32,
+          (
+            uint-vals w64,
+            (
+              slice-vals,
+              (
+                slice-vals,
+                (
+                  slice-vals,
+                  (
+                    slice-vals,
+                    (
+                      slice-vals,
+                      (
+                        uint-vals w32,
+                        (
+                          slice-vals,
+                          (slice-vals, (slice-vals, tt)),
+                        ),
+                      ),
+                    ),
+                  ),
+                ),
+              ),
+            ),
+          ),
+        ),
+      ))
+      (λ κs. (
+        shr-slice-tells (named 0) (κs .0) u8,
+        (
+          uint-tells w32,
+          (
+            uint-tells w64,
+            (
+              shr-slice-tells (named 1) (κs .1 .0) u32,
+              (
+                shr-slice-tells (named 2)
+                    (κs .1 .1 .0) u32,
+                (
+                  mut-slice-tells (named 3) (κs .1 .1 .1 .0) u32,
+                  (
+                    shr-slice-tells (named 4) (κs .1 .1 .1 .1 .0) R,
+                    (
+                      mut-slice-tells (named 5)
+                          (κs .1 .1 .1 .1 .1 .0) u8,
+                      (
+                        uint-tells w32,
+                        (
+                          shr-slice-tells (named 6) (κs .1 .1 .1 .1 .1 .1 .0) u8,
+                          (
+                            mut-slice-tells (named 7) (κs .1 .1 .1 .1 .1
+                                .1 .1 .0) u32,
+                            (mut-slice-tells (named 8) (κs .1 .1 .1 .1 .1 .1 .1 .1 .0) u64, tt),
+                          ),
+                        ),
+                      ),
+                    ),
+                  ),
+                ),
+              ),
+            ),
+          ),
+        ),
+      ))
       (λ κs qs bounds a g are. via 𝓤 _ (fst∗ 𝓤 _ (emp 𝓤))
       (walk 𝓤 H A W mem run′
       (κs .0) (qs .0) (a .0) (are .0 .0 .1)
@@ -353,7 +637,47 @@ receiving-meets : {M : Type 1} (𝓤 : URA M) (H : Heap 𝓤) (A : Atoms 𝓤) (
     → Triple 𝓤 (𝓣 .C #wire·inbox·receive) (Words 𝓤 H A mem run′)
     → Meets 𝓤 H A receiving.signature (WpFn 𝓤 H (𝓣 .C) (𝓣 .Λ) code.function) (receiving.spec 𝓤 H A mem run′)
 receiving-meets 𝓤 H A W mem run′ 𝓣 known₀ known₁ =
-    walk-meets 𝓤 H A receiving.ended stayed W (goes-dropped 𝓤 H A W 9 (shrSliceOf (0 ∷ []) tt (plain (λ _. u8))) yes (λ κs x f. refl), (goes-dropped 𝓤 H A W 9 (plain (λ _. u32)) yes (λ κs x f. refl), (goes-dropped 𝓤 H A W 9 (plain (λ _. u64)) yes (λ κs x f. refl), (goes-dropped 𝓤 H A W 9 (shrSliceOf (1 ∷ []) tt (plain (λ _. u32))) yes (λ κs x f. refl), (goes-dropped 𝓤 H A W 9 (shrSliceOf (2 ∷ []) tt (plain (λ _. u32))) yes (λ κs x f. refl), (goes-gave-slice 𝓤 H A W 9 3 tt (plain (λ _. u32)), (goes-dropped 𝓤 H A W 9 (shrSliceOf (4 ∷ []) tt (plain (λ _. R))) yes (λ κs x f. refl), (goes-gave-slice 𝓤 H A W 9 5 tt (plain (λ _. u8)), (goes-dropped 𝓤 H A W 9 (plain (λ _. u32)) yes (λ κs x f. refl), (goes-dropped 𝓤 H A W 9 (shrSliceOf (6 ∷ []) tt (plain (λ _. u8))) yes (λ κs x f. refl), (goes-gave-slice 𝓤 H A W 9 7 tt (plain (λ _. u32)), (goes-gave-slice 𝓤 H A W 9 8 tt (plain (λ _. u64)), tt))))))))))))
+    walk-meets 𝓤 H A receiving.ended stayed W (
+      goes-dropped 𝓤 H A W 9 (shrSliceOf (0 ∷ []) tt (plain (λ _. u8))) yes (λ κs x f. refl),
+      (
+        goes-dropped 𝓤 H A W
+            9 (plain (λ _. u32)) yes (λ κs x f. refl),
+        (
+          goes-dropped 𝓤 H A W 9 (plain (λ _. u64)) yes (λ κs x f. refl),
+          (
+            goes-dropped 𝓤 H A W 9 (shrSliceOf (1 ∷
+                []) tt (plain (λ _. u32))) yes (λ κs x f. refl),
+            (
+              goes-dropped 𝓤 H A W 9 (shrSliceOf (2 ∷ []) tt (plain (λ _. u32))) yes (λ κs x f. refl),
+              (
+                goes-gave-slice 𝓤 H A W 9 3 tt (plain (λ _. u32)),
+                (
+                  goes-dropped 𝓤 H A W 9 (shrSliceOf (4 ∷ []) tt (plain (λ _. R))) yes (λ κs x f. refl),
+                  (
+                    goes-gave-slice 𝓤 H A W 9 5 tt (plain (λ _. u8)),
+                    (
+                      goes-dropped 𝓤 H A W 9 (plain (λ _. u32)) yes (λ κs x f. refl),
+                      (
+                        goes-dropped 𝓤 H A W 9
+                            (shrSliceOf (6 ∷ []) tt (plain (λ _. u8))) yes (λ κs x f. refl),
+                        (
+                          goes-gave-slice 𝓤 H A W 9 7 tt (plain (λ _. u32)),
+                          (
+                            goes-gave-slice 𝓤 H A W 9 8 tt
+                                (plain (λ _. u64)),
+                            tt,
+                          ),
+                        ),
+                      ),
+                    ),
+                  ),
+                ),
+              ),
+            ),
+          ),
+        ),
+      ),
+    )
     (receiving.clauses 𝓤 H A mem run′) (WpFn 𝓤 H (𝓣 .C) (𝓣 .Λ) code.function) (WpFn-mono 𝓤 H (W .laws) 𝓣 code.function)
     (receiving-walks 𝓤 H A W mem run′ (𝓣 .C) (𝓣 .Λ) (fmOf 𝓤 H (W .laws) 𝓣) known₀ known₁)
 
@@ -363,6 +687,7 @@ rolwyddac-receive-spec 𝓤 H 𝓜 𝓖 𝓡 =
     entered 𝓤 H (tripleOf 𝓤 H (𝓖 .A) receiving.signature (receiving.spec 𝓤 H (𝓖 .A) (𝓜 .mem) (𝓡 .run)))
     (tables 𝓤 H 𝓜 𝓡 code.env .C) (tables 𝓤 H 𝓜 𝓡 code.env .Λ) #calls·receiving code.function (code.unfolded 𝓤 H 𝓜 𝓡)
     (receiving-meets 𝓤 H (𝓖 .A) (givenOf 𝓤 H 𝓜 𝓖) (𝓜 .mem) (𝓡 .run) (tablesOf 𝓤 H 𝓜 (tables 𝓤 H 𝓜 𝓡 code.env))
-    (cited 𝓤 H (Flatten 𝓤 H (𝓖 .A) (𝓜 .mem) (𝓡 .run)) 𝓜 𝓡 code.env #records·flatten flatten-def.routine code.calls-records·flatten (flatten-thm.met 𝓤 H 𝓜 𝓖 𝓡))
+    (cited 𝓤 H (Flatten 𝓤 H (𝓖 .A) (𝓜 .mem) (𝓡 .run)) 𝓜 𝓡 code.env #records·flatten flatten-def.routine code.calls-records·flatten (flatten-thm.met 𝓤 H 𝓜 𝓖
+    𝓡))
     (cited 𝓤 H (Words 𝓤 H (𝓖 .A) (𝓜 .mem) (𝓡 .run)) 𝓜 𝓡 code.env #wire·inbox·receive words-def.routine
     code.calls-wire·inbox·receive (words-thm.met 𝓤 H 𝓜 𝓖 𝓡)))

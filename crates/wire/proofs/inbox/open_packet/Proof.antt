@@ -15,8 +15,12 @@ same-length c = search needs
 
 returns : tie.Need-returns
 returns c =
-    let A = c .before .before .before .before .before .before .before .before .args in
-    opened _ _ (A .run) (A .packet .now) (A .words .now) (c .before .before .read .last .1 .1 .1 .0) (c .before .before .read .result) (c .before .before .before .before .fingerprint .ensures) (c .before .before .before .before .before .before .before .before .pre) (c .before .before .read .ensures)
+    let at2 = c .before .before in
+    let at4 = at2 .before .before in
+    let at8 = at4 .before .before .before .before in
+    let A = at8 .args in
+    opened _ _ (A .run) (A .packet .now) (A .words .now) (at2 .read .last .1 .1 .1 .0) (at2 .read .result) (at4 .fingerprint .ensures) (at8 .pre) (at2 .read
+    .ensures)
 
 pub open-packet-spec : {M : Type 1} → statement M
 open-packet-spec = tie.close (tie.spec fingerprint-requires read-requires same-length returns)
