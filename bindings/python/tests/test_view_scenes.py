@@ -7,6 +7,7 @@ import json
 import os
 import re
 import signal
+import socket
 import struct
 import subprocess
 import unittest
@@ -265,8 +266,9 @@ class Served(InFolder):
 
     def setUp(self):
         super().setUp()
-        self.child = subprocess.Popen([*START, 'view', self.put('r', ROW_A), '--serve'], stdout=subprocess.PIPE, env=environment())
+        self.child = subprocess.Popen([*START, 'view', self.put('r', ROW_A), '--serve'], stdout=subprocess.PIPE, stderr=subprocess.PIPE, env=environment())
         self.addCleanup(self.child.stdout.close)
+        self.addCleanup(self.child.stderr.close)
         self.addCleanup(self.child.wait)
         self.addCleanup(self.child.kill)
         self.port, self.token = re.fullmatch(r'http://127\.0\.0\.1:(\d+)/([\w-]{22})/\n', self.child.stdout.readline().decode()).groups()
@@ -304,6 +306,22 @@ class Served(InFolder):
     def test_ends_with_the_terminal(self):
         self.child.send_signal(signal.SIGHUP)
         self.assertEqual(self.child.wait(timeout=10), -signal.SIGHUP)
+
+    def test_port_in_use(self):
+        self.ends(3, 'view', self.path('r'), '--serve', '--port', self.port, told='port %s of 127.0.0.1: Address already in use' % self.port)
+
+    def test_browser_that_goes_away(self):
+        """Who hangs up in the middle is not told of in the terminal, and others are answered."""
+        for words in (b'GET /%s/ HTTP/1.1\r\nHost: 127.0.0.1:%s\r\n\r\n', b'POST /%s/event HTTP/1.1\r\nHost: 127.0.0.1:%s\r\nContent-Length: 9\r\n\r\n{'):
+            for _ in range(5):
+                with socket.create_connection(('127.0.0.1', int(self.port))) as connection:
+                    connection.sendall(words % (self.token.encode(), self.port.encode()))
+                    # closed at once, what has come unread
+                    connection.setsockopt(socket.SOL_SOCKET, socket.SO_LINGER, struct.pack('ii', 1, 0))
+        self.assertEqual(self.asked('GET', '/%s/' % self.token)[0], 200)
+        self.child.send_signal(signal.SIGINT)
+        self.child.wait(timeout=10)
+        self.assertEqual(self.child.stderr.read(), b'')
 
     def test_ends_with_ctrl_c(self):
         self.child.send_signal(signal.SIGINT)

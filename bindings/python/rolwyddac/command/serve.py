@@ -10,6 +10,7 @@ from typing import Any, Callable, Dict, Optional, Type
 
 from ..view.live import Session
 from . import files
+from .faults import FileFault
 
 HOST = '127.0.0.1'
 # bytes of what a page may send
@@ -25,6 +26,8 @@ def _handler(page: bytes, session: Session, token: str) -> Type[http.server.Base
         """One request."""
 
         protocol_version = 'HTTP/1.1'
+        # seconds that it waits for a browser that says nothing
+        timeout = 60
 
         def _is_ours(self, path: str) -> bool:
             """Is it for this address, and does it have the token? A page of another site has neither."""
@@ -81,10 +84,22 @@ def _handler(page: bytes, session: Session, token: str) -> Type[http.server.Base
     return Handler
 
 
+class _Server(http.server.ThreadingHTTPServer):
+    """A thread for each connection; they end with the command."""
+
+    daemon_threads = True
+
+    def handle_error(self, request: Any, client_address: Any) -> None:
+        """A browser that goes away in the middle is no fault to be told."""
+
+
 def serve(page: bytes, session: Session, port: int, is_told: Callable[[str], None] = files.say) -> None:
     """Answers until the terminal ends it."""
     token = secrets.token_urlsafe(_TOKEN)
-    with http.server.ThreadingHTTPServer((HOST, port), _handler(page, session, token)) as server:
-        server.daemon_threads = True
+    try:
+        found = _Server((HOST, port), _handler(page, session, token))
+    except OSError as error:
+        raise FileFault('port %d of %s: %s' % (port, HOST, error.strerror)) from None
+    with found as server:
         is_told('http://%s:%d/%s/\n' % (HOST, server.server_address[1], token))
         server.serve_forever()
