@@ -1,278 +1,206 @@
 #define _POSIX_C_SOURCE 200809L
 #include "board.h"
 
-#include <inttypes.h>
-#include <stdbool.h>
+#include <math.h>
 #include <stdlib.h>
+#include <string.h>
 
 #include "clock.h"
-#include "join.h"
-#include "outbox.h"
-#include "packet.h"
+#include "mail.h"
+#include "part.h"
+#include "report.h"
 #include "tell.h"
 #include "work.h"
 
-struct peer {
-  bool finished; /* it has said farewell */
-  bool joined;   /* board 0 has its part */
-  double heard;  /* when it was last, by the time that this board has waited */
-};
+enum { MOST_AT_ONCE = 128 };
+
+/* seconds: how long a board that is busy does not look for mail; between two askings at least, and at most unless answers take longer; between two reports */
+static const double BUSY = 0.0005, LEAST_WAIT = 0.004, MOST_WAIT = 0.02, REPORT_EVERY = 0.1;
 
 struct board {
-  const struct options *options;
-  const struct plan *plan;
-  struct transport *transport;
+  struct net *net;
+  const struct job *job;
   uint32_t me;
-  struct areas areas;
-  struct areas *joined;
-  struct outbox outbox;
-  struct peer *peers; /* one a board; its own is not used */
-  uint32_t finished;  /* peers that are */
-  uint64_t taken;     /* messages taken in */
-  uint8_t *marks;     /* room for one byte a message */
-  double said;        /* when it last said that it is there */
-  struct waited waited;
+  struct mail mail;
+  uint32_t *part; /* once it has finished */
+  size_t part_words;
+  double part_posted;
   uint32_t tile_cells;
+  bool idle, finished, over;
+  enum status end;
+  double looked;            /* for mail */
+  double ask_due, ask_wait; /* the next asking, and how long after it the one behind */
+  double report_due, report_wait;
+  uint32_t reports;
+  double reported, trip; /* when the last one was posted; how long an answer takes */
+  bool handed_in;        /* its part is there */
+  struct waited waited;
+  double answered; /* when the coordinator last did */
 };
 
-/* a board that waits looks so many times in the timeout how long it has waited */
-enum { SLICES = 16 };
+/* ---- what it says */
 
-/* ---- arrivals */
-
-static enum status not_due(const struct packet *packet) {
-  return tell(STATUS_DAMAGED, "mail of board %" PRIu32 ": message %" PRIu32 " with %zu words is not due here", packet->from, packet->number,
-              packet->length);
+static struct report report_of(struct board *b) {
+  const rolwyddac_progress *record = b->mail.areas.progress + b->me;
+  struct report r = {.finished = record->finished, .stage = record->stage, .sent = record->sent, .done = b->finished, .counts = b->net->counts};
+  const rolwyddac_waiting at = areas_awaited(&b->mail.areas, b->me, b->mail.marks);
+  r.tile = at.tile;
+  for (uint32_t m = 0; m < plan_messages(&b->job->plan) && r.waits < MOST_AWAITED && at.number == ROLWYDDAC_DONE; m++)
+    if (b->mail.marks[m] != 0) r.awaited[r.waits++] = m;
+  return r;
 }
 
-/* the engine tests taker, length and status; who sent it only the plan's row can tell */
-static enum status take_in(struct board *b, const struct packet *packet) {
-  const uint32_t m = packet->number;
-  if (m < plan_messages(b->plan) && plan_message(b->plan, m)[ROLWYDDAC_ROW_SENDING_PROCESSOR] != packet->from) return not_due(packet);
-  const uint32_t number = areas_take_in(&b->areas, b->me, m, packet->words, packet->length);
-  switch (number) {
-    case ROLWYDDAC_DONE: b->taken++; return STATUS_DONE;
-    case ROLWYDDAC_NO_MAIL: return tell(STATUS_DONE, "message %" PRIu32 " of board %" PRIu32 " came again: turned away", m, packet->from);
-    case ROLWYDDAC_AREA:
-    case ROLWYDDAC_NO_SUCH: return not_due(packet);
-    default: return tell_refusal("taking in", number);
-  }
+static void post_report(struct board *b, enum kind kind) {
+  const struct report r = report_of(b);
+  uint32_t words[REPORT_WORDS];
+  memcpy(words, &r, sizeof r);
+  post_item(b->net, &b->mail.envelope, kind, COORDINATOR, ++b->reports, words, REPORT_WORDS, 0);
 }
 
-/* the areas to join in are made when the first part is there: at the start all others wait for board 0's first tile */
-static enum status make_joined(struct board *b) { return b->joined->plan != NULL ? STATUS_DONE : areas_make(b->joined, b->plan, b->areas.source); }
-
-static enum status join_part(struct board *b, const struct packet *packet) {
-  if (b->me != 0 || packet->length != join_length(b->plan))
-    return tell(STATUS_DAMAGED, "mail of board %" PRIu32 ": a part that is not due here", packet->from);
-  if (b->peers[packet->from].joined) return tell(STATUS_DONE, "the part of board %" PRIu32 " came again: turned away", packet->from);
-  const enum status status = make_joined(b);
-  if (status != STATUS_DONE) return status;
-  b->peers[packet->from].joined = true;
-  join_put(b->joined, packet->from, packet->words);
-  return STATUS_DONE;
+/* the chunks of its part that the coordinator has not */
+static uint32_t post_part(struct board *b, uint64_t there) {
+  b->part_posted = now();
+  return post_item(b->net, &b->mail.envelope, KIND_PART, COORDINATOR, b->me, b->part, b->part_words, there);
 }
 
-static enum status take_farewell(struct board *b, uint32_t from) {
-  if (!b->peers[from].finished) b->finished++;
-  b->peers[from].finished = true;
-  return STATUS_DONE;
+/* twice as long as an answer takes: a message is not to be asked for while it is on its way */
+static double first_wait(const struct board *b) { return fmax(2 * b->trip, LEAST_WAIT); }
+
+static void begin_to_wait(struct board *b, double time) {
+  b->ask_wait = first_wait(b);
+  b->ask_due = time + b->ask_wait;
 }
 
-static enum status take_packet(struct board *b, const struct packet *packet) {
-  switch (packet->kind) {
-    case PACKET_MESSAGE: return take_in(b, packet);
-    case PACKET_PART: return join_part(b, packet);
-    case PACKET_ALIVE: return STATUS_DONE;
-    case PACKET_FAREWELL: return take_farewell(b, packet->from);
-    case PACKET_ENDED: return packet->number == STATUS_DONE ? STATUS_LOST : (enum status)packet->number;
-    default: return tell(STATUS_DAMAGED, "mail of board %" PRIu32 " of no kind: %" PRIu32, packet->from, packet->kind);
-  }
-}
+/* the most between two askings, and between two reports of a board whose part is not there yet */
+static double most_wait(const struct board *b) { return fmax(MOST_WAIT, 4 * b->trip); }
 
-static enum status take_arrival(struct board *b, const struct arrival *arrival) {
-  struct packet packet;
-  const uint32_t from = arrival->from;
-  b->peers[from].heard = waited_seconds(&b->waited);
-  switch (packet_read(arrival->words, arrival->bytes, &b->outbox.key, &packet)) {
-    case PACKET_CUT: return tell(STATUS_DAMAGED, "mail of board %" PRIu32 " is cut: %zu bytes came", from, arrival->bytes);
-    case PACKET_CORRUPT: return tell(STATUS_DAMAGED, "mail of board %" PRIu32 " is corrupt: its check word is not that of what came", from);
-    case PACKET_STALE:
-      return tell(STATUS_DAMAGED, "mail of board %" PRIu32 " is stale: it is of run %" PRIu32 ", this is run %" PRIu32, from, packet.run,
-                  b->outbox.key.run);
-    case PACKET_WHOLE: break;
-  }
-  if (packet.from != from) return tell(STATUS_DAMAGED, "mail of board %" PRIu32 " came as mail of board %" PRIu32, packet.from, from);
-  return take_packet(b, &packet);
-}
+static double report_every(const struct board *b) { return fmin(b->job->timeout / 10, REPORT_EVERY); }
 
-/* says to the others that it is there, four times in the time that they wait */
-static enum status keep_in_touch(struct board *b) {
+static void keep_times(struct board *b) {
   const double time = now();
-  if (time - b->said < b->options->timeout / 4) return STATUS_DONE;
-  b->said = time;
-  return outbox_post_all(&b->outbox, PACKET_ALIVE, 0);
+  if (b->idle && !b->finished && time >= b->ask_due) {
+    mail_ask(&b->mail);
+    b->ask_due = time + b->ask_wait;
+    b->ask_wait = fmin(1.5 * b->ask_wait, most_wait(b));
+  }
+  if (time < b->report_due) return;
+  b->report_wait = b->finished && !b->handed_in ? fmin(1.5 * b->report_wait, most_wait(b)) : report_every(b);
+  b->report_due = time + b->report_wait;
+  b->reported = time;
+  post_report(b, KIND_STATE);
 }
 
-/* waits for one arrival, at most so many seconds, and no longer than a slice, and heeds it */
-static enum status look(struct board *b, double seconds) {
-  const enum status status = keep_in_touch(b);
-  if (status != STATUS_DONE) return status;
-  struct arrival arrival;
-  switch (transport_receive(b->transport, seconds < b->waited.slice ? seconds : b->waited.slice, &arrival)) {
-    case TRANSPORT_PACKET: return take_arrival(b, &arrival);
-    case TRANSPORT_CLOSED:
-      if (b->peers[arrival.from].finished) return STATUS_DONE;
-      return tell(STATUS_LOST, "board %" PRIu32 " is lost: it ended before it had finished", arrival.from);
-    case TRANSPORT_NOTHING: break;
+/* ---- what comes */
+
+static void take_beat(struct board *b, const struct letter *l) {
+  b->answered = waited_seconds(&b->waited);
+  if (l->line.item == b->reports) b->trip += (fmin(now() - b->reported, REPORT_EVERY) - b->trip) / 4;
+  b->handed_in = b->finished && l->line.count != MASK_WORDS;
+  /* a part that was posted a moment ago may be on its way */
+  if (b->finished && !b->handed_in && now() - b->part_posted > LEAST_WAIT) b->net->counts.of[COUNT_LOST] += post_part(b, mask_of(l->words));
+}
+
+static enum status take_message(struct board *b, const struct datagram *came, uint32_t message) {
+  bool taken = false;
+  const enum status status = mail_take(&b->mail, came, message, &taken);
+  if (taken) begin_to_wait(b, now());
+  return status;
+}
+
+static void take_from_coordinator(struct board *b, const struct letter *l) {
+  if (l->line.life != b->mail.envelope.life) {
+    post_count(b->net, ROLWYDDAC_STALE);
+  } else if (l->line.kind == KIND_BEAT) {
+    take_beat(b, l);
+  } else if (l->line.kind == KIND_END) {
+    b->over = true;
+    b->end = (enum status)l->line.item;
+  } else {
+    post_count(b->net, ROLWYDDAC_NO_SUCH);
   }
+}
+
+static enum status take_datagram(struct board *b, const struct datagram *came) {
+  struct letter l;
+  const uint32_t number = post_read(b->net, &b->mail.envelope, came, &l);
+  if (number != ROLWYDDAC_DONE) post_count(b->net, number);
+  else if (l.line.sender == COORDINATOR) take_from_coordinator(b, &l);
+  else if (l.line.kind == KIND_MESSAGE) return take_message(b, came, l.line.item);
+  else if (l.line.kind == KIND_ASK) mail_answer(&b->mail, &l);
+  else post_count(b->net, ROLWYDDAC_NO_SUCH);
   return STATUS_DONE;
 }
 
-/* ---- turns */
-
-/* which messages of which boards it waits for, and at which tile */
-static void tell_awaited(struct board *b) {
-  const rolwyddac_waiting at = areas_awaited(&b->areas, b->me, b->marks);
-  if (at.number != ROLWYDDAC_DONE) tell_refusal("asking what is awaited", at.number);
-  for (uint32_t m = 0; m < plan_messages(b->plan) && at.number == ROLWYDDAC_DONE; m++)
-    if (b->marks[m] != 0)
-      tell(STATUS_TIMEOUT, "waits at tile %" PRIu32 " for message %" PRIu32 " of board %" PRIu32, at.tile, m,
-           plan_message(b->plan, m)[ROLWYDDAC_ROW_SENDING_PROCESSOR]);
-}
-
-/* until a message is taken in */
-static enum status await_mail(struct board *b) {
-  const uint64_t before = b->taken;
-  const double until = waited_seconds(&b->waited) + b->options->timeout;
+static enum status take_mail(struct board *b) {
+  static struct datagram came;
   enum status status = STATUS_DONE;
-  while (b->taken == before && status == STATUS_DONE) {
-    const double left = until - waited_seconds(&b->waited);
-    if (left <= 0) status = tell(STATUS_TIMEOUT, "no mail for %g seconds", b->options->timeout);
-    else status = look(b, left);
-  }
-  if (status == STATUS_TIMEOUT) tell_awaited(b);
+  for (uint32_t k = 0; k < MOST_AT_ONCE && status == STATUS_DONE && !b->over && net_receive(b->net, &came); k++) status = take_datagram(b, &came);
+  b->looked = now();
   return status;
 }
 
-/* a board that never waits looks now and then: others are to hear of it, and their mail is not to pile up */
-static enum status look_now_and_then(struct board *b) {
-  const double time = now();
-  if (time - b->said < b->options->timeout / 4) return STATUS_DONE;
-  enum status status = STATUS_DONE;
-  for (uint32_t board = 0; board < plan_boards(b->plan) && status == STATUS_DONE; board++) status = look(b, 0);
-  return status;
-}
+/* ---- its life */
 
-/* what is to be done when a turn gave this number; `calculates`: it calculated a tile, if it gave 0 */
-static enum status after_turn(struct board *b, uint32_t number, bool calculates) {
-  if (number == ROLWYDDAC_WAITING) return await_mail(b);
-  if (number != ROLWYDDAC_DONE) return tell_refusal("turn", number);
-  if (calculates) work_on(b->tile_cells, b->options->work);
-  const enum status status = outbox_post_messages(&b->outbox, &b->areas);
-  return status == STATUS_DONE ? look_now_and_then(b) : status;
-}
-
-static enum status take_turns(struct board *b) {
-  enum { CALCULATE = 1 };
-  for (;;) {
-    const bool calculates = b->areas.progress[b->me].stage == CALCULATE;
-    const uint32_t number = areas_turn(&b->areas, b->me);
-    if (number == ROLWYDDAC_FINISHED) return STATUS_DONE;
-    const enum status status = after_turn(b, number, calculates);
-    if (status != STATUS_DONE) return status;
-  }
-}
-
-/* ---- the end of a board */
-
-/* a peer that has not been heard of for too long; those that have finished need not be */
-static enum status heard_of_all(struct board *b) {
-  const double time = waited_seconds(&b->waited);
-  for (uint32_t p = 0; p < plan_boards(b->plan); p++)
-    if (p != b->me && !b->peers[p].finished && time - b->peers[p].heard > b->options->timeout)
-      return tell(STATUS_TIMEOUT, "has finished, and nothing was heard of board %" PRIu32 " for %g seconds", p, b->options->timeout);
-  return STATUS_DONE;
-}
-
-static enum status await_farewells(struct board *b) {
-  enum status status = STATUS_DONE;
-  const double start = waited_seconds(&b->waited);
-  for (uint32_t p = 0; p < plan_boards(b->plan); p++) b->peers[p].heard = start;
-  while (status == STATUS_DONE && b->finished < plan_boards(b->plan) - 1) {
-    status = look(b, b->options->timeout);
-    if (status == STATUS_DONE) status = heard_of_all(b);
-  }
-  return status;
-}
-
-/* nothing is to come any more; its own mail is to be off */
-static enum status see_mail_off(struct board *b) {
-  const double until = waited_seconds(&b->waited) + b->options->timeout;
-  enum status status = STATUS_DONE;
-  while (status == STATUS_DONE && !transport_settled(b->transport)) {
-    status = look(b, 0.001);
-    if (status == STATUS_DONE && waited_seconds(&b->waited) > until)
-      status = tell(STATUS_TIMEOUT, "has finished, and its mail is not off after %g seconds", b->options->timeout);
-  }
-  return status;
-}
-
-static enum status hand_in(struct board *b) {
-  if (b->me != 0) return outbox_post_part(&b->outbox, &b->areas);
-  const enum status status = make_joined(b);
-  if (status == STATUS_DONE) join_own(b->joined, &b->areas, 0);
-  return status;
-}
-
-/* hands its part in, and stays until all others have finished: their last mail is heeded, if it is a repeat */
 static enum status finish(struct board *b) {
-  enum status status = hand_in(b);
-  if (status == STATUS_DONE) status = outbox_post_all(&b->outbox, PACKET_FAREWELL, 0);
-  if (status == STATUS_DONE) status = await_farewells(b);
-  if (status == STATUS_DONE) status = see_mail_off(b);
-  for (uint32_t p = 1; p < plan_boards(b->plan) && b->me == 0 && status == STATUS_DONE; p++)
-    if (!b->peers[p].joined) status = tell(STATUS_TIMEOUT, "the part of board %" PRIu32 " did not come", p);
-  return status;
+  b->finished = true;
+  b->part_words = part_length(b->job, b->me);
+  b->part = malloc(b->part_words * sizeof *b->part);
+  if (b->part == NULL) return tell_no_memory();
+  part_write(b->job, &b->mail.areas, b->me, b->part);
+  post_part(b, 0);
+  b->report_wait = first_wait(b);
+  b->report_due = now() + b->report_wait;
+  return STATUS_DONE;
 }
 
-/* tells the others that the run has ended, and sees the mail off for a moment. It does so too if another board has told it: whose end is found
- * closed has said why */
-static void end_early(struct board *b, enum status status) {
-  const double until = now() + 0.2;
-  struct arrival ignored;
-  if (outbox_post_all(&b->outbox, PACKET_ENDED, status) != STATUS_DONE) return;
-  while (!transport_settled(b->transport) && now() < until) (void)transport_receive(b->transport, 0.01, &ignored);
+/* one turn; the board is idle where it has to wait for mail */
+static enum status take_turn(struct board *b) {
+  enum { CALCULATE = 1 };
+  const bool was_idle = b->idle, calculates = b->mail.areas.progress[b->me].stage == CALCULATE;
+  const uint32_t number = areas_turn(&b->mail.areas, b->me);
+  b->idle = number != ROLWYDDAC_DONE;
+  if (number == ROLWYDDAC_FINISHED) return finish(b);
+  if (number != ROLWYDDAC_DONE && number != ROLWYDDAC_WAITING) return tell_refusal("turn", number);
+  if (b->idle && !was_idle) begin_to_wait(b, now());
+  if (!b->idle && calculates) work_on(b->tile_cells, b->job->work);
+  return b->idle ? STATUS_DONE : mail_post(&b->mail);
 }
 
-static enum status make(struct board *b, const struct job *job) {
-  const enum status status = outbox_make(&b->outbox, b->transport, b->plan, job->run);
+static enum status live(struct board *b) {
+  enum status status = STATUS_DONE;
+  while (status == STATUS_DONE && !b->over) {
+    if (b->idle) net_await(b->net, fmin(b->finished ? HUGE_VAL : b->ask_due, b->report_due) - now(), NULL);
+    if (b->idle || now() - b->looked > BUSY) status = take_mail(b);
+    if (status == STATUS_DONE && !b->over) keep_times(b);
+    if (status == STATUS_DONE && !b->over && !b->finished) status = take_turn(b);
+    if (status == STATUS_DONE && waited_seconds(&b->waited) - b->answered > b->job->timeout)
+      status = tell(STATUS_TIMEOUT, "nothing was heard of the coordinator for %g seconds", b->job->timeout);
+  }
+  if (b->over) post_report(b, KIND_BYE);
+  return b->over ? b->end : status;
+}
+
+static enum status make(struct board *b, uint64_t life, bool again) {
+  const struct envelope envelope = {b->job->fingerprint, b->job->run, life, b->me};
+  const double time = now();
+  b->trip = LEAST_WAIT / 2;
+  b->tile_cells = work_cells(&b->job->plan);
+  b->waited = waited_from_now(fmax(b->job->timeout / 16, REPORT_EVERY));
+  b->report_due = b->looked = time;
+  const enum status status = mail_make(&b->mail, b->net, b->job, &envelope);
   if (status != STATUS_DONE) return status;
-  b->peers = calloc(plan_boards(b->plan), sizeof *b->peers);
-  b->marks = malloc((size_t)plan_messages(b->plan) + 1);
-  if (b->peers == NULL || b->marks == NULL) return tell_no_memory();
-  return areas_make(&b->areas, b->plan, job->source);
+  /* the first turn of a board that waits at once: one that was there before need not be patient */
+  b->idle = true;
+  b->ask_wait = first_wait(b);
+  b->ask_due = time + (again ? 0 : b->ask_wait);
+  return take_turn(b);
 }
 
-enum status board_run(const struct options *options, const struct job *job, struct transport *transport, struct areas *joined) {
-  struct board b = {
-      .options = options,
-      .plan = &job->plan,
-      .transport = transport,
-      .me = transport_me(transport),
-      .joined = joined,
-      .said = now(),
-      .waited = waited_from_now(options->timeout / SLICES),
-      .tile_cells = work_cells(&job->plan),
-  };
-  enum status status = make(&b, job);
-  const bool made = status == STATUS_DONE;
-  if (made) status = take_turns(&b);
-  if (status == STATUS_DONE) status = finish(&b);
-  if (made && status != STATUS_DONE) end_early(&b, status);
-  outbox_free(&b.outbox);
-  areas_free(&b.areas);
-  free(b.peers);
-  free(b.marks);
+enum status board_run(struct net *net, const struct job *job, uint32_t me, uint64_t life, bool again) {
+  struct board b = {.net = net, .job = job, .me = me};
+  enum status status = make(&b, life, again);
+  if (status == STATUS_DONE) status = live(&b);
+  mail_free(&b.mail);
+  free(b.part);
   return status;
 }

@@ -1,10 +1,11 @@
 """Holds the program boards to the independent model and to its manual. Run as
 
-    python3 bindings/boards/check.py FOLDER [--mpi] [--seed 27] [--recipes 40]
+    python3 bindings/boards/check.py FOLDER [--seed 27] [--recipes 40]
 
-with the folder of a program linked with faults.c (bindings/boards/build FOLDER faults); with --mpi, boards_mpi there is started by mpirun. Rows A to
-F and seeded random recipes by each route, with random delays and in another order of mail: every grid is the model's, word for word. Faults: each
-ends with its status, tells its text, and leaves the grid's file as it was. The last line is `N runs, 0 wrong`; status 1 where one is wrong.
+with the folder of a program linked with faults.c (bindings/boards/build FOLDER faults sockets). Rows A to F and seeded random recipes by each route, without
+faults and with packets lost, repeated, late and damaged: every grid is the model's, word for word. Ends: each has its status, tells its text, and leaves the
+grid's file as it was. mpi/check.py does the same over MPI, storm.py has kills, halts and strangers. The last line is `N runs, 0 wrong`; status 1 where one is
+wrong.
 """
 
 import argparse
@@ -26,6 +27,8 @@ DONE, REFUSED, USAGE, TIMEOUT, DAMAGED, LOST, DIFFERS, FILE, MACHINE = range(9)
 OLD = b'what the file had before'
 # seconds that a board waits where mail does not come: more than a loaded machine keeps any board from running
 PATIENCE = '0.8'
+# what stands behind the line of a run over sockets
+COUNTS = r'; posted \d+ lost \d+ repeated \d+ dropped \d+( \([a-z0-9 ]*\))? restarts \d+'
 
 
 def words_of(values):
@@ -80,18 +83,22 @@ class Check:
         self.wrong += 1
         print('%s: %s; status %d\n%s' % (what, problem, ran.returncode, ran.stderr))
 
-    def sweeps(self, what, encoded, route, fault='', seed=1, said=''):
+    def program_bytes(self):
+        with open(self.program, 'rb') as file:
+            return file.read()
+
+    def sweeps(self, what, encoded, route, fault='', seed=1, said='', arguments=()):
         """A run of the recipe ends well, and its grid is the model's."""
         plan = model.plan_of(encoded, ROUTES[route])[1]
         source = [random.Random(seed).randrange(2 ** 32) for _ in range(plan.cells)]
-        arguments = [self.put('recipe', encoded), '--source', self.put('source', words_of(source)), '--grid', self.path('grid'), '--route', route]
-        ran = self.start(plan.boards, arguments, fault)
+        command = [self.put('recipe', encoded), '--source', self.put('source', words_of(source)), '--grid', self.path('grid'), '--route', route]
+        ran = self.start(plan.boards, command + list(arguments), fault)
         found = self.taken('grid') if ran.returncode == DONE else None
-        line = 'boards %d messages %d words %d: done, equal to the sweep, grid in %s\n' % (
+        line = 'boards %d messages %d words %d: done, equal to the sweep, grid in %s' % (
             plan.boards, len(plan.messages), plan.words, self.path('grid'))
         if found != words_of(plan.swept(source)):
             self.blame(what, ran, 'the grid is not the model\'s')
-        elif self.taken('said') != line.encode():
+        elif not re.fullmatch(re.escape(line) + ('' if self.mpi else COUNTS) + '\n', self.taken('said').decode()):
             self.blame(what, ran, 'it does not print %r' % line)
         elif said not in ran.stderr or (not said and ran.stderr):
             self.blame(what, ran, 'it says other than %r' % said)
@@ -136,89 +143,63 @@ def random_recipe(rng, most_boards):
 
 def check_rows(check):
     for row in 'ABCDEF':
-        for route in ROUTES if not check.mpi or row == 'C' else ['direct']:
+        for route in ROUTES:
             check.sweeps('row %s, %s' % (row, route), model.ROWS[row], route)
-    check.sweeps('row C, delays', model.ROWS['C'], 'indirect', 'BOARDS_DELAY=1:2000')
-    check.sweeps('row A, another order', model.ROWS['A'], 'direct', 'BOARDS_SHUFFLE=1')
 
 
 def check_random(check, seed, recipes):
     rng = random.Random(seed)
     for k in range(recipes):
-        encoded, shape = random_recipe(rng, 4 if check.mpi else 16)
+        encoded, shape = random_recipe(rng, 16)
         route = 'direct' if shape else rng.choice(list(ROUTES))
-        ways = ['', 'BOARDS_DELAY=%d:500' % k, 'BOARDS_SHUFFLE=%d' % k, 'BOARDS_DELAY=%d:300 BOARDS_SHUFFLE=%d' % (k, k)]
-        for way in [rng.choice(ways)] if check.mpi else ways:
+        for way in '', 'BOARDS_NET=30:0:0:0', 'BOARDS_NET=10:20:10:40':
             check.sweeps('random %d of seed %d, %s, %s' % (k, seed, route, way), encoded, route, way, seed=k)
-    if not check.mpi:
-        most = model.encode([16, 16, 4], [2, 2, 4], [8, 8, 0], [(1, 0, 0), (0, 1, 0), (1, 1, 1)])
-        check.sweeps('64 boards', most, 'indirect')
+    most = model.encode([16, 16, 4], [2, 2, 4], [8, 8, 0], [(1, 0, 0), (0, 1, 0), (1, 1, 1)])
+    check.sweeps('64 boards', most, 'indirect')
 
 
-def waits(plan, m):
-    message = plan.messages[m]
-    return 'board %d: waits at tile %d for message %d of board %d\n' % (
-        plan.board_of[message.taker], message.taker, m, plan.board_of[message.sender])
-
-
-def check_mail_faults(check, encoded, route, m):
-    """Mail that is lost, doubled, corrupted, cut, stale: of message m, and of the part of the board that sends it, if it is not board 0."""
-    plan = model.plan_of(encoded, ROUTES[route])[1]
-    sender, taker = plan.board_of[plan.messages[m].sender], plan.board_of[plan.messages[m].taker]
-    given = ['--seed', '1', '--route', route]
-    mail = 'board %d: mail of board %d is ' % (taker, sender)
-    size = 4 * (6 + len(plan.messages[m].cells))
-    label = ', message %d, %s' % (m, route)
-    check.ends('lost' + label, TIMEOUT, [waits(plan, m), ': no mail for %s seconds\n' % PATIENCE], encoded, given + ['--timeout', PATIENCE],
-               'BOARDS_FAULT=lost:%d' % m)
-    check.sweeps('doubled' + label, encoded, route, 'BOARDS_FAULT=doubled:%d' % m,
-                 said='board %d: message %d of board %d came again: turned away\n' % (taker, m, sender))
-    check.ends('corrupted' + label, DAMAGED, [mail + 'corrupt: its check word is not that of what came\n'], encoded, given, 'BOARDS_FAULT=corrupted:%d' % m)
-    check.ends('cut' + label, DAMAGED, [mail + 'cut: %d bytes came\n' % (size - 4)], encoded, given, 'BOARDS_FAULT=cut:%d' % m)
-    check.ends('stale' + label, DAMAGED, [mail + 'stale: it is of run 6, this is run 7\n'], encoded, given + ['--run', '7'], 'BOARDS_FAULT=stale:%d' % m)
-
-
-def check_board_faults(check, encoded, board):
-    """A board that is killed or halted, before its first message or before it hands in its part."""
-    plan = model.plan_of(encoded)[1]
-    first = min(m for m, message in enumerate(plan.messages) if plan.board_of[message.sender] == board)
+def check_timeouts(check):
+    """No board comes further: who waits for what of whom."""
+    for row, route, m in ('C', 'indirect', 3), ('A', 'direct', 7):
+        plan = model.plan_of(model.ROWS[row], ROUTES[route])[1]
+        message = plan.messages[m]
+        waits = 'boards: board %d waits at tile %d for message %d of board %d\n' % (
+            plan.board_of[message.taker], message.taker, m, plan.board_of[message.sender])
+        given = ['--seed', '1', '--route', route, '--timeout', PATIENCE]
+        check.ends('a message that never comes', TIMEOUT, ['boards: no board came further for %s seconds\n' % PATIENCE, waits], model.ROWS[row], given,
+                   'BOARDS_FAULT=mute:%d' % m)
     given = ['--seed', '1', '--timeout', PATIENCE]
-    check.ends('halted', TIMEOUT, [waits(plan, first)], encoded, given, 'BOARDS_FAULT=halted:%d' % board)
-    if check.mpi:
-        # mpirun ends the others, and tells it in its own words and by its own status
-        check.ends('killed', 137, ['exited on signal 9 (Killed)'], encoded, given, 'BOARDS_FAULT=killed:%d' % board)
-        check.ends('killed when all is posted', 137, ['exited on signal 9 (Killed)'], encoded, given, 'BOARDS_FAULT=killed-late:%d' % board)
-        late = ['board 0: has finished, and another board has not ended after %s seconds\n' % PATIENCE]
-        check.ends('halted when all is posted', TIMEOUT, late, encoded, given, 'BOARDS_FAULT=halted-late:%d' % board)
-        return
-    lost = ['boards: board %d was ended by signal 9\n' % board, ': board %d is lost: it ended before it had finished\n' % board]
-    check.ends('killed', LOST, lost, encoded, ['--seed', '1'], 'BOARDS_FAULT=killed:%d' % board)
-    check.ends('killed at its end', LOST, lost, encoded, ['--seed', '1'], 'BOARDS_FAULT=killed-part:%d' % board)
-    unheard = ': has finished, and nothing was heard of board %d for %s seconds\n' % (board, PATIENCE)
-    check.ends('halted at its end', TIMEOUT, [unheard], encoded, given, 'BOARDS_FAULT=halted-part:%d' % board)
-    late = ['boards: a board has not ended %s seconds after another\n' % PATIENCE]
-    check.ends('halted when all is posted', TIMEOUT, late, encoded, given, 'BOARDS_FAULT=halted-late:%d' % board)
+    again = 'boards: board 1 says nothing for %g seconds: it is started again\n' % (float(PATIENCE) / 2)
+    check.ends('a board that halts in each life', TIMEOUT, [again, ' of board 1\n'], model.ROWS['A'], given, 'BOARDS_FAULT=halted:1')
+    check.ends('all is lost', TIMEOUT, ['boards: board 0 was never heard of\n', 'boards: board 1 was never heard of\n'], model.ROWS['A'], given,
+               'BOARDS_NET=100:0:0:0')
 
 
-def check_strays(check):
-    """Mail of a run of another recipe, with this run's number: the check word is over the recipe too. Mail that is another board's."""
-    plan = model.plan_of(model.ROWS['C'])[1]
-    message = plan.messages[0]
-    wrong = (plan.board_of[message.taker] + 1) % plan.boards
-    stray = 'board %d: mail of board %d: message 0 with %d words is not due here\n' % (wrong, plan.board_of[message.sender], len(message.cells))
-    check.ends('misrouted', DAMAGED, [stray], model.ROWS['C'], ['--seed', '1'], 'BOARDS_FAULT=misrouted:0')
-    said = 'board 1: mail of board 0 is corrupt: its check word is not that of what came\n'
-    check.ends('foreign', DAMAGED, [said], model.ROWS['A'], ['--seed', '1'], 'BOARDS_FAULT=foreign:0')
-
-
-def check_part_faults(check):
-    encoded, given = model.ROWS['C'], ['--seed', '1', '--run', '9']
-    mail = 'board 0: mail of board 3 is '
-    check.ends('lost part', TIMEOUT, ['board 0: the part of board 3 did not come\n'], encoded, given, 'BOARDS_FAULT=lost-part:3')
-    check.sweeps('doubled part', encoded, 'direct', 'BOARDS_FAULT=doubled-part:3', said='board 0: the part of board 3 came again: turned away\n')
-    check.ends('corrupted part', DAMAGED, [mail + 'corrupt'], encoded, given, 'BOARDS_FAULT=corrupted-part:3')
-    check.ends('cut part', DAMAGED, [mail + 'cut'], encoded, given, 'BOARDS_FAULT=cut-part:3')
-    check.ends('stale part', DAMAGED, [mail + 'stale: it is of run 8, this is run 9\n'], encoded, given, 'BOARDS_FAULT=stale-part:3')
+def check_hosts(check):
+    """Hosts files and keys that are none."""
+    row, seed = model.ROWS['A'], ['--seed', '1']
+    here = b'127.0.0.1:%d\n'
+    two = check.put('two', here % 7001 + here % 7002 + here % 7003)
+    for what, content, said in [
+            ('no port', b'127.0.0.1\n', ': 127.0.0.1 is not host:port'),
+            ('no number', b'127.0.0.1:x\n', ': 127.0.0.1 port x: '),
+            ('one line', here % 7001, ': a line for the coordinator and one a board are asked for'),
+            ('too many', here % 7001 + b''.join(here % (7002 + k) for k in range(65)), ' has more than 65 lines'),
+            ('twice', here % 7001 + 2 * (here % 7002), ' has the same host and port twice'),
+            ('beyond loopback', b'192.0.2.1:7001\n192.0.2.2:7002\n192.0.2.3:7003\n', ' has addresses beyond this machine: --key is asked for'),
+            ('another number', here % 7001 + here % 7002, 'boards: the recipe has 2 boards, ')]:
+        check.ends('hosts: ' + what, USAGE, [said], row, seed + ['--hosts', check.put('hosts', content)])
+    check.ends('no hosts file', FILE, ["boards: can't open %s: No such file" % check.path('none')], row, seed + ['--hosts', check.path('none')])
+    for arguments in (['--board', '0'], ['--board', '0', '--hosts', two]):
+        check.ends('usage ' + ' '.join(arguments), USAGE, ['boards: --board goes with --hosts, and without recipe'], row, arguments)
+    if b'libsodium' in check.program_bytes():
+        os.chmod(check.put('key', bytes(20)), 0o600)
+        check.ends('a short key', FILE, [': a key has at least 32 bytes'], row, seed + ['--key', check.path('key')])
+        os.chmod(check.put('key', bytes(40)), 0o640)
+        check.ends("a key that others may read", FILE, [': others may read it'], row, seed + ['--key', check.path('key')])
+        os.chmod(check.path('key'), 0o600)
+        check.sweeps('a key', row, 'direct', arguments=['--key', check.path('key')])
+        check.sweeps('a key, faults', model.ROWS['C'], 'indirect', 'BOARDS_NET=20:10:10:20', arguments=['--key', check.path('key')])
 
 
 def check_files(check):
@@ -273,35 +254,16 @@ def check_manual(check):
         check.blame('help', ran, 'its statuses are not the manual\'s')
 
 
-def check_processes(check):
-    """What only MPI can meet, and ends that all processes have to agree on."""
-    row, seed = model.ROWS['A'], ['--seed', '1']
-    check.ends('processes', USAGE, ['the recipe has 2 boards and there are 3 processes: start it with mpirun -n 2\n'], row, seed, boards=3)
-    check.ends('ragged', REFUSED, ['boards: recipe refused 1, ragged: '], row[:-1], seed, boards=2)
-    check.ends('no source', FILE, ["boards: can't open %s: No such file or directory\n" % check.path('none')], row, ['--source', check.path('none')])
-    check.ends('differs', DIFFERS, ['boards: the grid differs from the sweep: cell 63 is '], row, seed, 'BOARDS_FAULT=differs:0')
-    plan = model.plan_of(row)[1]
-    ran = check.start(plan.boards, [check.put('recipe', row), '--grid', '-'] + seed)
-    if check.taken('said') != words_of(plan.swept(bed(1, plan.cells))) or not ran.stderr.endswith(', grid on standard output\n'):
-        check.blame('grid to standard output', ran, 'it is not there alone')
-
-
-def main(folder, mpi, seed, recipes):
+def main(folder, seed, recipes):
     with tempfile.TemporaryDirectory() as scratch:
-        check = Check(folder, mpi, scratch)
+        check = Check(folder, False, scratch)
         check_rows(check)
         check_random(check, seed, recipes)
-        check_mail_faults(check, model.ROWS['C'], 'indirect', 3)
-        check_board_faults(check, model.ROWS['A'], 1)
-        if mpi:
-            check_processes(check)
-        else:
-            check_mail_faults(check, model.ROWS['A'], 'direct', 7)
-            check_strays(check)
-            check_part_faults(check)
-            check_files(check)
-            check_refusals(check)
-            check_manual(check)
+        check_timeouts(check)
+        check_hosts(check)
+        check_files(check)
+        check_refusals(check)
+        check_manual(check)
         print('%d runs, %d wrong' % (check.runs, check.wrong))
         return 1 if check.wrong else 0
 
@@ -309,8 +271,7 @@ def main(folder, mpi, seed, recipes):
 if __name__ == '__main__':
     parser = argparse.ArgumentParser(description=__doc__, formatter_class=argparse.RawDescriptionHelpFormatter)
     parser.add_argument('folder')
-    parser.add_argument('--mpi', action='store_true')
     parser.add_argument('--seed', type=int, default=27)
     parser.add_argument('--recipes', type=int, default=40)
     given = parser.parse_args()
-    sys.exit(main(given.folder, given.mpi, given.seed, given.recipes))
+    sys.exit(main(given.folder, given.seed, given.recipes))

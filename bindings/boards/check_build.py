@@ -28,7 +28,7 @@ class Tree:
         self.library = os.path.join(scratch, 'lib')
         os.mkdir(self.library)
         shutil.copy(os.path.join(os.environ['ROLWYDDAC_LIB'], 'librolwyddac.a'), self.library)
-        self.compiler = self.write('cc', '#!/bin/sh\ncase "$*" in *--version*) ;; *) echo >> "%s/count"; sleep "${SLOW:-0}" ;; esac\nexec "%s" "$@" -O0\n' % (
+        self.compiler = self.write('cc', '#!/bin/sh\ncase "$*" in *--version*|*-E*) ;; *) echo >> "%s/count"; sleep "${SLOW:-0}" ;; esac\nexec "%s" "$@" -O0\n' % (
             scratch, shutil.which(os.environ.get('CC', 'cc'))))
         os.chmod(self.compiler, 0o755)
 
@@ -71,7 +71,7 @@ def main():
         tree.builds_so_often('run', 0, tree.start('run', '--version'))
         tree.builds_so_often('other flags', 1, tree.start('build', *once, CFLAGS='-O1'))
         tree.builds_so_often('the flags before', 1, tree.start('build', *once))
-        for name in ('bindings/boards/board.c', 'bindings/boards/plan.h', 'bindings/c/rolwyddac.h'):
+        for name in ('bindings/boards/board.c', 'bindings/boards/plan.h', 'bindings/boards/mpi/mpi.c', 'bindings/c/rolwyddac.h'):
             tree.write(name, '\n/* changed */\n', 'a')
             tree.builds_so_often('changed: ' + name, 1, tree.start('build', *once))
             tree.builds_so_often('unchanged: ' + name, 0, tree.start('build', *once))

@@ -7,6 +7,7 @@ wrong. What needs a right or a tool that is not there is named, and not run.
 """
 
 import os
+import re
 import resource
 import shutil
 import signal
@@ -18,7 +19,7 @@ import time
 
 sys.dont_write_bytecode = True
 sys.path.insert(0, os.path.dirname(os.path.abspath(__file__)))
-from check import DONE, FILE, OLD, USAGE, bed, model, words_of  # noqa: E402
+from check import COUNTS, DONE, FILE, OLD, TIMEOUT, USAGE, bed, model, words_of  # noqa: E402
 
 ROW = model.ROWS['A']
 PLAN = model.plan_of(ROW)[1]
@@ -109,8 +110,12 @@ class Host:
 
     def swept(self, what, ran, grid='grid', said=''):
         """It ended well, said so in its line, and the grid is there and nothing else that was not."""
-        line = '%s%s\n' % (DONE_LINE, said or ', grid in %s' % grid)
-        self.holds(what, ran.returncode == DONE and ran.stdout == line.encode() and not ran.stderr and self.got(grid) == GRID, ran)
+        self.holds(what, ran.returncode == DONE and is_line(ran.stdout, said or ', grid in %s' % grid) and not ran.stderr and self.got(grid) == GRID, ran)
+
+
+def is_line(out, more):
+    """Is that the line of a run that ended well, with this behind it?"""
+    return re.fullmatch(re.escape(DONE_LINE + more) + COUNTS + '\n', out.decode())
 
 
 def check_strangers(host):
@@ -136,15 +141,6 @@ def check_ignored_children(host):
     host.fresh()
     ran = host.run(host.arguments('--grid', 'grid'), preexec_fn=lambda: signal.signal(signal.SIGCHLD, signal.SIG_IGN))
     host.swept('SIGCHLD ignored', ran)
-
-
-def check_late_faults(host):
-    """A board that fails when the grid is collected already: the run fails, so no grid is in place."""
-    for fault, status in (('halted-late:1', 3), ('killed-late:1', 5)):
-        host.fresh()
-        host.put('grid', OLD)
-        ran = host.run(host.arguments('--grid', 'grid', '--timeout', '0.8'), 'BOARDS_FAULT=' + fault)
-        host.holds(fault, ran.returncode == status and host.got('grid') == OLD and not ran.stdout, ran)
 
 
 def check_command_line(host):
@@ -182,11 +178,10 @@ def check_closed_files(host):
         host.holds('closed: %s' % (closed,), ran.returncode == status and host.got('grid') == GRID and (status != DONE or ran.stdout), ran)
         if closed == (1,):
             host.fails('closed: 1', "can't write to standard output: Bad file descriptor", ran)
-    # what board 0 tells goes nowhere, and to no other board
-    repeated = next(m for m, message in enumerate(PLAN.messages) if PLAN.board_of[message.taker] == 0)
+    # what is told goes nowhere, and to no board
     host.fresh()
-    ran = host.run(['sh', '-c', 'exec "$@" 0>&- 1>&- 2>&-', 'sh'] + host.arguments('--grid', 'grid'), 'BOARDS_FAULT=doubled:%d' % repeated)
-    host.holds('closed, and something to tell', ran.returncode == FILE and host.got('grid') == GRID, ran)
+    ran = host.run(['sh', '-c', 'exec "$@" 0>&- 1>&- 2>&-', 'sh'] + host.arguments('--grid', 'grid', '--timeout', '0.5'), 'BOARDS_FAULT=mute:0')
+    host.holds('closed, and something to tell', ran.returncode == TIMEOUT and not host.got('grid'), ran)
 
 
 def check_links(host):
@@ -273,11 +268,11 @@ def check_output(host):
         host.fresh()
         os.symlink('/dev/stdout', host.path('output'))
         ran = host.run(host.arguments('--grid', grid), preexec_fn=host.as_nobody())
-        said = (DONE_LINE + ', grid on standard output\n').encode()
-        host.holds('grid to ' + grid, ran.returncode == DONE and ran.stdout == GRID and ran.stderr == said and os.path.islink(host.path('output')), ran)
+        said = ', grid on standard output'
+        host.holds('grid to ' + grid, ran.returncode == DONE and ran.stdout == GRID and is_line(ran.stderr, said) and os.path.islink(host.path('output')), ran)
         with open(host.path('kept'), 'wb') as kept:
             ran = host.run(host.arguments('--grid', grid, '--times'), stdout=kept, preexec_fn=host.as_nobody())
-        host.holds('grid to %s, which is a file' % grid, ran.returncode == DONE and host.got('kept') == GRID and ran.stderr.endswith(said), ran)
+        host.holds('grid to %s, which is a file' % grid, ran.returncode == DONE and host.got('kept') == GRID and is_line(ran.stderr.partition(b'\n')[2], said), ran)
         host.holds('grid to ' + grid, host.files() == ['kept', 'output', 'recipe'], ran)
 
 
@@ -301,15 +296,11 @@ def check_temporary_files(host):
 def check_stops(host):
     """All processes stopped for longer than the timeout, as by Ctrl-Z, and then continued."""
     host.fresh()
-    host.runs += 1
-    environment = dict(os.environ, BOARDS_FAULT='stopped:1')
-    with subprocess.Popen(host.arguments('--grid', 'grid', '--timeout', '0.8'), cwd=host.folder, env=environment, stdout=subprocess.PIPE,
-                          stderr=subprocess.PIPE, start_new_session=True) as started:
-        os.waitid(os.P_PID, started.pid, os.WSTOPPED | os.WEXITED | os.WNOWAIT)
-        time.sleep(2)
-        os.killpg(started.pid, signal.SIGCONT)
-        out, said = started.communicate()
-        host.swept('stopped', subprocess.CompletedProcess([], started.returncode, out, said))
+    started = Started(host, host.arguments('--grid', 'grid', '--timeout', '2'), env=dict(os.environ, BOARDS_FAULT='stopped:1'))
+    os.waitid(os.P_PID, started.process.pid, os.WSTOPPED | os.WEXITED | os.WNOWAIT)
+    time.sleep(3)
+    os.killpg(started.process.pid, signal.SIGCONT)
+    host.swept('stopped', started.end())
 
 
 def check_names(host):
@@ -441,7 +432,6 @@ def main(folder):
         host = Host(folder, scratch)
         check_strangers(host)
         check_ignored_children(host)
-        check_late_faults(host)
         check_command_line(host)
         check_pipes(host)
         check_closed_files(host)

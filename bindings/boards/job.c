@@ -1,82 +1,96 @@
-#define _POSIX_C_SOURCE 200809L
 #include "job.h"
 
-#include <inttypes.h>
 #include <stdlib.h>
-#include <time.h>
-#include <unistd.h>
+#include <string.h>
 
+#include "source.h"
 #include "tell.h"
 
-/* all have the reader's status: none goes on where the reader does not */
-static enum status agreed(struct transport *transport, enum status status) {
-  transport_share(transport, &status, sizeof status);
-  return status;
-}
+/* places of a share's words: then the recipe's bytes, four a word, and the source's words at the board's own cells */
+enum { CHECK_LOW, CHECK_HIGH, CHECKED, ROUTE = CHECKED, MILLISECONDS, WORK, AGAIN, RUN_LOW, RUN_HIGH, RECIPE_BYTES, SHARE };
 
-static enum status read_recipe(struct job *job, const struct options *options, struct transport *transport) {
-  const bool reads = transport_reads(transport);
-  enum status status = agreed(transport, reads ? file_read(options->recipe, &job->recipe) : STATUS_DONE);
+/* the plan of the recipe that is there, and room for the source */
+static enum status make(struct job *job, uint32_t route) {
+  const enum status status = plan_make(&job->plan, job->recipe.at, job->recipe.length, route);
   if (status != STATUS_DONE) return status;
-  transport_share(transport, &job->recipe.length, sizeof job->recipe.length);
-  if (!reads) job->recipe.at = malloc(job->recipe.length + 1);
-  if (job->recipe.at == NULL) return tell_no_memory();
-  transport_share(transport, job->recipe.at, job->recipe.length);
-  return plan_make(&job->plan, job->recipe.at, job->recipe.length, options->route);
-}
-
-/* words of four bytes, low byte first */
-static enum status read_source(struct job *job, const char *name) {
-  struct bytes file;
-  enum status status = file_read(name, &file);
   const uint32_t cells = plan_cells(&job->plan);
-  if (status == STATUS_DONE && file.length != 4 * (size_t)cells)
-    status = tell(STATUS_FILE, "%s has %zu bytes: a source of %" PRIu32 " cells has %zu", name, file.length, cells, 4 * (size_t)cells);
-  for (uint32_t c = 0; c < cells && status == STATUS_DONE; c++) {
-    const uint8_t *word = file.at + 4 * (size_t)c;
-    job->source[c] = (uint32_t)word[0] | (uint32_t)word[1] << 8 | (uint32_t)word[2] << 16 | (uint32_t)word[3] << 24;
-  }
-  free(file.at);
-  return status;
+  job->source = calloc(cells, sizeof *job->source);
+  job->owners = calloc(cells, sizeof *job->owners);
+  if (job->source == NULL || job->owners == NULL) return tell_no_memory();
+  job->fingerprint = rolwyddac_fingerprint(job->recipe.at, job->recipe.length, route);
+  const uint32_t number = rolwyddac_owners(job->recipe.at, job->recipe.length, job->owners, cells);
+  return number == ROLWYDDAC_DONE ? STATUS_DONE : tell_refusal("owners", number);
 }
 
-/* SplitMix64, the upper half of each number */
-static enum status make_source(struct job *job, uint32_t seed) {
-  uint64_t state = seed;
+enum status job_read(struct job *out, const struct options *options) {
+  *out = (struct job){.timeout = options->timeout, .work = options->work};
+  enum status status = file_read(options->recipe, &out->recipe);
+  if (status == STATUS_DONE) status = make(out, options->route);
+  if (status == STATUS_DONE) status = source_read(&out->plan, options, out->source);
+  if (status != STATUS_DONE) return status;
+  /* the words as this machine has them: the engine's archive is for one architecture */
+  out->run = rolwyddac_fingerprint((const uint8_t *)out->source, plan_cells(&out->plan) * sizeof *out->source, options->run);
+  return STATUS_DONE;
+}
+
+/* of all words behind it */
+static uint64_t check_of(const uint32_t *words, uint32_t length) {
+  return rolwyddac_fingerprint((const uint8_t *)(words + CHECKED), (length - CHECKED) * sizeof *words, 0);
+}
+
+bool job_holds(const uint32_t *words, uint32_t length) {
+  return length >= SHARE && check_of(words, length) == (words[CHECK_LOW] | (uint64_t)words[CHECK_HIGH] << 32);
+}
+
+uint32_t job_words(const struct job *job, uint32_t board, bool again, uint32_t *words) {
+  const uint32_t bytes = (uint32_t)job->recipe.length, recipe = (bytes + 3) / 4;
+  words[ROUTE] = job->plan.route, words[MILLISECONDS] = (uint32_t)(1000 * job->timeout), words[WORK] = job->work, words[AGAIN] = again;
+  words[RUN_LOW] = (uint32_t)job->run, words[RUN_HIGH] = (uint32_t)(job->run >> 32), words[RECIPE_BYTES] = bytes;
+  memset(words + SHARE, 0, recipe * sizeof *words);
+  memcpy(words + SHARE, job->recipe.at, bytes);
+  uint32_t length = SHARE + recipe;
+  for (uint32_t c = 0; c < plan_cells(&job->plan); c++)
+    if (job->owners[c] == board) words[length++] = job->source[c];
+  const uint64_t check = check_of(words, length);
+  words[CHECK_LOW] = (uint32_t)check, words[CHECK_HIGH] = (uint32_t)(check >> 32);
+  return length;
+}
+
+/* the source's words at the board's own cells; are there as many as it has? */
+static bool take_source(struct job *job, uint32_t board, const uint32_t *words, uint32_t length) {
+  uint32_t taken = 0;
   for (uint32_t c = 0; c < plan_cells(&job->plan); c++) {
-    uint64_t mixed = state += 0x9e3779b97f4a7c15;
-    mixed = (mixed ^ mixed >> 30) * 0xbf58476d1ce4e5b9;
-    mixed = (mixed ^ mixed >> 27) * 0x94d049bb133111eb;
-    job->source[c] = (uint32_t)((mixed ^ mixed >> 31) >> 32);
+    if (job->owners[c] != board) continue;
+    if (taken == length) return false;
+    job->source[c] = words[taken++];
   }
-  return STATUS_DONE;
+  return taken == length;
 }
 
-/* another one for each run: mail of an earlier one is told */
-static uint32_t make_run_number(void) {
-  struct timespec t;
-  clock_gettime(CLOCK_REALTIME, &t);
-  return (uint32_t)t.tv_sec * 1000003u ^ (uint32_t)t.tv_nsec ^ (uint32_t)getpid() << 16;
-}
-
-enum status job_read(struct job *out, const struct options *options, struct transport *transport) {
+enum status job_take(struct job *out, uint32_t board, const uint32_t *words, uint32_t length, bool *again) {
   *out = (struct job){0};
-  enum status status = read_recipe(out, options, transport);
+  const uint32_t bytes = length < SHARE ? 0 : words[RECIPE_BYTES], start = SHARE + (bytes + 3) / 4;
+  if (length < SHARE || bytes > ROLWYDDAC_MOST_RECIPE_BYTES || length < start) return tell(STATUS_DAMAGED, "a job that is none");
+  out->recipe = (struct bytes){.at = malloc(bytes + 1), .length = bytes};
+  if (out->recipe.at == NULL) return tell_no_memory();
+  memcpy(out->recipe.at, words + SHARE, bytes);
+  const enum status status = make(out, words[ROUTE]);
   if (status != STATUS_DONE) return status;
-  const size_t cells = plan_cells(&out->plan);
-  out->source = malloc(cells * sizeof *out->source);
-  if (out->source == NULL) return tell_no_memory();
-  if (transport_reads(transport)) status = options->source != NULL ? read_source(out, options->source) : make_source(out, options->seed);
-  status = agreed(transport, status);
-  if (status != STATUS_DONE) return status;
-  transport_share(transport, out->source, cells * sizeof *out->source);
-  out->run = options->numbered ? options->run : make_run_number();
-  transport_share(transport, &out->run, sizeof out->run);
+  out->run = words[RUN_LOW] | (uint64_t)words[RUN_HIGH] << 32;
+  out->timeout = words[MILLISECONDS] / 1e3, out->work = words[WORK], *again = words[AGAIN] != 0;
+  if (board >= plan_boards(&out->plan) || !take_source(out, board, words + start, length - start)) return tell(STATUS_DAMAGED, "a job that is not for this board");
   return STATUS_DONE;
+}
+
+uint32_t job_cells(const struct job *job, uint32_t board) {
+  uint32_t cells = 0;
+  for (uint32_t c = 0; c < plan_cells(&job->plan); c++) cells += job->owners[c] == board;
+  return cells;
 }
 
 void job_free(struct job *job) {
   plan_free(&job->plan);
   free(job->recipe.at);
   free(job->source);
+  free(job->owners);
 }

@@ -1,102 +1,117 @@
-/* boards: sweeps a recipe on boards that share no memory, one process a board. MANUAL.md says how it is used and what it promises. */
+/* boards: sweeps a recipe on boards that share no memory and may die at any time, one process a board, over a network that may lose any packet. MANUAL.md
+ * says how it is used and what it promises. */
 #define _POSIX_C_SOURCE 200809L
 #include <errno.h>
 #include <inttypes.h>
+#include <math.h>
 #include <stdbool.h>
 #include <stdio.h>
 #include <stdlib.h>
 #include <string.h>
+#include <unistd.h>
 
 #include "board.h"
-#include "clock.h"
-#include "grid.h"
-#include "job.h"
+#include "coordinator.h"
+#include "harvest.h"
+#include "join.h"
 #include "options.h"
 #include "process.h"
-#include "status.h"
 #include "tell.h"
-#include "transport.h"
-#include "work.h"
 
-/* how long the run took, from the moment at which all boards were there until the grid was collected; beside it one processor's sweep, and
- * the same with the extra work of all tiles */
-static enum status print_times(const struct options *options, const struct job *job, double run, bool on_error) {
-  const struct plan *plan = &job->plan;
-  uint32_t *swept = calloc(plan->sizes.grid, sizeof *swept);
-  if (swept == NULL) return tell_no_memory();
-  const rolwyddac_figures totals = rolwyddac_summary(plan->recipe, plan->recipe_length, plan->route);
-  uint32_t number = totals.number;
-  const double start = now();
-  if (number == ROLWYDDAC_DONE) number = rolwyddac_sweep(plan->recipe, plan->recipe_length, job->source, plan->sizes.source, swept, plan->sizes.grid);
-  const double sweep = now() - start;
-  free(swept);
-  if (number != ROLWYDDAC_DONE) return tell_refusal("sweep", number);
-  work_on(totals.tiles * work_cells(plan), options->work);
-  const double heavy = now() - start;
-  return say(on_error, "run %.1f us, sweep %.1f us, sweep with the extra work %.1f us", 1e6 * run, 1e6 * sweep, 1e6 * heavy);
+/* The socket of the process that this is, where a hosts file says where all are. */
+static enum status take_place(const struct options *options, struct hosts *hosts, uint32_t node, int *out) {
+  const enum status status = hosts_read(hosts, options->hosts);
+  if (status != STATUS_DONE) return status;
+  if (!hosts_has(hosts, node)) return tell(STATUS_USAGE, "%s has no board %" PRIu32, options->hosts, node);
+  if (!hosts->loopback && options->key == NULL) return tell(STATUS_USAGE, "%s has addresses beyond this machine: --key is asked for", options->hosts);
+  return net_open(&hosts->node[node], out);
 }
 
-static enum status print_done(const struct options *options, const struct job *job, bool on_error) {
-  const struct plan *plan = &job->plan;
-  const char *verified = options->verify ? ", equal to the sweep" : "";
-  const char *in = options->grid == NULL ? "" : on_error ? ", grid on standard output" : ", grid in ";
-  return say(on_error, "boards %" PRIu32 " messages %" PRIu32 " words %zu: done%s%s%s", plan_boards(plan), plan_messages(plan), plan->sizes.buffer,
-             verified, in, options->grid == NULL || on_error ? "" : options->grid);
-}
+/* ---- a board of a hosts file */
 
-/* what is left to be done once no board can fail any more */
-static enum status harvest(const struct options *options, const struct job *job, const struct outcome *outcome) {
-  enum status status = STATUS_DONE;
-  /* where the grid goes to standard output nothing else does */
-  const bool on_error = options->grid != NULL && file_is_output(options->grid);
-  tell_as_run();
-  if (options->verify) status = grid_verify(job, outcome->grid);
-  if (status == STATUS_DONE && options->times) status = print_times(options, job, outcome->seconds, on_error);
-  if (status == STATUS_DONE && options->grid != NULL) status = grid_write(&job->plan, outcome->grid, options->grid);
-  if (status == STATUS_DONE) status = print_done(options, job, on_error);
-  return status;
-}
-
-static enum status be_a_board(const struct options *options, const struct job *job, struct transport *transport, struct outcome *outcome) {
-  const double start = now();
-  struct areas joined = {0};
-  tell_as(transport_me(transport));
-  enum status status = board_run(options, job, transport, &joined);
-  if (status == STATUS_DONE && transport_me(transport) == 0) {
-    status = grid_collect(&joined, outcome->grid);
-    outcome->seconds = now() - start;
-    if (status == STATUS_DONE) status = transport_hand_in(transport, outcome, outcome_length(&job->plan));
+static enum status be_a_board(const struct options *options, const struct key *key) {
+  static struct hosts hosts;
+  struct job job = {0};
+  struct net net = {.socket = -1, .hosts = &hosts, .key = key};
+  const uint64_t life = net_chance();
+  bool again = false;
+  enum status status = take_place(options, &hosts, options->board, &net.socket);
+  if (status == STATUS_DONE) {
+    process_before_end(NULL);
+    tell_as(options->board);
+    status = join(&net, options->board, life, options->limited ? options->timeout : HUGE_VAL, &job, &again);
   }
-  areas_free(&joined);
+  if (status == STATUS_DONE && plan_boards(&job.plan) != hosts.boards) status = tell(STATUS_USAGE, "the run has another number of boards than the hosts file");
+  if (status == STATUS_DONE) status = board_run(&net, &job, options->board, life, again);
+  job_free(&job);
+  if (net.socket >= 0) close(net.socket);
   return status;
 }
 
-static enum status run(const struct options *options, struct transport *transport) {
+/* ---- the coordinator */
+
+static enum status open_all(const struct options *options, const struct job *job, struct hosts *hosts, struct crew *crew, int *socket) {
+  const uint32_t boards = plan_boards(&job->plan);
+  if (options->hosts == NULL) return crew_make(crew, hosts, boards, socket);
+  const enum status status = take_place(options, hosts, COORDINATOR, socket);
+  if (status == STATUS_DONE && hosts->boards != boards)
+    return tell(STATUS_USAGE, "the recipe has %" PRIu32 " boards, %s has %" PRIu32, boards, options->hosts, hosts->boards);
+  if (status == STATUS_DONE) process_before_end(NULL);
+  return status;
+}
+
+/* what stands behind the line of a run that ended well */
+static void write_counts(char *out, size_t room, const struct outcome *outcome) {
+  const uint32_t *c = outcome->counts.of;
+  const uint32_t dropped = c[COUNT_DAMAGED] + c[COUNT_FORGED] + c[COUNT_STALE] + c[COUNT_STRAY] + c[COUNT_EARLY];
+  char of[160] = "";
+  if (dropped > 0)
+    snprintf(of, sizeof of, " (damaged %" PRIu32 " forged %" PRIu32 " stale %" PRIu32 " stray %" PRIu32 " early %" PRIu32 ")", c[COUNT_DAMAGED], c[COUNT_FORGED],
+             c[COUNT_STALE], c[COUNT_STRAY], c[COUNT_EARLY]);
+  snprintf(out, room, "; posted %" PRIu32 " lost %" PRIu32 " repeated %" PRIu32 " dropped %" PRIu32 "%s restarts %" PRIu32, c[COUNT_POSTED], c[COUNT_LOST],
+           c[COUNT_REPEATED], dropped, of, outcome->restarts);
+}
+
+/* a board that was started just now: it has the job, and a socket of its own */
+static _Noreturn void be_started(const struct job *job, const struct crew *crew, const struct net *coordinator, uint32_t board, bool again) {
+  struct net net = {.socket = crew->hand[board].socket, .hosts = coordinator->hosts, .key = coordinator->key};
+  close(coordinator->socket);
+  tell_as(board);
+  _exit((int)board_run(&net, job, board, net_chance(), again));
+}
+
+static enum status run(const struct options *options, const struct key *key) {
+  static struct hosts hosts;
+  static struct crew crew;
   struct job job;
-  struct outcome *outcome = NULL;
-  bool board = false;
-  enum status status = job_read(&job, options, transport);
-  if (status == STATUS_DONE && (outcome = malloc(sizeof *outcome)) == NULL) status = tell_no_memory();
-  if (status == STATUS_DONE) status = transport_begin(transport, plan_boards(&job.plan), options->timeout, &board);
-  if (status == STATUS_DONE && board) status = be_a_board(options, &job, transport, outcome);
-  if (status == STATUS_DONE) status = transport_end(transport, options->timeout, outcome, outcome_length(&job.plan));
-  if (status == STATUS_DONE && transport_reads(transport)) status = harvest(options, &job, outcome);
-  free(outcome);
+  struct outcome outcome = {0};
+  struct net net = {.socket = -1, .hosts = &hosts, .key = key};
+  uint32_t board = COORDINATOR;
+  bool again = false;
+  char counts[320];
+  enum status status = job_read(&job, options);
+  if (status == STATUS_DONE) status = open_all(options, &job, &hosts, &crew, &net.socket);
+  if (status == STATUS_DONE) status = coordinate(&job, &net, options->hosts == NULL ? &crew : NULL, &outcome, &board, &again);
+  if (board != COORDINATOR) be_started(&job, &crew, &net, board, again);
+  if (options->hosts == NULL && crew.boards > 0) crew_close(&crew);
+  else process_end_as_usual();
+  if (net.socket >= 0) close(net.socket);
+  write_counts(counts, sizeof counts, &outcome);
+  if (status == STATUS_DONE) status = harvest(options, &job.plan, job.source, outcome.grid, outcome.seconds, counts);
+  free(outcome.grid);
   job_free(&job);
   return status;
 }
 
 int main(int argc, char **argv) {
-  process_prepare();
-  struct transport *transport = transport_open(&argc, &argv);
-  if (transport == NULL) return STATUS_MACHINE;
-  if (!transport_reads(transport)) tell_nothing();
+  static struct key key;
   struct options options;
   bool over = false;
-  enum status status = options_read(argc, argv, transport_reads(transport), &options, &over);
-  if (status == STATUS_DONE && !over) status = run(&options, transport);
+  process_prepare();
+  enum status status = options_read(argc, argv, true, &options, &over);
+  if (status == STATUS_DONE && !over && options.key != NULL) status = key_read(&key, options.key);
+  if (status == STATUS_DONE && !over) status = options.boarded ? be_a_board(&options, &key) : run(&options, &key);
   /* --help and --version */
   if (fflush(stdout) != 0 && status == STATUS_DONE) status = tell(STATUS_FILE, "can't write to standard output: %s", strerror(errno));
-  transport_close(transport, status);
   return (int)status;
 }

@@ -11,14 +11,18 @@
 #include "tell.h"
 
 static const char usage[] =
-    "usage: boards RECIPE (--source FILE | --seed NUMBER) [OPTION..]\n"
+    "usage: boards RECIPE (--source FILE | --seed NUMBER) [OPTION..]   coordinates a run, and starts its boards here unless --hosts is given\n"
+    "       boards --board NUMBER --hosts FILE [OPTION..]              is one board of whatever run the coordinator has\n"
     "Sweeps a recipe on boards that share no memory, one process a board.\n"
     "  --source FILE      one word a cell, four bytes each, low byte first\n"
     "  --seed NUMBER      words made from this number instead\n"
     "  --route ROUTE      direct (as it is where not given) or indirect\n"
     "  --grid FILE        write the grid there, as the source has it: whole or not at all; - is standard output\n"
-    "  --timeout SECONDS  how long a board waits for mail, 10 where not given\n"
-    "  --run NUMBER       the run's number, by which stale mail is told; made from the clock where not given\n"
+    "  --hosts FILE       where they are: a line host:port for the coordinator, then one a board\n"
+    "  --key FILE         a secret of 32 bytes or more that all have, by which packets are signed; asked for beyond loopback\n"
+    "  --board NUMBER     be this board\n"
+    "  --timeout SECONDS  how long no board may come further, 10 where not given; with --board how long it asks for a job, for ever where not given\n"
+    "  --run NUMBER       makes another run of the same source; 0 where not given\n"
     "  --no-verify        do not hold the grid to the sweep of one processor (--verify, as it is where not given)\n"
     "  --work ROUNDS      extra work for each cell, to measure with; the grid stays the same\n"
     "  --times            print how long the run and the sweep took\n"
@@ -26,7 +30,7 @@ static const char usage[] =
     "Exit: 0 done, 1 refused by the engine, 2 usage, 3 timeout, 4 damaged mail, 5 a board lost, 6 grid differs,\n"
     "      7 a file can't be read or written, 8 no memory, process or socket\n";
 
-enum option { SOURCE, SEED, ROUTE, GRID, TIMEOUT, RUN, VERIFY, NO_VERIFY, WORK, TIMES, HELP, VERSION };
+enum option { SOURCE, SEED, ROUTE, GRID, HOSTS, KEY, BOARD, TIMEOUT, RUN, VERIFY, NO_VERIFY, WORK, TIMES, HELP, VERSION };
 
 /* getopt_long is not asked: it takes an abbreviation for an option, and takes no option behind RECIPE where POSIXLY_CORRECT is set */
 static const struct name {
@@ -38,6 +42,9 @@ static const struct name {
     {"--seed", SEED, true},
     {"--route", ROUTE, true},
     {"--grid", GRID, true},
+    {"--hosts", HOSTS, true},
+    {"--key", KEY, true},
+    {"--board", BOARD, true},
     {"--timeout", TIMEOUT, true},
     {"--run", RUN, true},
     {"--verify", VERIFY, false},
@@ -73,13 +80,16 @@ static enum status read_route(const char *text, uint32_t *out) {
   return STATUS_DONE;
 }
 
-static enum status take(enum option option, const char *text, struct options *out, bool *seeded) {
+static enum status take(enum option option, const char *text, struct options *out) {
   switch (option) {
     case SOURCE: out->source = text; return STATUS_DONE;
-    case SEED: *seeded = true; return read_number("seed", text, &out->seed);
+    case SEED: out->seeded = true; return read_number("seed", text, &out->seed);
     case ROUTE: return read_route(text, &out->route);
     case GRID: out->grid = text; return STATUS_DONE;
-    case TIMEOUT: return read_seconds(text, &out->timeout);
+    case HOSTS: out->hosts = text; return STATUS_DONE;
+    case KEY: out->key = text; return STATUS_DONE;
+    case BOARD: out->boarded = true; return read_number("board", text, &out->board);
+    case TIMEOUT: out->limited = true; return read_seconds(text, &out->timeout);
     case RUN: out->numbered = true; return read_number("run", text, &out->run);
     case VERIFY: out->verify = true; return STATUS_DONE;
     case NO_VERIFY: out->verify = false; return STATUS_DONE;
@@ -130,7 +140,7 @@ static enum status read_option(struct words *words, enum option *option, const c
 static bool is_option(const char *word) { return word[0] == '-' && word[1] != '\0'; }
 
 /* all words; those that are no options are recipes, and behind `--` all are */
-static enum status read_words(struct words words, bool prints, struct options *out, bool *seeded, int *recipes, bool *over) {
+static enum status read_words(struct words words, bool prints, struct options *out, int *recipes, bool *over) {
   bool closed = false;
   while (words.left > 0) {
     enum option option = HELP;
@@ -152,21 +162,28 @@ static enum status read_words(struct words words, bool prints, struct options *o
     *over = option == HELP || option == VERSION;
     if (*over && prints) print(option);
     if (*over) return STATUS_DONE;
-    status = take(option, value, out, seeded);
+    status = take(option, value, out);
     if (status != STATUS_DONE) return status;
   }
+  return STATUS_DONE;
+}
+
+/* what is asked for, and what is not */
+static enum status hold_together(const struct options *out, int recipes) {
+  const bool sourced = out->seeded || out->source != NULL;
+  if (out->boarded && (out->hosts == NULL || recipes != 0 || sourced || out->grid != NULL))
+    return tell(STATUS_USAGE, "--board goes with --hosts, and without recipe, source and grid; --help has more");
+  if (out->boarded) return STATUS_DONE;
+  if (recipes != 1) return tell(STATUS_USAGE, "one recipe is asked for, %d given; --help has more", recipes);
+  if (out->seeded == (out->source != NULL)) return tell(STATUS_USAGE, "either --source or --seed is asked for; --help has more");
   return STATUS_DONE;
 }
 
 enum status options_read(int argc, char **argv, bool prints, struct options *out, bool *over) {
   *out = (struct options){.route = ROLWYDDAC_DIRECT, .timeout = 10, .verify = true};
   *over = false;
-  bool seeded = false;
   int recipes = 0;
   const struct words words = {argc > 0 ? argc - 1 : 0, argv + 1};
-  const enum status status = read_words(words, prints, out, &seeded, &recipes, over);
-  if (status != STATUS_DONE || *over) return status;
-  if (recipes != 1) return tell(STATUS_USAGE, "one recipe is asked for, %d given; --help has more", recipes);
-  if (seeded == (out->source != NULL)) return tell(STATUS_USAGE, "either --source or --seed is asked for; --help has more");
-  return STATUS_DONE;
+  const enum status status = read_words(words, prints, out, &recipes, over);
+  return status != STATUS_DONE || *over ? status : hold_together(out, recipes);
 }

@@ -10,11 +10,17 @@
 struct options {
   const char *recipe; /* a file */
   const char *source; /* a file, or null: the words are made from the seed */
+  bool seeded;
   uint32_t seed;
   uint32_t route;
-  const char *grid; /* the file to write, or null */
-  double timeout;   /* seconds */
-  bool numbered;    /* the run has the number given, not one of its own */
+  const char *grid;  /* the file to write, or null */
+  const char *hosts; /* a file, or null: all is on this machine */
+  const char *key;   /* a file, or null */
+  bool boarded;      /* this process is one board, and no coordinator */
+  uint32_t board;
+  bool limited; /* a timeout is given */
+  double timeout; /* seconds */
+  bool numbered;  /* the run's number is given */
   uint32_t run;
   bool verify;
   bool times;

@@ -27,11 +27,48 @@ void process_prepare(void) {
   set(SIGCHLD, SIG_DFL);
 }
 
+static const int ending[] = {SIGHUP, SIGINT, SIGTERM};
+enum { ENDING = sizeof ending / sizeof *ending };
+
+static bool is_heeded(int number) {
+  struct sigaction found;
+  return sigaction(number, NULL, &found) == 0 && found.sa_handler != SIG_IGN;
+}
+
 void process_ending_signals(sigset_t *out) {
-  static const int numbers[] = {SIGHUP, SIGINT, SIGTERM};
   sigemptyset(out);
-  for (size_t i = 0; i < sizeof numbers / sizeof *numbers; i++) {
-    struct sigaction found;
-    if (sigaction(numbers[i], NULL, &found) == 0 && found.sa_handler != SIG_IGN) sigaddset(out, numbers[i]);
+  for (size_t i = 0; i < ENDING; i++)
+    if (is_heeded(ending[i])) sigaddset(out, ending[i]);
+}
+
+static void (*do_last)(void);
+
+/* the signal's own disposition is there again when this is called */
+static void end(int number) {
+  if (do_last != NULL) do_last();
+  raise(number);
+  _exit(128 + number);
+}
+
+void process_before_end(void (*last)(void)) {
+  struct sigaction action = {.sa_handler = end, .sa_flags = (int)(SA_RESETHAND | SA_NODEFER)};
+  do_last = last;
+  process_ending_signals(&action.sa_mask);
+  for (size_t i = 0; i < ENDING; i++) {
+    if (!is_heeded(ending[i])) continue;
+    sigdelset(&action.sa_mask, ending[i]);
+    (void)sigaction(ending[i], &action, NULL);
+    sigaddset(&action.sa_mask, ending[i]);
   }
+}
+
+void process_end_as_usual(void) {
+  for (size_t i = 0; i < ENDING; i++)
+    if (is_heeded(ending[i])) set(ending[i], SIG_DFL);
+  do_last = NULL;
+}
+
+void process_heed_no_end(void) {
+  set(SIGCHLD, SIG_DFL);
+  for (size_t i = 0; i < ENDING; i++) set(ending[i], SIG_IGN);
 }

@@ -11,4 +11,14 @@ void process_prepare(void);
 /* The signals by which a run is ended from outside; those that were ignored at the start, as under nohup, are none. */
 void process_ending_signals(sigset_t *out);
 
+/* Has this done before such a signal ends the process; what a handler of signals may not do it may not either. The first process of a container is not ended
+ * by one that it sends itself: it has the status that a shell gives. */
+void process_before_end(void (*last)(void));
+
+/* Such a signal ends the process, and nothing is done before. */
+void process_end_as_usual(void);
+
+/* Such a signal does nothing: another process, which ends this one, has it too. */
+void process_heed_no_end(void);
+
 #endif

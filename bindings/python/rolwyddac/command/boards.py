@@ -5,6 +5,7 @@ from __future__ import annotations
 import argparse
 import array
 import os
+import re
 import shlex
 import shutil
 import signal
@@ -25,10 +26,11 @@ from .texts import tell
 from .toml import Recipe, recipe_of
 
 HELP = 'run a recipe on processes that share no memory'
-MORE = '''One process a board, over sockets on this machine: bindings/boards/MANUAL.md. With --mpi they are started by mpirun, on the
-machines that it is told of; the first of them has to be this one, whose files are read and written. The grid is held to the sweep of one processor
-before anything is written. In a clone the program is built first; else it is looked for as rolwyddac-boards, or as ROLWYDDAC_BOARDS names it (with
---mpi rolwyddac-boards-mpi, ROLWYDDAC_BOARDS_MPI). A run that fails, as by a board that is lost, has status 1.'''
+MORE = '''One process a board, on this machine or where a hosts file says: bindings/boards/MANUAL.md. Boards that die are started again, and lost mail is
+posted again. With --mpi they are started by mpirun, on the machines that it is told of; the first of them has to be this one, whose files are read and
+written. The grid is held to the sweep of one processor before anything is written. In a clone the program is built first; else it is looked for as
+rolwyddac-boards, or as ROLWYDDAC_BOARDS names it (with --mpi rolwyddac-boards-mpi, ROLWYDDAC_BOARDS_MPI). A run that fails, as one in which no board
+comes further, has status 1.'''
 EXAMPLE = 'rolwyddac boards data/harbour/basin.toml --seed 1'
 
 _ROOT = os.path.normpath(os.path.join(os.path.dirname(os.path.abspath(__file__)), '..', '..', '..', '..'))
@@ -40,6 +42,8 @@ _MPICC = 'mpicc'
 # the program's statuses that are not this command's: what they mean stands in its manual, and it has told what happened
 _STATUSES = {0: DONE, 2: USAGE, 7: FILE}
 _PATIENCE = 5.0
+
+_COUNTS = re.compile(rb'; posted .*')
 
 # bytes of the largest grid
 _GRID_MOST = 4 * MOST_CELLS
@@ -55,7 +59,9 @@ def declare(parser: argparse.ArgumentParser) -> None:
     add_outputs(parser, needed=False)
     add_route(parser)
     parser.add_argument('--grid', metavar='FILE', help='the grid as words of 4 bytes, the low byte first')
-    parser.add_argument('--timeout', metavar='SECONDS', help='how long a board waits for mail; 10 where not given')
+    parser.add_argument('--hosts', metavar='FILE', help='where coordinator and boards are; all on this machine where not given')
+    parser.add_argument('--key', metavar='FILE', help='the secret by which packets are signed; needed beyond this machine')
+    parser.add_argument('--timeout', metavar='SECONDS', help='how long no board may come further; 10 where not given')
     parser.add_argument('--times', action='store_true', help='write how long the run and the sweep took')
     parser.add_argument('--mpi', action='store_true', help='over MPI: the boards are started by mpirun, one process a board')
     parser.add_argument('--mpirun', metavar='COMMAND', help='how --mpi starts them, as "mpirun --hostfile hosts"; mpirun where not given')
@@ -136,9 +142,11 @@ def _swept(recipe: Recipe, words: argparse.Namespace, processors: int, folder: s
         command += ['--source', source]
     else:
         command += ['--seed', str(words.seed)]
-    command += ['--timeout', words.timeout] if words.timeout is not None else []
+    for option, value in (('--hosts', words.hosts), ('--key', words.key), ('--timeout', words.timeout)):
+        command += [option, value] if value is not None else []
     command += ['--times'] if words.times else []
-    told = _ran(command).replace((', grid in %s' % grid).encode(), b'')
+    # what is told of packets is the program's own, and not the same in two runs
+    told = _COUNTS.sub(b'', _ran(command).replace((', grid in %s' % grid).encode(), b''))
     if files.STANDARD in (*words.out, words.grid, words.png):
         tell(told.decode(errors='replace').rstrip('\n'))
     else:

@@ -51,7 +51,8 @@ returns-2 c =
     λ l h. receiving.receive-damaged (A .encoded .now) (A .route) (A .run) (A .source .now) (stateOf (A .memories .now) (A .buffer .now) l (A .status .now))
     (A .processor) (A .packet .now) (inboxOf (A .parts .now) (A .masks .now)) (planOf (opening .result .sizes .route) (opening .result .nest))
     (opening .ensures .opened (at-if1 .if1 .left))
-    (at-open-packet .open-packet .result) (at-open-packet .open-packet .last .1 .1 .1 .1 .0) (at-open-packet .open-packet .ensures) (c .refusal2 .result) (c .refusal2 .ensures) (at-if2 .if2 .taken)
+    (at-open-packet .open-packet .result) (at-open-packet .open-packet .last .1 .1 .1 .1 .0) (at-open-packet .open-packet .ensures) (c .refusal2 .result)
+    (c .refusal2 .ensures) (at-if2 .if2 .taken)
 
 fill-requires : tie.Need-fill-requires
 fill-requires c κs =
@@ -83,7 +84,8 @@ returns-3 c =
     λ l h. receiving.receive-inbox (A .encoded .now) (A .route) (A .run) (A .source .now) (stateOf (A .memories .now) (A .buffer .now) l (A .status .now))
     (A .processor) (A .packet .now) (inboxOf (A .parts .now) (A .masks .now)) (planOf (opening .result .sizes .route) (opening .result .nest))
     (opening .ensures .opened (at-if1 .if1 .left))
-    (at-open-packet .open-packet .result) (at-open-packet .open-packet .last .1 .1 .1 .1 .0) (at-open-packet .open-packet .ensures) (at-if2 .if2 .left) (c .refusal3 .result) (c .refusal3 .ensures)
+    (at-open-packet .open-packet .result) (at-open-packet .open-packet .last .1 .1 .1 .1 .0) (at-open-packet .open-packet .ensures) (at-if2 .if2 .left)
+    (c .refusal3 .result) (c .refusal3 .ensures)
     (sym (at-inbox-fits .inbox-fits .ensures) ∙ not-true _ (at-if3 .if3 .taken))
 
 unfit-requires : tie.Need-unfit-requires
@@ -121,7 +123,8 @@ returns-4 c =
     (A .processor) (A .packet .now) (inboxOf (A .parts .now) (A .masks .now)) (planOf (opening .result .sizes .route) (opening .result .nest))
     (opening .ensures .opened (at-if1 .if1 .left))
     (at-open-packet .open-packet .result) (at-open-packet .open-packet .last .1 .1 .1 .1 .0) (at-open-packet .open-packet .ensures) (at-if2 .if2 .left)
-    (sym (at-inbox-fits .inbox-fits .ensures) ∙ not-false _ (at-if3 .if3 .left)) (at-unfit .unfit .result) (at-unfit .unfit .ensures .0 l h) (c .refusal4 .result) (c .refusal4 .ensures) (at-if4 .if4 .taken)
+    (sym (at-inbox-fits .inbox-fits .ensures) ∙ not-false _ (at-if3 .if3 .left)) (at-unfit .unfit .result) (at-unfit .unfit .ensures .0 l h)
+    (c .refusal4 .result) (c .refusal4 .ensures) (at-if4 .if4 .taken)
 
 word-index-requires : tie.Need-word-index-requires
 word-index-requires c κs = search needs
@@ -160,7 +163,8 @@ take-packet-requires c κs =
           (opening .ensures .opened (at-if1 .if1 .left))
           (at-open-packet .open-packet .result) (at-open-packet .open-packet .last .1 .1 .1 .1 .0) (at-open-packet .open-packet .ensures) (at-if2 .if2 .left)
           (sym (at-inbox-fits .inbox-fits .ensures) ∙ not-false _ (at-if3 .if3 .left)) (at-unfit .unfit .result)
-          (at-unfit .unfit .ensures .0 l (reading.part-carries (A .progress) (S .pre) (reading.few-words _ _ (opening .ensures .sized (at-if1 .if1 .left)) (A .progress .count)
+          (at-unfit .unfit .ensures .0 l (reading.part-carries (A .progress) (S .pre) (reading.few-words _ _ (opening .ensures .sized (at-if1 .if1 .left))
+          (A .progress .count)
           (at-unfit .unfit .ensures .1 (at-if4 .if4 .left))))) (at-if4 .if4 .left),
     )
 
@@ -195,7 +199,8 @@ returns-5 c =
     (A .processor) (A .packet .now) (inboxOf (A .parts .now) (A .masks .now)) (planOf (opening .result .sizes .route) (opening .result .nest))
     (opening .ensures .opened (at-if1 .if1 .left))
     (at-open-packet .open-packet .result) (at-open-packet .open-packet .last .1 .1 .1 .1 .0) (at-open-packet .open-packet .ensures) (at-if2 .if2 .left)
-    (sym (at-inbox-fits .inbox-fits .ensures) ∙ not-false _ (at-if3 .if3 .left)) (at-unfit .unfit .result) (at-unfit .unfit .ensures .0 l h) (at-if4 .if4 .left) (at-word-index .word-index .result)
+    (sym (at-inbox-fits .inbox-fits .ensures) ∙ not-false _ (at-if3 .if3 .left)) (at-unfit .unfit .result) (at-unfit .unfit .ensures .0 l h)
+    (at-if4 .if4 .left) (at-word-index .word-index .result)
     (at-word-index .word-index .ensures) _ (at-take-packet .take-packet .ensures (A .memories .now) l)
 
 pub receive-spec : {M : Type 1} → statement M

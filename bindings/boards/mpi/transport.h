@@ -1,10 +1,10 @@
 /* What a run asks of a transport: it carries packets, of which it knows nothing, between processes that share no memory.
- * sockets.c and mpi.c are two; a program is linked with one of them.
+ * mpi.c is one.
  *
  * Packets of one board to another arrive in the order of their posts, or one of the two is told to be lost; the run needs this only for
  * the farewell, which is a board's last packet. Packets of different boards arrive in any order. */
-#ifndef BOARDS_TRANSPORT_H
-#define BOARDS_TRANSPORT_H
+#ifndef BOARDS_MPI_TRANSPORT_H
+#define BOARDS_MPI_TRANSPORT_H
 
 #include <stdbool.h>
 #include <stddef.h>

@@ -1,6 +1,6 @@
 /* What a board posts. Each packet has room of its own, which is not written again: a transport may read it at any time until the end. */
-#ifndef BOARDS_OUTBOX_H
-#define BOARDS_OUTBOX_H
+#ifndef BOARDS_MPI_OUTBOX_H
+#define BOARDS_MPI_OUTBOX_H
 
 #include <stddef.h>
 #include <stdint.h>
