@@ -1,9 +1,10 @@
 -- The part of the memories that is lent to calculate comes back calculated.
-use Prim.Native.Nat.{ℕ, _+_, _*_}
+use Prim.Native.Nat.{ℕ, _+_, _*_, _≤_}
 use mathlib.Core.Path.{ap, _∙_}
 use lib.Dec.{ltb}
 use native.Mathlib.Omega.{arith}
 use Rattle.base.specs.Tests.{pick}
+use lib.ListN.{length}
 use Rattle.machine.specs.Machine.{stateOf, setProgress}
 use Rattle.nest.specs.Nest.{cells, processors}
 use Rattle.stages.proofs.Parts as parts
@@ -12,32 +13,20 @@ use borrow.Author.Needs.{needs}
 use Rattle.stages.proofs.calculate_stage.Statement.{statement}
 use Rattle.stages.proofs.calculate_stage.Tie as tie
 
+-- the processor's own part of the memories
+room : (S : tie.Start) → S .args .processor * S .args .sizes .cells + S .args .sizes .cells ≤ length (S .args .memories .now)
+room S =
+    parts.room (processors (S .args .nest)) (S .args .processor) (S .args .sizes .cells) (cells (S .args .nest)) _ (S .pre .0 .1 .1 .0) (S .pre .0 .0 .cells)
+    (S .pre .1 .1 .0)
+
 mul-base : tie.Need-mul-base
-mul-base c =
-    let S = c .before .before in
-    omega (
-      arith,
-      parts.room (processors (S .args .nest)) (S .args .processor) (S .args .sizes .cells) (cells (S .args .nest)) _ (S .pre .0 .1 .1 .0)
-          (S .pre .0 .0 .cells) (S .pre .1 .1 .0),
-    )
+mul-base c = omega (arith, room (c .before .before))
 
 add-end : tie.Need-add-end
-add-end c =
-    let S = c .before .before in
-    omega (
-      arith,
-      parts.room (processors (S .args .nest)) (S .args .processor) (S .args .sizes .cells) (cells (S .args .nest)) _ (S .pre .0 .1 .1 .0)
-          (S .pre .0 .0 .cells) (S .pre .1 .1 .0),
-    )
+add-end c = omega (arith, room (c .before .before))
 
 mul-calculate : tie.Need-mul-calculate
-mul-calculate c =
-    let S = c .before .before in
-    omega (
-      arith,
-      parts.room (processors (S .args .nest)) (S .args .processor) (S .args .sizes .cells) (cells (S .args .nest)) _ (S .pre .0 .1 .1 .0)
-          (S .pre .0 .0 .cells) (S .pre .1 .1 .0),
-    )
+mul-calculate c = omega (arith, room (c .before .before))
 
 sub-calculate : tie.Need-sub-calculate
 sub-calculate c = search needs
@@ -46,10 +35,7 @@ part-calculate-start : tie.Need-part-calculate-start
 part-calculate-start c = search needs
 
 part-calculate-end : tie.Need-part-calculate-end
-part-calculate-end c =
-    let S = c .before .before in
-    parts.room (processors (S .args .nest)) (S .args .processor) (S .args .sizes .cells) (cells (S .args .nest)) _ (S .pre .0 .1 .1 .0)
-    (S .pre .0 .0 .cells) (S .pre .1 .1 .0)
+part-calculate-end c = room (c .before .before)
 
 calculate-requires : tie.Need-calculate-requires
 calculate-requires c κs =
@@ -59,8 +45,7 @@ calculate-requires c κs =
       (
         S .pre .1 .0,
         parts.mid-length (A .memories .now) (A .processor * A .sizes .cells) (A .sizes .cells)
-            (parts.room (processors (A .nest)) (A .processor) (A .sizes .cells) (cells (A .nest)) _ (S .pre .0 .1 .1 .0) (S .pre .0 .0 .cells)
-            (S .pre .1 .1 .0)) ∙ S .pre .0 .0 .cells,
+            (room S) ∙ S .pre .0 .0 .cells,
       ),
     )
 
@@ -82,7 +67,7 @@ returns c =
     λ buffer l status f.
     stages.calculated (A .sizes .route) (A .nest) (stateOf (A .memories .now) buffer l status) (A .processor) (A .tile) (A .sizes .cells)
     (S .pre .0 .0 .cells) (A .source .now) (G .last .1 .1 .1 .1 .0) _ (n .result)
-    (parts.room (processors (A .nest)) (A .processor) (A .sizes .cells) (cells (A .nest)) _ (S .pre .0 .1 .1 .0) (S .pre .0 .0 .cells) (S .pre .1 .1 .0))
+    (room S)
     (G .kept .1 .1 .1 .1 .0) (G .ensures) (n .ensures .0)
     (c .next-record .ensures l (A .processor) ∙ ap
     (λ (k : ℕ). pick (ltb 0 (n .result)) (setProgress l (A .processor) k 2 0) (setProgress l (A .processor) (k + 1) 0 0)) f)

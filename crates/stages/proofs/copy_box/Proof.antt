@@ -11,6 +11,16 @@ Inv-loop sizes memories grid₀ nest cells width c₀ grid c = collecting.Copied
 abbrev μ-loop : tie.MeasureT-loop
 μ-loop sizes memories grid₀ nest cells width c₀ grid c = cells - c
 
+-- once its processor is found: what the turn started from, and the row that it copies
+abbrev start : tie.After-processor-of Inv-loop μ-loop → tie.Start Inv-loop μ-loop
+start c = c .before .before .before .before .before .before .before
+
+row : (c : tie.After-processor-of Inv-loop μ-loop) → collecting.Row (start c .args .t1) (start c .args .memories .now) (c .before .before .before .loop .grid)
+    (c .before .before .before .loop .c) (c .processor-of .result) (start c .args .sizes .cells)
+row c =
+    collecting.row-at (start c .pre .0) (start c .pre .1) (c .before .before .before .loop .inv) (c .before .before .loop-test .taken)
+    (c .processor-of .ensures .1)
+
 sub-width : tie.Need-sub-width Inv-loop μ-loop
 sub-width c = let S = c .before .before in omega (arith, S .pre .0 .accepted .dimensions-least)
 
@@ -30,121 +40,51 @@ processor-of-requires : tie.Need-processor-of-requires Inv-loop μ-loop
 processor-of-requires c κs = (c .before .before .before .before .before .before .pre .0, c .tile-of .ensures .1)
 
 mul-from : tie.Need-mul-from Inv-loop μ-loop
-mul-from c =
-    let S = c .before .before .before .before .before .before .before in
-    omega (
-      arith,
-      collecting.row-at (S .pre .0) (S .pre .1) (c .before .before .before .loop .inv) (c .before .before .loop-test .taken)
-          (c .processor-of .ensures .1) .room,
-    )
+mul-from c = omega (arith, row c .room)
 
 add-from : tie.Need-add-from Inv-loop μ-loop
-add-from c =
-    let S = c .before .before .before .before .before .before .before in
-    omega (
-      arith,
-      collecting.row-at (S .pre .0) (S .pre .1) (c .before .before .before .loop .inv) (c .before .before .loop-test .taken)
-          (c .processor-of .ensures .1) .room,
-    )
+add-from c = omega (arith, row c .room)
 
 add-to : tie.Need-add-to Inv-loop μ-loop
-add-to c =
-    let S = c .before .before .before .before .before .before .before in
-    omega (
-      arith,
-      collecting.row-at (S .pre .0) (S .pre .1) (c .before .before .before .loop .inv) (c .before .before .loop-test .taken)
-          (c .processor-of .ensures .1) .room,
-    )
+add-to c = omega (arith, row c .room)
 
 add-end : tie.Need-add-end Inv-loop μ-loop
-add-end c =
-    let S = c .before .before .before .before .before .before .before in
-    omega (
-      arith,
-      collecting.row-at (S .pre .0) (S .pre .1) (c .before .before .before .loop .inv) (c .before .before .loop-test .taken)
-          (c .processor-of .ensures .1) .fits,
-    )
+add-end c = omega (arith, row c .fits)
 
 mul-copy-words : tie.Need-mul-copy-words Inv-loop μ-loop
-mul-copy-words c =
-    let S = c .before .before .before .before .before .before .before in
-    omega (
-      arith,
-      collecting.row-at (S .pre .0) (S .pre .1) (c .before .before .before .loop .inv) (c .before .before .loop-test .taken)
-          (c .processor-of .ensures .1) .fits,
-    )
+mul-copy-words c = omega (arith, row c .fits)
 
 sub-copy-words : tie.Need-sub-copy-words Inv-loop μ-loop
 sub-copy-words c = omega arith
 
 part-copy-words-start : tie.Need-part-copy-words-start Inv-loop μ-loop
-part-copy-words-start c =
-    let S = c .before .before .before .before .before .before .before in
-    omega (
-      arith,
-      collecting.row-at (S .pre .0) (S .pre .1) (c .before .before .before .loop .inv) (c .before .before .loop-test .taken)
-          (c .processor-of .ensures .1) .fits,
-    )
+part-copy-words-start c = omega (arith, row c .fits)
 
 part-copy-words-end : tie.Need-part-copy-words-end Inv-loop μ-loop
-part-copy-words-end c =
-    let S = c .before .before .before .before .before .before .before in
-    omega (
-      arith,
-      collecting.row-at (S .pre .0) (S .pre .1) (c .before .before .before .loop .inv) (c .before .before .loop-test .taken)
-          (c .processor-of .ensures .1) .fits,
-    )
+part-copy-words-end c = omega (arith, row c .fits)
 
 mul-copy-words-2 : tie.Need-mul-copy-words-2 Inv-loop μ-loop
-mul-copy-words-2 c =
-    let at-loop-test = c .before .before .before in
-    let at-loop = at-loop-test .before in
-    let S = at-loop .before .before .before .before in
-    omega (arith, collecting.row-at (S .pre .0) (S .pre .1) (at-loop .loop .inv) (at-loop-test .loop-test .taken) (c .before .processor-of .ensures .1) .room)
+mul-copy-words-2 c = omega (arith, row (c .before) .room)
 
 sub-copy-words-2 : tie.Need-sub-copy-words-2 Inv-loop μ-loop
 sub-copy-words-2 c = omega arith
 
 part-copy-words-start-2 : tie.Need-part-copy-words-start-2 Inv-loop μ-loop
-part-copy-words-start-2 c =
-    let at-loop-test = c .before .before .before in
-    let at-loop = at-loop-test .before in
-    let S = at-loop .before .before .before .before in
-    omega (arith, collecting.row-at (S .pre .0) (S .pre .1) (at-loop .loop .inv) (at-loop-test .loop-test .taken) (c .before .processor-of .ensures .1) .room)
+part-copy-words-start-2 c = omega (arith, row (c .before) .room)
 
 part-copy-words-end-2 : tie.Need-part-copy-words-end-2 Inv-loop μ-loop
-part-copy-words-end-2 c =
-    let at-loop-test = c .before .before .before in
-    let at-loop = at-loop-test .before in
-    let S = at-loop .before .before .before .before in
-    omega (arith, collecting.row-at (S .pre .0) (S .pre .1) (at-loop .loop .inv) (at-loop-test .loop-test .taken) (c .before .processor-of .ensures .1) .room)
+part-copy-words-end-2 c = omega (arith, row (c .before) .room)
 
 copy-words-requires : tie.Need-copy-words-requires Inv-loop μ-loop
-copy-words-requires c κs =
-    let at-loop-test = c .before .before .before .before in
-    let at-loop = at-loop-test .before in
-    let S = at-loop .before .before .before .before in
-    collecting.row-same (at-loop .loop .inv) (collecting.row-at (S .pre .0) (S .pre .1) (at-loop .loop .inv) (at-loop-test .loop-test .taken)
-    (c .before .before .processor-of .ensures .1))
+copy-words-requires c κs = let P = c .before .before in collecting.row-same (P .before .before .before .loop .inv) (row P)
 
 loop-less : tie.Need-loop-less Inv-loop μ-loop
-loop-less c =
-    let at-processor-of = c .before .before .before .before .before in
-    let at-loop-test = at-processor-of .before .before in
-    let at-loop = at-loop-test .before in
-    let S = at-loop .before .before .before .before in
-    let R = collecting.row-at (S .pre .0) (S .pre .1) (at-loop .loop .inv) (at-loop-test .loop-test .taken) (at-processor-of .processor-of .ensures .1) in
-    omega (arith, R .some, R .ends)
+loop-less c = let R = row (c .before .before .before .before .before) in omega (arith, R .some, R .ends)
 
 loop-again : tie.Need-loop-again Inv-loop μ-loop
 loop-again c =
-    let at-processor-of = c .before .before .before .before .before in
-    let at-tile-of = at-processor-of .before in
-    let at-loop-test = at-tile-of .before in
-    let at-loop = at-loop-test .before in
-    let S = at-loop .before .before .before .before in
-    collecting.copied-more (at-loop .loop .inv) (collecting.row-at (S .pre .0) (S .pre .1) (at-loop .loop .inv) (at-loop-test .loop-test .taken)
-    (at-processor-of .processor-of .ensures .1)) (at-tile-of .tile-of .ensures .0) (at-processor-of .processor-of .ensures .0)
+    let P = c .before .before .before .before .before in
+    collecting.copied-more (P .before .before .before .loop .inv) (row P) (P .before .tile-of .ensures .0) (P .processor-of .ensures .0)
     (c .before .before .copy-words .ensures)
 
 same-length : tie.Need-same-length Inv-loop μ-loop

@@ -1,9 +1,10 @@
 -- The message is packed into its place from the processor's own part of the memories.
-use Prim.Native.Nat.{ℕ, _+_, _*_}
+use Prim.Native.Nat.{ℕ, _+_, _*_, _≤_}
 use mathlib.Core.Path.{ap, _∙_}
 use lib.Dec.{ltb}
 use native.Mathlib.Omega.{arith}
 use Rattle.base.specs.Tests.{pick}
+use lib.ListN.{length}
 use Rattle.machine.specs.Machine.{stateOf, setProgress}
 use Rattle.nest.specs.Nest.{cells, processors}
 use Rattle.stages.proofs.Parts as parts
@@ -12,35 +13,23 @@ use borrow.Author.Needs.{needs}
 use Rattle.stages.proofs.send_stage.Statement.{statement}
 use Rattle.stages.proofs.send_stage.Tie as tie
 
+-- the processor's own part of the memories
+room : (S : tie.Start) → S .args .processor * S .args .sizes .cells + S .args .sizes .cells ≤ length (S .args .memories .now)
+room S =
+    parts.room (processors (S .args .nest)) (S .args .processor) (S .args .sizes .cells) (cells (S .args .nest)) _ (S .pre .0 .1 .1 .0) (S .pre .0 .0 .cells)
+    (S .pre .1 .0 .0)
+
 mul-base : tie.Need-mul-base
-mul-base c =
-    let S = c .before .before .before in
-    omega (
-      arith,
-      parts.room (processors (S .args .nest)) (S .args .processor) (S .args .sizes .cells) (cells (S .args .nest)) _ (S .pre .0 .1 .1 .0)
-          (S .pre .0 .0 .cells) (S .pre .1 .0 .0),
-    )
+mul-base c = omega (arith, room (c .before .before .before))
 
 add-end : tie.Need-add-end
-add-end c =
-    let S = c .before .before .before in
-    omega (
-      arith,
-      parts.room (processors (S .args .nest)) (S .args .processor) (S .args .sizes .cells) (cells (S .args .nest)) _ (S .pre .0 .1 .1 .0)
-          (S .pre .0 .0 .cells) (S .pre .1 .0 .0),
-    )
+add-end c = omega (arith, room (c .before .before .before))
 
 nth-at-requires : tie.Need-nth-at-requires
 nth-at-requires c κs = search needs
 
 mul-put-message : tie.Need-mul-put-message
-mul-put-message c =
-    let S = c .before .before .before .before in
-    omega (
-      arith,
-      parts.room (processors (S .args .nest)) (S .args .processor) (S .args .sizes .cells) (cells (S .args .nest)) _ (S .pre .0 .1 .1 .0)
-          (S .pre .0 .0 .cells) (S .pre .1 .0 .0),
-    )
+mul-put-message c = omega (arith, room (c .before .before .before .before))
 
 sub-put-message : tie.Need-sub-put-message
 sub-put-message c = search needs
@@ -49,10 +38,7 @@ part-put-message-start : tie.Need-part-put-message-start
 part-put-message-start c = search needs
 
 part-put-message-end : tie.Need-part-put-message-end
-part-put-message-end c =
-    let S = c .before .before .before .before in
-    parts.room (processors (S .args .nest)) (S .args .processor) (S .args .sizes .cells) (cells (S .args .nest)) _ (S .pre .0 .1 .1 .0)
-    (S .pre .0 .0 .cells) (S .pre .1 .0 .0)
+part-put-message-end c = room (c .before .before .before .before)
 
 put-message-requires : tie.Need-put-message-requires
 put-message-requires c κs =
@@ -64,8 +50,7 @@ put-message-requires c κs =
       ),
       (
         parts.mid-length (A .memories .now) (A .processor * A .sizes .cells) (A .sizes .cells)
-            (parts.room (processors (A .nest)) (A .processor) (A .sizes .cells) (cells (A .nest)) _ (S .pre .0 .1 .1 .0) (S .pre .0 .0 .cells)
-            (S .pre .1 .0 .0)) ∙ S .pre .0 .0 .cells,
+            (room S) ∙ S .pre .0 .0 .cells,
         S .pre .1 .0 .1 .0,
       ),
     )
