@@ -39,7 +39,7 @@ RATTLE = {
     'part_collect': 'part_calls::collect',
     'soundings': 'soundings::fill', 'chart': 'chart::write', 'chart_length': 'chart::length_of', 'read': 'writer::reading::read', 'write': 'writer::write',
     'fresh_both': 'sharing::fresh', 'tenant_turn': 'sharing::turn', 'tenant_deliver': 'sharing::deliver', 'tenant_collect': 'sharing::collect',
-    'view': 'sharing::look::look', 'turn_at': 'timed::turn', 'tenant_turn_at': 'timed::turn_for', 'opens': 'timed::opens',
+    'view': 'sharing::view::view', 'turn_at': 'calendar_calls::turn', 'tenant_turn_at': 'calendar_calls::turn_for', 'opens': 'calendar_calls::opens',
 }
 
 

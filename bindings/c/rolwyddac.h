@@ -273,7 +273,7 @@ uint32_t rolwyddac_tenant_turn(const uint8_t *encoded, size_t encoded_length, ui
                                size_t source_length, uint32_t *memories, size_t memories_length, uint32_t *buffer,
                                size_t buffer_length, rolwyddac_progress *progress, size_t progress_length,
                                uint8_t *status, size_t status_length, uint32_t *engaged, size_t engaged_length,
-                               const rolwyddac_progress *other, size_t other_length, uint32_t office,
+                               const rolwyddac_progress *other, size_t other_length, uint32_t tenant,
                                uint32_t processor);
 
 /* Delivers one message of an office: its status goes from 1 to 2. Nothing else is written.
@@ -283,7 +283,7 @@ uint32_t rolwyddac_tenant_deliver(const uint8_t *encoded, size_t encoded_length,
                                   const uint32_t *buffer, size_t buffer_length, const rolwyddac_progress *progress,
                                   size_t progress_length, uint8_t *status, size_t status_length,
                                   const uint32_t *engaged, size_t engaged_length, const rolwyddac_progress *other,
-                                  size_t other_length, uint32_t office, uint32_t message);
+                                  size_t other_length, uint32_t tenant, uint32_t message);
 
 /* Copies each cell to grid from the office's memory of its tile's processor, once all processors have finished for it.
  * Where it gives 0 after a fresh start of both offices that gave 0 and then any turns and deliveries of both, all given the
@@ -295,7 +295,7 @@ uint32_t rolwyddac_tenant_collect(const uint8_t *encoded, size_t encoded_length,
                                   const uint32_t *buffer, size_t buffer_length, const rolwyddac_progress *progress,
                                   size_t progress_length, const uint8_t *status, size_t status_length,
                                   const uint32_t *engaged, size_t engaged_length, const rolwyddac_progress *other,
-                                  size_t other_length, uint32_t office, uint32_t *grid, size_t grid_length);
+                                  size_t other_length, uint32_t tenant, uint32_t *grid, size_t grid_length);
 
 /* A processor's part of an office's memories. */
 typedef struct {
@@ -308,7 +308,7 @@ typedef struct {
  * office's memories and how many words it has. The same on either route. At a refusal there is no part.
  * Numbers: 1 to 8, 16 to 18, 20; 9 if memories have not their length; 11. */
 rolwyddac_viewed rolwyddac_view(const uint8_t *encoded, size_t encoded_length, const uint32_t *first, size_t first_length,
-                                const uint32_t *second, size_t second_length, uint32_t office, uint32_t processor);
+                                const uint32_t *second, size_t second_length, uint32_t tenant, uint32_t processor);
 
 /* Fills source from a file of soundings, records of 16 bytes: cell number, survey day, survey number and depth, each a
  * word, least byte first. A cell gets the depth of its record with the greatest day; of these, with the greatest survey
@@ -355,7 +355,7 @@ uint32_t rolwyddac_tenant_turn_at(const uint8_t *encoded, size_t encoded_length,
                                   rolwyddac_progress *progress, size_t progress_length, uint8_t *status,
                                   size_t status_length, uint32_t *engaged, size_t engaged_length,
                                   const rolwyddac_progress *other, size_t other_length, const uint32_t *hours,
-                                  size_t hours_length, uint32_t minute, uint32_t office, uint32_t processor);
+                                  size_t hours_length, uint32_t minute, uint32_t tenant, uint32_t processor);
 
 /* When a processor next opens. */
 typedef struct {

@@ -49,16 +49,16 @@ rolwyddac_fresh_both(encoded: &[u8], route: u32, first_source: &[u32], first_mem
     first_progress: &mut [Progress], first_status: &mut [u8], second_source: &[u32], second_memories: &mut [u32],
     second_buffer: &mut [u32], second_progress: &mut [Progress], second_status: &mut [u8], engaged: &mut [u32])
 rolwyddac_tenant_turn(encoded: &[u8], route: u32, source: &[u32], memories: &mut [u32], buffer: &mut [u32],
-    progress: &mut [Progress], status: &mut [u8], engaged: &mut [u32], other: &[Progress], office: u32, processor: u32)
+    progress: &mut [Progress], status: &mut [u8], engaged: &mut [u32], other: &[Progress], tenant: u32, processor: u32)
 rolwyddac_tenant_turn_at(encoded: &[u8], route: u32, source: &[u32], memories: &mut [u32], buffer: &mut [u32],
     progress: &mut [Progress], status: &mut [u8], engaged: &mut [u32], other: &[Progress], hours: &[u32], minute: u32,
-    office: u32, processor: u32)
+    tenant: u32, processor: u32)
 rolwyddac_opens(encoded: &[u8], hours: &[u32], minute: u32, processor: u32) -> Opening
 rolwyddac_tenant_deliver(encoded: &[u8], route: u32, source: &[u32], memories: &[u32], buffer: &[u32], progress: &[Progress],
-    status: &mut [u8], engaged: &[u32], other: &[Progress], office: u32, message: u32)
+    status: &mut [u8], engaged: &[u32], other: &[Progress], tenant: u32, message: u32)
 rolwyddac_tenant_collect(encoded: &[u8], route: u32, source: &[u32], memories: &[u32], buffer: &[u32], progress: &[Progress],
-    status: &[u8], engaged: &[u32], other: &[Progress], office: u32, grid: &mut [u32])
-rolwyddac_view(encoded: &[u8], first: &[u32], second: &[u32], office: u32, processor: u32) -> Viewed
+    status: &[u8], engaged: &[u32], other: &[Progress], tenant: u32, grid: &mut [u32])
+rolwyddac_view(encoded: &[u8], first: &[u32], second: &[u32], tenant: u32, processor: u32) -> Viewed
 rolwyddac_chart(encoded: &[u8], grid: &[u32], x: i32, y: i32, cell_size: u32, space: &mut [u8]) -> ChartText
 rolwyddac_chart_length(encoded: &[u8], grid: &[u32], x: i32, y: i32, cell_size: u32) -> ChartText
 rolwyddac_soundings(encoded: &[u8], file: &[u8], value: u32, source: &mut [u32])

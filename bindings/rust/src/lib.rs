@@ -325,7 +325,7 @@ calls! {
     /// Refusals: 1 to 13 and 16 to 21.
     rolwyddac_tenant_turn as tenant_turn(
         encoded: &[u8], route: Route, source: &[u32], memories: &mut [u32], buffer: &mut [u32],
-        progress: &mut [Progress], status: &mut [u8], engaged: &mut [u32], other: &[Progress], office: u32,
+        progress: &mut [Progress], status: &mut [u8], engaged: &mut [u32], other: &[Progress], tenant: u32,
         processor: u32,
     );
 
@@ -334,7 +334,7 @@ calls! {
     /// Refusals: 1 to 11, 14, 16 to 18, 20 and 21.
     rolwyddac_tenant_deliver as tenant_deliver(
         encoded: &[u8], route: Route, source: &[u32], memories: &[u32], buffer: &[u32], progress: &[Progress],
-        status: &mut [u8], engaged: &[u32], other: &[Progress], office: u32, message: u32,
+        status: &mut [u8], engaged: &[u32], other: &[Progress], tenant: u32, message: u32,
     );
 
     /// Copies each cell to `grid` from the office's memory of its tile's processor, once all processors have finished for it.
@@ -346,7 +346,7 @@ calls! {
     /// Refusals: 1 to 11, 15 to 18, 20 and 21.
     rolwyddac_tenant_collect as tenant_collect(
         encoded: &[u8], route: Route, source: &[u32], memories: &[u32], buffer: &[u32], progress: &[Progress],
-        status: &[u8], engaged: &[u32], other: &[Progress], office: u32, grid: &mut [u32],
+        status: &[u8], engaged: &[u32], other: &[Progress], tenant: u32, grid: &mut [u32],
     );
 
     /// A view of a processor's memory, lent the memories of both offices: tells where the processor's part begins in the named
@@ -354,7 +354,7 @@ calls! {
     ///
     /// Refusals: 1 to 8, 16 to 18, 20, 9 if memories have not their length, 11.
     rolwyddac_view as view_words(
-        encoded: &[u8], first: &[u32], second: &[u32], office: u32, processor: u32,
+        encoded: &[u8], first: &[u32], second: &[u32], tenant: u32, processor: u32,
     ) -> Viewed;
 
     /// Fills `source` from a file of soundings: of each cell the depth of the record that counts, or `value` where there is
@@ -404,7 +404,7 @@ calls! {
     rolwyddac_tenant_turn_at as tenant_turn_at(
         encoded: &[u8], route: Route, source: &[u32], memories: &mut [u32], buffer: &mut [u32],
         progress: &mut [Progress], status: &mut [u8], engaged: &mut [u32], other: &[Progress], hours: &[u32],
-        minute: u32, office: u32, processor: u32,
+        minute: u32, tenant: u32, processor: u32,
     );
 
     /// Tells when a processor next opens, lent only the table of hours. [`opens`] is the handier form.
@@ -552,7 +552,7 @@ pub fn summary(encoded: &[u8], route: Route) -> Result<Summary, Refusal> {
 ///
 /// Refusals: 1 to 9, 11, 16 to 18 and 20.
 pub fn view<'a>(
-    encoded: &[u8], first: &'a [u32], second: &'a [u32], office: u32, processor: u32,
+    encoded: &[u8], first: &'a [u32], second: &'a [u32], tenant: u32, processor: u32,
 ) -> Result<&'a [u32], Refusal> {
     let Viewed { begin, length } = view_words(encoded, first, second, office, processor)?;
     let begin = begin as usize;

@@ -9,7 +9,7 @@ ghost use Rattle.base.specs.Lists.{storeAll};
 ghost use Rattle.nest.specs.declared.Nest.{Nest};
 ghost use Rattle.plan.specs.Geometry.{value};
 ghost use Rattle.bands.specs.lagged.Bands.{four, rowsOf, numbered, BandGiven};
-use crate::lines::line;
+use crate::edge_rows::edge_row;
 use kernels::Rule;
 use kernels::wave;
 
@@ -37,7 +37,7 @@ pub fn band(
         → now (memory .exit) ≡ storeAll (value (numbered x n shift boundary) (now (source .entry))) (now (memory .entry)) (rowsOf (four a b c d) width 4)) ⌝ }
 {
     let full = component + (from - 3);
-    line(
+    edge_row(
         source,
         memory,
         shift,
@@ -51,7 +51,7 @@ pub fn band(
         component,
         from,
     );
-    line(
+    edge_row(
         source,
         memory,
         shift,
@@ -65,7 +65,7 @@ pub fn band(
         component,
         from - 1,
     );
-    line(
+    edge_row(
         source,
         memory,
         shift,
@@ -79,7 +79,7 @@ pub fn band(
         component,
         from - 2,
     );
-    line(
+    edge_row(
         source,
         memory,
         shift,

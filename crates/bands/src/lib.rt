@@ -7,11 +7,11 @@ ghost use Rattle.base.specs.Lists.{storeAll};
 ghost use Rattle.nest.specs.declared.Nest.{Nest};
 ghost use Rattle.plan.specs.Geometry.{value};
 ghost use Rattle.bands.specs.lagged.Bands.{four, rowsOf, numbered, BandGiven};
+use crate::edge_rows::edge_row;
 use crate::lagged::band;
-use crate::lines::line;
 use kernels::wave;
 
-pub mod lines; // lines.rt: one row, whose first cells read the boundary's word in place of a cell's
+pub mod edge_rows; // edge_rows.rt: one row, whose first cells read the boundary's word in place of a cell's
 pub mod lagged; // lagged.rt: four rows, each one column behind the row before it
 
 // The values of four rows that read no row but themselves, in the same columns: no row need be ahead of another for its words to
@@ -40,7 +40,7 @@ fn beside(
 {
     let few = from - 3;
     let full = component + few;
-    line(
+    edge_row(
         source,
         memory,
         shift,
@@ -54,7 +54,7 @@ fn beside(
         component,
         few,
     );
-    line(
+    edge_row(
         source,
         memory,
         shift,
@@ -68,7 +68,7 @@ fn beside(
         component,
         few,
     );
-    line(
+    edge_row(
         source,
         memory,
         shift,
@@ -82,7 +82,7 @@ fn beside(
         component,
         few,
     );
-    line(
+    edge_row(
         source,
         memory,
         shift,

@@ -8,14 +8,14 @@ use native.Mathlib.Omega.{arith}
 use lib.ListN.{length, getD, take, drop, set, length-append, length-take, length-drop}
 use lib.Seq.{take-suc, take-at, getD-drop, drop-cons, drop-drop, set-at, sets, sets-eq}
 use Rattle.base.specs.Tests.{tabulate}
-use Rattle.base.specs.Lists.{part, put, pack, unpack}
+use Rattle.base.specs.Lists.{sublist, put, pack, unpack}
 use Rattle.base.proofs.Lists.{part-length, put-is, put-none, length-put, pack-append}
 
 -- ---- cells side by side
 
 -- the words of a part are those of cells side by side
-pub part-row : (l : List ℕ) (c n : ℕ) → c + n ≤ length l → part l c n ≡ pack l (tabulate (λ y. c + y) n)
-unfolding part pack tabulate
+pub part-row : (l : List ℕ) (c n : ℕ) → c + n ≤ length l → sublist l c n ≡ pack l (tabulate (λ y. c + y) n)
+unfolding sublist pack tabulate
 part-row l c zero h = refl
 part-row l c (suc n) h =
     take-suc (drop c l) n 0 (omega (arith, length-drop c l))
@@ -45,10 +45,10 @@ unpack-put ws l c h =
     ∙ ap (λ (k : List ℕ). take c l ++ (ws ++ k)) (sym (drop-drop (length ws) c l))
 
 -- the same of a part of another list
-pub put-row : (l s : List ℕ) (c i n : ℕ) → c + n ≤ length l → i + n ≤ length s → put l c (part s i n) ≡ unpack l (tabulate (λ y. c + y) n) (part s i n)
+pub put-row : (l s : List ℕ) (c i n : ℕ) → c + n ≤ length l → i + n ≤ length s → put l c (sublist s i n) ≡ unpack l (tabulate (λ y. c + y) n) (sublist s i n)
 put-row l s c i n h k =
     let long = part-length s i n k in
-    sym (ap (λ (m : ℕ). unpack l (tabulate (λ y. c + y) m) (part s i n)) (sym long) ∙ unpack-put (part s i n) l c (omega arith))
+    sym (ap (λ (m : ℕ). unpack l (tabulate (λ y. c + y) m) (sublist s i n)) (sym long) ∙ unpack-put (sublist s i n) l c (omega arith))
 
 -- ---- one word more
 
@@ -70,29 +70,29 @@ take-put l s i h =
     ∙ take-at (take i l ++ s) (drop (i + length s) l) (i + length s) (simp (length-append, length-take) (omega arith))
 
 module _ (l s : List ℕ) (c i : ℕ) where
-  pub copied-none : put l c (part s i 0) ≡ l
-  unfolding part
+  pub copied-none : put l c (sublist s i 0) ≡ l
+  unfolding sublist
   copied-none = put-none l c
 
-  part-more : (y : ℕ) → i + y < length s → part s i (y + 1) ≡ part s i y ++ (getD s (i + y) 0 ∷ [])
-  unfolding part
+  part-more : (y : ℕ) → i + y < length s → sublist s i (y + 1) ≡ sublist s i y ++ (getD s (i + y) 0 ∷ [])
+  unfolding sublist
   part-more y k =
       ap (λ (m : ℕ). take m (drop i s)) (add-one y)
       ∙ take-suc (drop i s) y 0 (omega (arith, length-drop i s))
       ∙ ap (λ (v : ℕ). take y (drop i s) ++ (v ∷ [])) (getD-drop i s y 0)
 
   pub copied-more : (y : ℕ) → c + y < length l → i + y < length s
-      → set (put l c (part s i y)) (c + y) (getD s (i + y) 0) ≡ put l c (part s i (y + 1))
+      → set (put l c (sublist s i y)) (c + y) (getD s (i + y) 0) ≡ put l c (sublist s i (y + 1))
   copied-more y h k =
       let long = part-length s i y (omega arith) in
-      ap (λ (m : ℕ). set (put l c (part s i y)) (c + m) (getD s (i + y) 0)) (sym long)
-      ∙ set-put l (part s i y) c (getD s (i + y) 0) (omega arith)
+      ap (λ (m : ℕ). set (put l c (sublist s i y)) (c + m) (getD s (i + y) 0)) (sym long)
+      ∙ set-put l (sublist s i y) c (getD s (i + y) 0) (omega arith)
       ∙ ap (put l c) (sym (part-more y k))
 
 -- the first y words are copied
 pub record Copies (to₀ from : List ℕ) (at first n : ℕ) (to : List ℕ) (y : ℕ) : Type 0 where
   pub low : y ≤ n
-  pub is : to ≡ put to₀ at (part from first y)
+  pub is : to ≡ put to₀ at (sublist from first y)
 
 module _ (to₀ from : List ℕ) (at first n : ℕ) where
   pub copies-none : Copies to₀ from at first n to₀ 0
@@ -102,7 +102,7 @@ module _ (to₀ from : List ℕ) (at first n : ℕ) where
     pub copies-long : length to ≡ length to₀
     copies-long =
         let long = part-length from first y (omega (arith, p .low)) in
-        ap length (p .is) ∙ length-put to₀ at (part from first y) (omega (arith, p .low))
+        ap length (p .is) ∙ length-put to₀ at (sublist from first y) (omega (arith, p .low))
 
     pub copies-more : y < n → Copies to₀ from at first n (set to (at + y) (getD from (first + y) 0)) (y + 1)
     copies-more h =
@@ -111,5 +111,5 @@ module _ (to₀ from : List ℕ) (at first n : ℕ) where
           is = ap (λ (z : List ℕ). set z (at + y) (getD from (first + y) 0)) (p .is) ∙ copied-more to₀ from at first y (omega arith) (omega arith);
         }
 
-    pub copies-end : n ≤ y → to ≡ put to₀ at (part from first n)
+    pub copies-end : n ≤ y → to ≡ put to₀ at (sublist from first n)
     copies-end h = let e : y ≡ n = omega (arith, p .low) in rw e at (p .is)

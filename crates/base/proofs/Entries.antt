@@ -8,13 +8,13 @@ use native.Mathlib.Decide.{decLt, ℕ-discrete}
 use native.Mathlib.Omega.{arith}
 use lib.ListN.{length, getD, take, drop, set, length-set, List·getD-append}
 use lib.Seq.{getD-take, getD-drop, getD-set-same, getD-set-other, getD-append-add, length-take-le, set-out}
-use Rattle.base.specs.Lists.{In, Rising, part, put, setAll, unpack, pack, storeAll}
+use Rattle.base.specs.Lists.{In, Rising, sublist, put, setAll, unpack, pack, storeAll}
 use Rattle.base.proofs.Lists.{AllBelow}
 
 -- ---- a part, and a list with a part replaced
 
-pub part-at : (l : List ℕ) (i n q : ℕ) → q < n → getD (part l i n) q 0 ≡ getD l (i + q) 0
-unfolding part
+pub part-at : (l : List ℕ) (i n q : ℕ) → q < n → getD (sublist l i n) q 0 ≡ getD l (i + q) 0
+unfolding sublist
 part-at l i n q h = getD-take n (drop i l) q 0 h ∙ getD-drop i l q 0
 
 module _ (l : List ℕ) (i : ℕ) (s : List ℕ) (fits : i + length s ≤ length l) where

@@ -13,27 +13,27 @@ use Rattle.machine.specs.Machine.{State, answered, carryOut, nextAction, turn, 
 use Rattle.machine.specs.Runs.{act}
 use Rattle.machine.proofs.Kept.{Inv}
 use Rattle.machine.proofs.Guards.{Guards}
-use Rattle.tenants.specs.Offices.{Lent, carryOutFor, turnFor, deliverFor, Rig, Sources, sourceFor, otherOf, lentTo, returned, putBack, actFor, actOn}
+use Rattle.tenants.specs.Tenants.{TenantAreas, carryOutFor, turnFor, deliverFor, Sharing, Sources, sourceFor, otherOf, lentTo, returned, putBack, actFor, actOn}
 use Rattle.tenants.proofs.OneCall.{returned-same}
-use Rattle.tenants.proofs.Engaged.{RigInv}
-use Rattle.calendar.specs.Hours.{week, openAt, faultyMinute, faultyHours, faultyFor, closed, Hours, hoursOf, timedTurn, timedTurnFor, Timed}
-use Rattle.calendar.specs.Hours.{turnAt, mailOf, eventOf, actAt, TimedCall, callOf, actAtFor, actAtOn}
+use Rattle.tenants.proofs.Engaged.{SharingInv}
+use Rattle.calendar.specs.Windows.{week, openAt, faultyMinute, faultyMoment, faultyFor, closed, Moment, momentOf, timedTurn, timedTurnFor, Timed}
+use Rattle.calendar.specs.Windows.{turnAt, mailOf, eventOf, actAt, TimedCall, callOf, actAtFor, actAtOn}
 use Rattle.calendar.specs.Demands212.{Faultless}
 
 -- no faulty hours, and the processor is open; mail at any hour
 abbrev pub Allowed : Plan → Timed → Type 0
-Allowed p (turnAt h b) = (faultyHours p h ≡ false) × (closed h b ≡ false)
+Allowed p (turnAt h b) = (faultyMoment p h ≡ false) × (closed h b ≡ false)
 Allowed p (mailOf m) = Unit {0}
 
 -- the minutes at which a processor is open by a faultless table are allowed
-pub open-allowed : (p : Plan) (table : List ℕ) (minute b : ℕ) → Faultless p table → minute < week → openAt table b minute ≡ true
-    → Allowed p (turnAt (hoursOf table minute) b)
+pub open-allowed : (p : Plan) (calendar : List ℕ) (minute b : ℕ) → Faultless p calendar → minute < week → openAt calendar b minute ≡ true
+    → Allowed p (turnAt (momentOf calendar minute) b)
 unfolding faultyFor faultyMinute closed
-open-allowed p table minute b f low e = (or-false (f .windows) (not-true (lt-ltb _ _ low)), not-true e)
+open-allowed p calendar minute b f low e = (or-false (f .windows) (not-true (lt-ltb _ _ low)), not-true e)
 
--- ---- one office
+-- ---- one tenant
 module _ (p : Plan) (source : List ℕ) (s : State) where
-  turn-needs : (h : Hours) (b : ℕ) → timedTurn p source h s b .number ≡ 0 → Allowed p (turnAt h b)
+  turn-needs : (h : Moment) (b : ℕ) → timedTurn p source h s b .number ≡ 0 → Allowed p (turnAt h b)
   unfolding timedTurn
   turn-needs h b e0 =
       let e1 = none-first 10 _ _ (λ k. omega arith) e0 in
@@ -42,7 +42,7 @@ module _ (p : Plan) (source : List ℕ) (s : State) where
       let e4 = none-first 24 _ _ (λ k. omega arith) (e3 .1) in
       (e2 .0, e4 .0)
 
-  turn-allowed : (h : Hours) (b : ℕ) → Allowed p (turnAt h b) → timedTurn p source h s b ≡ turn p source s b
+  turn-allowed : (h : Moment) (b : ℕ) → Allowed p (turnAt h b) → timedTurn p source h s b ≡ turn p source s b
   unfolding timedTurn turn
   turn-allowed h b a =
       ap (λ (n : ℕ). answered n (carryOut p source s b (nextAction p s b)) s)
@@ -71,9 +71,9 @@ guards p source =
       refuses = λ s inv x n. refused-at p source s x n;
     }
 
--- ---- two offices
-module _ (p : Plan) (source : List ℕ) (o : ℕ) (l : Lent) (theirs : List ℕ) where
-  turn-needs-for : (h : Hours) (b : ℕ) → timedTurnFor p source o h l theirs b .number ≡ 0 → Allowed p (turnAt h b)
+-- ---- two tenants
+module _ (p : Plan) (source : List ℕ) (o : ℕ) (l : TenantAreas) (theirs : List ℕ) where
+  turn-needs-for : (h : Moment) (b : ℕ) → timedTurnFor p source o h l theirs b .number ≡ 0 → Allowed p (turnAt h b)
   unfolding timedTurnFor
   turn-needs-for h b e0 =
       let e1 = none-first 11 _ _ (λ k. omega arith) e0 in
@@ -83,7 +83,7 @@ module _ (p : Plan) (source : List ℕ) (o : ℕ) (l : Lent) (theirs : List ℕ)
       let e5 = none-first 24 _ _ (λ k. omega arith) (e4 .1) in
       (e3 .0, e5 .0)
 
-  turn-allowed-for : (h : Hours) (b : ℕ) → Allowed p (turnAt h b) → timedTurnFor p source o h l theirs b ≡ turnFor p source o l theirs b
+  turn-allowed-for : (h : Moment) (b : ℕ) → Allowed p (turnAt h b) → timedTurnFor p source o h l theirs b ≡ turnFor p source o l theirs b
   unfolding timedTurnFor turnFor
   turn-allowed-for h b a =
       ap (λ (n : ℕ). answered n (carryOutFor p source o l b (nextAction p (l .own) b)) l)
@@ -104,25 +104,25 @@ module _ (p : Plan) (source : List ℕ) (o : ℕ) (l : Lent) (theirs : List ℕ)
   refused-for (turnAt h b) n = pick-false _ _ _ (ne-eqb _ 0 n)
   refused-for (mailOf m) n = pick-false _ _ _ (ne-eqb _ 0 n)
 
-module _ (p : Plan) (sources : Sources) (r : Rig) (c : TimedCall) where
+module _ (p : Plan) (sources : Sources) (r : Sharing) (c : TimedCall) where
   needs-on : actAtOn p sources r c .number ≡ 0 → Allowed p (c .event)
   unfolding actAtOn
-  needs-on z = needs-for p (sourceFor sources (c .office)) (c .office) (lentTo r (c .office)) (otherOf r (c .office) .progress) (c .event) z
+  needs-on z = needs-for p (sourceFor sources (c .tenant)) (c .tenant) (lentTo r (c .tenant)) (otherOf r (c .tenant) .progress) (c .event) z
 
   allowed-on : Allowed p (c .event) → actAtOn p sources r c ≡ actOn p sources r (callOf c)
   unfolding actAtOn actOn callOf
   allowed-on a =
-      ap (putBack r (c .office))
-      (allowed-for p (sourceFor sources (c .office)) (c .office) (lentTo r (c .office)) (otherOf r (c .office) .progress) (c .event) a)
+      ap (putBack r (c .tenant))
+      (allowed-for p (sourceFor sources (c .tenant)) (c .tenant) (lentTo r (c .tenant)) (otherOf r (c .tenant) .progress) (c .event) a)
 
   refused-on : actAtOn p sources r c .number ≢ 0 → actAtOn p sources r c .after ≡ r
   unfolding actAtOn
   refused-on n =
-      ap (returned r (c .office))
-      (refused-for p (sourceFor sources (c .office)) (c .office) (lentTo r (c .office)) (otherOf r (c .office) .progress) (c .event) n)
-      ∙ returned-same r (c .office)
+      ap (returned r (c .tenant))
+      (refused-for p (sourceFor sources (c .tenant)) (c .tenant) (lentTo r (c .tenant)) (otherOf r (c .tenant) .progress) (c .event) n)
+      ∙ returned-same r (c .tenant)
 
-pub guards-for : (p : Plan) (sources : Sources) → Guards (RigInv p sources) (actOn p sources) (actAtOn p sources) callOf (λ c. Allowed p (c .event))
+pub guards-for : (p : Plan) (sources : Sources) → Guards (SharingInv p sources) (actOn p sources) (actAtOn p sources) callOf (λ c. Allowed p (c .event))
 guards-for p sources =
     record {
       works = λ r inv c z. needs-on p sources r c z;

@@ -15,18 +15,18 @@ use Rattle.machine.proofs.Fresh.{inv-fresh}
 use Rattle.machine.proofs.Along.{next-inv}
 use Rattle.machine.proofs.Guards.{Guards, guarded-zero, good-end}
 use Rattle.machine.proofs.AnyCalls.{follows, likewise, demand3-in, words-in, goes-on, Allowed as Both, guards-mixed}
-use Rattle.tenants.specs.Offices.{Rig, Sources, ownOf, freshRig, Call, actOn, collectOn}
-use Rattle.tenants.proofs.OneCall.{call-office}
-use Rattle.tenants.proofs.Engaged.{RigInv, inv-next}
-use Rattle.tenants.proofs.Views.{rig-itself, words208, demand3-for, goes-plain, goes-on-for, good-at}
-use Rattle.calendar.specs.Hours.{week, openAt, hoursOf, Timed, turnAt, mailOf, eventOf, actAt, TimedCall, callOf, actAtOn}
-use Rattle.calendar.specs.Demands212.{Faultless, OpensSometime, turnBy, mailBy, SomeStep, SomeCall}
+use Rattle.tenants.specs.Tenants.{Sharing, Sources, ownOf, freshSharing, Call, actOn, collectOn}
+use Rattle.tenants.proofs.OneCall.{call-tenant}
+use Rattle.tenants.proofs.Engaged.{SharingInv, inv-next}
+use Rattle.tenants.proofs.Views.{sharing-itself, words208, demand3-for, goes-plain, goes-on-for, good-at}
+use Rattle.calendar.specs.Windows.{week, openAt, momentOf, Timed, turnAt, mailOf, eventOf, actAt, TimedCall, callOf, actAtOn}
+use Rattle.calendar.specs.Demands212.{Faultless, OpensSometime, turnAtBy, mailBy, SomeStep, SomeCall}
 use Rattle.calendar.specs.AnyCalls.{Words212, Words212For, Mixed, mixedEvent, actMixed, MixedCall, mixedCall, actMixedOn, Mixed212, Mixed212For}
 use Rattle.calendar.proofs.Allowed.{Allowed, open-allowed, guards, guards-for}
-use Rattle.calendar.proofs.OneOffice.{turn-facts}
-use Rattle.calendar.proofs.TwoOffices.{call-facts}
+use Rattle.calendar.proofs.OneTenant.{turn-facts}
+use Rattle.calendar.proofs.TwoTenants.{call-facts}
 
--- ---- one office
+-- ---- one tenant
 module _ (p : Plan) (so : Sound p) (source : List ℕ) where
   -- any calls that are guarded: with hours, or mixed
   pub words-guarded : {X : Type 0} (event : X → Event) (calls : State → X → Answered State) (allowed : X → Type 0)
@@ -42,8 +42,8 @@ module _ (p : Plan) (so : Sound p) (source : List ℕ) where
   module _ (plain : State → Event → Answered State) (alike : (s : State) → Inv p source s → (e : Event) → plain s e ≡ act p source s e)
       (timed : State → Timed → Answered State) (allowed : Timed → Type 0) (gd : Guards (Inv p source) (act p source) timed eventOf allowed)
       (mail-allowed : (m : ℕ) → allowed (mailOf m))
-      (turn-allowed : (table : List ℕ) (minute b : ℕ) → Faultless p table → minute < week → openAt table b minute ≡ true
-      → allowed (turnAt (hoursOf table minute) b)) (calls : List Mixed) where
+      (turn-allowed : (calendar : List ℕ) (minute b : ℕ) → Faultless p calendar → minute < week → openAt calendar b minute ≡ true
+      → allowed (turnAt (momentOf calendar minute) b)) (calls : List Mixed) where
     abbrev acts : State → Mixed → Answered State
     acts = mixed plain timed
 
@@ -69,15 +69,15 @@ module _ (p : Plan) (so : Sound p) (source : List ℕ) where
         goes-on p so source (Inv p source) (whole mixedEvent) acts (follows p so source acts mixedEvent Allows both) (fresh p) (inv-fresh p source) refl
         calls h
 
-    at-open : (table : List ℕ) → Faultless p table → ((b : ℕ) → b < p .processors → tilesLeft p ended b ≡ true → OpensSometime table b)
-        → (e : Event) → act p source ended e .number ≡ 0 → SomeStep (λ s x. acts s (inr x)) ended [] table
+    at-open : (calendar : List ℕ) → Faultless p calendar → ((b : ℕ) → b < p .processors → tilesLeft p ended b ≡ true → OpensSometime calendar b)
+        → (e : Event) → act p source ended e .number ≡ 0 → SomeStep (λ s x. acts s (inr x)) ended [] calendar
     unfolding stateAfter either eventOf
-    at-open table f opens (turnOf b) z =
+    at-open calendar f opens (turnOf b) z =
         let q = turn-facts p source ended b z in
         let w = opens b (q .0) (q .1) in
         SomeStep.by-turn b (w .0) (w .1) (w .2)
-        (gives (inr (turnAt (hoursOf table (w .0)) b)) (turn-allowed table (w .0) b f (w .1) (w .2)) z)
-    at-open table f opens (deliveryOf m) z = SomeStep.by-mail m (gives (inr (mailOf m)) (mail-allowed m) z)
+        (gives (inr (turnAt (momentOf calendar (w .0)) b)) (turn-allowed calendar (w .0) b f (w .1) (w .2)) z)
+    at-open calendar f opens (deliveryOf m) z = SomeStep.by-mail m (gives (inr (mailOf m)) (mail-allowed m) z)
 
     pub mixed212-for : (collects : State → List ℕ → Answered (List ℕ))
         → ((s : State) → Inv p source s → (grid : List ℕ) → length grid ≡ p .cells → collects s grid ≡ collect p s grid)
@@ -90,30 +90,30 @@ module _ (p : Plan) (so : Sound p) (source : List ℕ) where
               refl collects same-grid calls;
           words = words-guarded mixedEvent acts Allows both;
           goes-on = λ h. let g = next h in (g .0, gives (inl (g .0)) tt (g .1));
-          goes-on-at = λ table f opens h. let g = next h in at-open table f opens (g .0) (g .1);
+          goes-on-at = λ calendar f opens h. let g = next h in at-open calendar f opens (g .0) (g .1);
         }
 
   pub mixed212 : (calls : List Mixed) → Mixed212 (actMixed p source) (fresh p) p source (collect p) calls
   mixed212 calls =
       mixed212-for (act p source) (λ s inv e. refl) (actAt p source) (Allowed p) (guards p source) (λ m. tt)
-      (λ table minute b f low h. open-allowed p table minute b f low h) calls (collect p) (λ s inv grid len. refl)
+      (λ calendar minute b f low h. open-allowed p calendar minute b f low h) calls (collect p) (λ s inv grid len. refl)
 
--- ---- two offices
+-- ---- two tenants
 module _ (p : Plan) (so : Sound p) (sources : Sources) where
-  pub words212-for : Words212For (actAtOn p sources) (freshRig p) p sources
+  pub words212-for : Words212For (actAtOn p sources) (freshSharing p) p sources
   words212-for = words208 p so sources callOf (actAtOn p sources) (λ c. Allowed p (c .event)) (guards-for p sources)
 
-  module _ (plain : Rig → Call → Answered Rig)
-      (gd : Guards (RigInv p sources) (actOn p sources) plain (λ c. c) (λ c. Unit {0}))
-      (timed : Rig → TimedCall → Answered Rig) (allowed : TimedCall → Type 0)
-      (gd′ : Guards (RigInv p sources) (actOn p sources) timed callOf allowed)
+  module _ (plain : Sharing → Call → Answered Sharing)
+      (gd : Guards (SharingInv p sources) (actOn p sources) plain (λ c. c) (λ c. Unit {0}))
+      (timed : Sharing → TimedCall → Answered Sharing) (allowed : TimedCall → Type 0)
+      (gd′ : Guards (SharingInv p sources) (actOn p sources) timed callOf allowed)
       (mail-allowed : (o m : ℕ) → allowed (mailBy o m))
-      (turn-allowed : (table : List ℕ) (minute o b : ℕ) → Faultless p table → minute < week → openAt table b minute ≡ true
-      → allowed (turnBy o (hoursOf table minute) b)) (calls : List MixedCall) where
-    abbrev G : Rig → Type 0
-    G = RigInv p sources
+      (turn-allowed : (calendar : List ℕ) (minute o b : ℕ) → Faultless p calendar → minute < week → openAt calendar b minute ≡ true
+      → allowed (turnAtBy o (momentOf calendar minute) b)) (calls : List MixedCall) where
+    abbrev G : Sharing → Type 0
+    G = SharingInv p sources
 
-    abbrev actsFor : Rig → MixedCall → Answered Rig
+    abbrev actsFor : Sharing → MixedCall → Answered Sharing
     actsFor = mixed plain timed
 
     abbrev AllowsFor : MixedCall → Type 0
@@ -122,41 +122,41 @@ module _ (p : Plan) (so : Sound p) (sources : Sources) where
     both-for : Guards G (actOn p sources) actsFor mixedCall AllowsFor
     both-for = guards-mixed G (actOn p sources) plain timed (λ c. c) callOf (λ c. Unit {0}) allowed gd gd′
 
-    abbrev rig : Rig
-    rig = stateAfter actsFor (freshRig p) calls
+    abbrev sharing : Sharing
+    sharing = stateAfter actsFor (freshSharing p) calls
 
-    gives-for : (x : MixedCall) → AllowsFor x → actOn p sources rig (mixedCall x) .number ≡ 0 → actsFor rig x .number ≡ 0
+    gives-for : (x : MixedCall) → AllowsFor x → actOn p sources sharing (mixedCall x) .number ≡ 0 → actsFor sharing x .number ≡ 0
     gives-for x a z =
-        guarded-zero G (actOn p sources) actsFor mixedCall AllowsFor both-for (inv-next p so sources) rig
+        guarded-zero G (actOn p sources) actsFor mixedCall AllowsFor both-for (inv-next p so sources) sharing
         (good-at p so sources mixedCall actsFor AllowsFor both-for calls) x a z
 
-    at-open-for : (table : List ℕ) → Faultless p table
-        → ((o b : ℕ) → o ≤ 1 → b < p .processors → tilesLeft p (ownOf rig o) b ≡ true → OpensSometime table b)
-        → (o : ℕ) (e : Event) → actOn p sources rig (record { office = o; event = e }) .number ≡ 0 → SomeCall (λ r c. actsFor r (inr c)) rig [] table
+    at-open-for : (calendar : List ℕ) → Faultless p calendar
+        → ((o b : ℕ) → o ≤ 1 → b < p .processors → tilesLeft p (ownOf sharing o) b ≡ true → OpensSometime calendar b)
+        → (o : ℕ) (e : Event) → actOn p sources sharing (record { tenant = o; event = e }) .number ≡ 0 → SomeCall (λ r c. actsFor r (inr c)) sharing [] calendar
     unfolding stateAfter either callOf eventOf
-    at-open-for table f opens o (turnOf b) z =
-        let low = call-office p sources rig (record { office = o; event = turnOf b }) z in
-        let q = call-facts p sources rig o b z in
+    at-open-for calendar f opens o (turnOf b) z =
+        let low = call-tenant p sources sharing (record { tenant = o; event = turnOf b }) z in
+        let q = call-facts p sources sharing o b z in
         let w = opens o b low (q .0) (q .1) in
         SomeCall.by-turn o b (w .0) (w .1) (w .2)
-        (gives-for (inr (turnBy o (hoursOf table (w .0)) b)) (turn-allowed table (w .0) o b f (w .1) (w .2)) z)
-    at-open-for table f opens o (deliveryOf m) z = SomeCall.by-mail o m (gives-for (inr (mailBy o m)) (mail-allowed o m) z)
+        (gives-for (inr (turnAtBy o (momentOf calendar (w .0)) b)) (turn-allowed calendar (w .0) o b f (w .1) (w .2)) z)
+    at-open-for calendar f opens o (deliveryOf m) z = SomeCall.by-mail o m (gives-for (inr (mailBy o m)) (mail-allowed o m) z)
 
-    pub mixed212-on : (collects : Rig → ℕ → List ℕ → Answered (List ℕ))
-        → ((r : Rig) → G r → (o : ℕ) (grid : List ℕ) → length grid ≡ p .cells → collects r o grid ≡ collectOn p r o grid)
-        → Mixed212For actsFor (freshRig p) p sources collects calls
+    pub mixed212-on : (collects : Sharing → ℕ → List ℕ → Answered (List ℕ))
+        → ((r : Sharing) → G r → (o : ℕ) (grid : List ℕ) → length grid ≡ p .cells → collects r o grid ≡ collectOn p r o grid)
+        → Mixed212For actsFor (freshSharing p) p sources collects calls
     unfolding either
     mixed212-on collects same-grid =
         record {
           demand = demand3-for p so sources mixedCall actsFor AllowsFor both-for collects same-grid calls;
           words = words208 p so sources mixedCall actsFor AllowsFor both-for;
           goes-on = goes-on-for p so sources mixedCall actsFor AllowsFor both-for calls inl (λ c. refl) (λ c. tt);
-          goes-on-at = λ table f opens h.
+          goes-on-at = λ calendar f opens h.
               let g = goes-plain p so sources mixedCall actsFor AllowsFor both-for calls h in
-              at-open-for table f opens (g .0 .office) (g .0 .event) (g .1);
+              at-open-for calendar f opens (g .0 .tenant) (g .0 .event) (g .1);
         }
 
-  pub mixed212-two : (calls : List MixedCall) → Mixed212For (actMixedOn p sources) (freshRig p) p sources (collectOn p) calls
+  pub mixed212-two : (calls : List MixedCall) → Mixed212For (actMixedOn p sources) (freshSharing p) p sources (collectOn p) calls
   mixed212-two calls =
-      mixed212-on (actOn p sources) (rig-itself p sources) (actAtOn p sources) (λ c. Allowed p (c .event)) (guards-for p sources) (λ o m. tt)
-      (λ table minute o b f low h. open-allowed p table minute b f low h) calls (collectOn p) (λ r inv o grid len. refl)
+      mixed212-on (actOn p sources) (sharing-itself p sources) (actAtOn p sources) (λ c. Allowed p (c .event)) (guards-for p sources) (λ o m. tt)
+      (λ calendar minute o b f low h. open-allowed p calendar minute b f low h) calls (collectOn p) (λ r inv o grid len. refl)

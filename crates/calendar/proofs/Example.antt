@@ -17,23 +17,23 @@ use Rattle.machine.proofs.Turns.{Delivered, delivered}
 use Rattle.machine.proofs.Fresh.{inv-fresh}
 use Rattle.machine.proofs.ComputedRun.{rows}
 use Rattle.machine.proofs.Example.{sound}
-use Rattle.tenants.specs.Offices.{Sources, freshRig, collectOn}
+use Rattle.tenants.specs.Tenants.{Sources, freshSharing, collectOn}
 use Rattle.calendar.specs.declared.Opening.the-variants.{Never}
-use Rattle.calendar.specs.Hours.{closesAt, isWindow, isFaulty, faultyBoard, faultyTable, faultyWindow, covers, inWindow, openAt, closed, hoursOf}
-use Rattle.calendar.specs.Hours.{Timed, turnAt, mailOf, actAt, TimedCall, actAtOn, untilOpen}
+use Rattle.calendar.specs.Windows.{closesAt, isWindow, isFaulty, faultyBoard, faultyTable, faultyWindow, covers, inWindow, openAt, closed, momentOf}
+use Rattle.calendar.specs.Windows.{Timed, turnAt, mailOf, actAt, TimedCall, actAtOn, untilOpen}
 use Rattle.calendar.specs.Waits.{Fair}
 use Rattle.calendar.specs.Demands212.{Faultless, SomeStep, Demand212, Demand212For}
 use Rattle.calendar.proofs.Telling.{tells}
 use Rattle.calendar.proofs.Allowed.{guards}
-use Rattle.calendar.proofs.OneOffice.{theorem212}
-use Rattle.calendar.proofs.TwoOffices.{theorem212-for}
+use Rattle.calendar.proofs.OneTenant.{theorem212}
+use Rattle.calendar.proofs.TwoTenants.{theorem212-for}
 
 -- the 16-tile plan of the machine's example
-one-office : (source : List ℕ) (events : List Timed) → Demand212 (actAt rows source) (fresh rows) events rows source (collect rows)
-one-office = theorem212 rows sound
+one-tenant : (source : List ℕ) (events : List Timed) → Demand212 (actAt rows source) (fresh rows) events rows source (collect rows)
+one-tenant = theorem212 rows sound
 
-two-offices : (sources : Sources) (calls : List TimedCall) → Demand212For (actAtOn rows sources) (freshRig rows) calls rows sources (collectOn rows)
-two-offices = theorem212-for rows sound
+two-tenants : (sources : Sources) (calls : List TimedCall) → Demand212For (actAtOn rows sources) (freshSharing rows) calls rows sources (collectOn rows)
+two-tenants = theorem212-for rows sound
 
 -- each processor is open for one minute of the week, processor b in the b-th
 unfoldable short : List ℕ
@@ -52,7 +52,7 @@ goes : (source : List ℕ) (events : List Timed) → steps (actAt rows source) (
     events short
 unfolding rows
 goes source events h =
-    one-office source events .goes-on short faultless (λ b low left. (b, omega arith, every-at (λ b. openAt short b b) 4 opened b low)) h
+    one-tenant source events .goes-on short faultless (λ b low left. (b, omega arith, every-at (λ b. openAt short b b) 4 opened b low)) h
 
 -- Waits.Fair: open for the whole week, and no window
 fair : Fair 0 10080 × Fair 0 0
@@ -77,10 +77,10 @@ zeros-never n b minute = tells (replicate n 0) minute b .if-never (λ i h. zeros
 
 -- after a fresh start nothing gives 0, whatever the plan and the minute
 module _ (p : Plan) (source : List ℕ) where
-  no-turn : (n minute b : ℕ) → actAt p source (fresh p) (turnAt (hoursOf (replicate n 0) minute) b) .number ≢ 0
+  no-turn : (n minute b : ℕ) → actAt p source (fresh p) (turnAt (momentOf (replicate n 0) minute) b) .number ≢ 0
   unfolding closed
   no-turn n minute b z =
-      never-both (not-false (zeros-shut n b minute)) (guards p source .works (fresh p) (inv-fresh p source) (turnAt (hoursOf (replicate n 0) minute) b) z .1)
+      never-both (not-false (zeros-shut n b minute)) (guards p source .works (fresh p) (inv-fresh p source) (turnAt (momentOf (replicate n 0) minute) b) z .1)
 
   no-mail : (m : ℕ) → actAt p source (fresh p) (mailOf m) .number ≢ 0
   unfolding actAt

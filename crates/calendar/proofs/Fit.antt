@@ -12,8 +12,8 @@ use Rattle.base.proofs.Tests.{both, either, and-true, or-left, or-right, not-fa
 use Rattle.machine.specs.Plan.{Plan}
 use Rattle.machine.specs.Machine.{State, tilesLeft, fit, waiting}
 use Rattle.machine.proofs.Fit.{tests, none-left, some-left}
-use Rattle.calendar.specs.Hours.{week, opensAt, closesAt, isWindow, isFaulty, covers, faultyPair, inWindow, faultyBoard, faultyTable, faultyMinute}
-use Rattle.calendar.specs.Hours.{openAt, Hours, faultyFor, faultyHours, closed, timedTurn}
+use Rattle.calendar.specs.Windows.{week, opensAt, closesAt, isWindow, isFaulty, covers, faultyPair, inWindow, faultyBoard, faultyTable, faultyMinute}
+use Rattle.calendar.specs.Windows.{openAt, Moment, faultyFor, faultyMoment, closed, timedTurn}
 use Rattle.calendar.specs.Fit.{NoWindow, OpenAt, FaultyWindow, FaultyHours, HoursTests, TimedNumber, TimedNumbers}
 
 -- ---- one pair
@@ -37,87 +37,87 @@ module _ (opens closes : ℕ) where
   fault-whenever (inl q) = or-left _ (lt-ltb week closes q)
   fault-whenever (inr q) = or-right (ltb week closes) (not-false (le-ltb opens closes q))
 
-module _ (table : List ℕ) (b : ℕ) where
-  open-only : (minute : ℕ) → openAt table b minute ≡ true → OpenAt table b minute
+module _ (calendar : List ℕ) (b : ℕ) where
+  open-only : (minute : ℕ) → openAt calendar b minute ≡ true → OpenAt calendar b minute
   unfolding openAt covers
   open-only minute e =
-      let r = some-at (inWindow table b minute) 14 e in
+      let r = some-at (inWindow calendar b minute) 14 e in
       let q = both (r .2) in
       let k = both (q .1) in
       record {
         window = r .0;
         low = r .1;
-        is = window-only (opensAt table b (r .0)) (closesAt table b (r .0)) (q .0);
+        is = window-only (opensAt calendar b (r .0)) (closesAt calendar b (r .0)) (q .0);
         opened = leb-true _ _ (k .0);
         not-closed = ltb-true _ _ (k .1);
       }
 
-  open-whenever : (minute : ℕ) → OpenAt table b minute → openAt table b minute ≡ true
+  open-whenever : (minute : ℕ) → OpenAt calendar b minute → openAt calendar b minute ≡ true
   unfolding openAt covers
   open-whenever minute c =
-      some-one (inWindow table b minute) 14 (c .window) (c .low)
+      some-one (inWindow calendar b minute) 14 (c .window) (c .low)
       (and-true (window-whenever _ _ (c .is)) (and-true (le-leb _ _ (c .opened)) (lt-ltb _ _ (c .not-closed))))
 
-  faulty-only : faultyBoard table b ≡ true → FaultyWindow table b
+  faulty-only : faultyBoard calendar b ≡ true → FaultyWindow calendar b
   unfolding faultyBoard isFaulty
   faulty-only e =
-      let r = some-at (faultyPair table b) 14 e in
+      let r = some-at (faultyPair calendar b) 14 e in
       let q = both (r .2) in
       record {
         window = r .0;
         low = r .1;
-        is = window-only (opensAt table b (r .0)) (closesAt table b (r .0)) (q .0);
-        fault = fault-only (opensAt table b (r .0)) (closesAt table b (r .0)) (q .1);
+        is = window-only (opensAt calendar b (r .0)) (closesAt calendar b (r .0)) (q .0);
+        fault = fault-only (opensAt calendar b (r .0)) (closesAt calendar b (r .0)) (q .1);
       }
 
-  faulty-whenever : FaultyWindow table b → faultyBoard table b ≡ true
+  faulty-whenever : FaultyWindow calendar b → faultyBoard calendar b ≡ true
   unfolding faultyBoard isFaulty
   faulty-whenever c =
-      some-one (faultyPair table b) 14 (c .window) (c .low)
-      (and-true (window-whenever _ _ (c .is)) (fault-whenever (opensAt table b (c .window)) (closesAt table b (c .window)) (c .fault)))
+      some-one (faultyPair calendar b) 14 (c .window) (c .low)
+      (and-true (window-whenever _ _ (c .is)) (fault-whenever (opensAt calendar b (c .window)) (closesAt calendar b (c .window)) (c .fault)))
 
-module _ (p : Plan) (h : Hours) where
-  hours-only : faultyHours p h ≡ true → FaultyHours p h
+module _ (p : Plan) (h : Moment) where
+  hours-only : faultyMoment p h ≡ true → FaultyHours p h
   unfolding faultyFor faultyTable faultyMinute
   hours-only e = go (either e)
     where
-      go : (faultyTable (p .processors) (h .table) ≡ true) ⊎ (faultyMinute (h .minute) ≡ true) → FaultyHours p h
+      go : (faultyTable (p .processors) (h .calendar) ≡ true) ⊎ (faultyMinute (h .minute) ≡ true) → FaultyHours p h
       go (inl q) =
-          let r = some-at (faultyBoard (h .table)) (p .processors) q in
-          FaultyHours.of-window (r .0) (r .1) (faulty-only (h .table) (r .0) (r .2))
+          let r = some-at (faultyBoard (h .calendar)) (p .processors) q in
+          FaultyHours.of-window (r .0) (r .1) (faulty-only (h .calendar) (r .0) (r .2))
       go (inr q) = FaultyHours.of-minute (ltb-false _ _ (false-not q))
 
-  hours-whenever : FaultyHours p h → faultyHours p h ≡ true
+  hours-whenever : FaultyHours p h → faultyMoment p h ≡ true
   unfolding faultyFor faultyTable faultyMinute
   hours-whenever (FaultyHours.of-window b low c) =
-      or-left _ (some-one (faultyBoard (h .table)) (p .processors) b low (faulty-whenever (h .table) b c))
-  hours-whenever (FaultyHours.of-minute q) = or-right (faultyTable (p .processors) (h .table)) (not-false (le-ltb (h .minute) week q))
+      or-left _ (some-one (faultyBoard (h .calendar)) (p .processors) b low (faulty-whenever (h .calendar) b c))
+  hours-whenever (FaultyHours.of-minute q) = or-right (faultyTable (p .processors) (h .calendar)) (not-false (le-ltb (h .minute) week q))
 
-  closed-only : (b : ℕ) → closed h b ≡ true → OpenAt (h .table) b (h .minute) → ⊥
+  closed-only : (b : ℕ) → closed h b ≡ true → OpenAt (h .calendar) b (h .minute) → ⊥
   unfolding closed
-  closed-only b e c = never-both (open-whenever (h .table) b (h .minute) c) (false-not e)
+  closed-only b e c = never-both (open-whenever (h .calendar) b (h .minute) c) (false-not e)
 
-  closed-whenever : (b : ℕ) → (OpenAt (h .table) b (h .minute) → ⊥) → closed h b ≡ true
+  closed-whenever : (b : ℕ) → (OpenAt (h .calendar) b (h .minute) → ⊥) → closed h b ≡ true
   unfolding closed
-  closed-whenever b n = not-false (is-false (λ e. n (open-only (h .table) b (h .minute) e)))
+  closed-whenever b n = not-false (is-false (λ e. n (open-only (h .calendar) b (h .minute) e)))
 
   pub hours-tests : HoursTests p h
   hours-tests =
       record {
-        is-open = λ b minute. record { only = open-only (h .table) b minute; whenever = open-whenever (h .table) b minute };
+        is-open = λ b minute. record { only = open-only (h .calendar) b minute; whenever = open-whenever (h .calendar) b minute };
         faulty = record { only = hours-only; whenever = hours-whenever };
         is-closed = λ b. record { only = closed-only b; whenever = closed-whenever b };
       }
 
   -- a test that is false
-  none-faulty : faultyHours p h ≡ false → FaultyHours p h → ⊥
+  none-faulty : faultyMoment p h ≡ false → FaultyHours p h → ⊥
   none-faulty e c = never-both (hours-whenever c) e
 
-  then-open : (b : ℕ) → closed h b ≡ false → OpenAt (h .table) b (h .minute)
+  then-open : (b : ℕ) → closed h b ≡ false → OpenAt (h .calendar) b (h .minute)
   unfolding closed
-  then-open b e = open-only (h .table) b (h .minute) (true-not e)
+  then-open b e = open-only (h .calendar) b (h .minute) (true-not e)
 
-  turn-number : (s : State) (b : ℕ) (t f l c w r : Bool) → fit p s ≡ t → faultyHours p h ≡ f → ltb b (p .processors) ≡ l → closed h b ≡ c
+  turn-number : (s : State) (b : ℕ) (t f l c w r : Bool) → fit p s ≡ t → faultyMoment p h ≡ f → ltb b (p .processors) ≡ l → closed h b ≡ c
       → waiting p s b ≡ w → tilesLeft p s b ≡ r
       → TimedNumber p h s b
       (firstOf (line 10 (not t) ∷ line 25 f ∷ line 11 (not l) ∷ line 24 c ∷ line 12 w ∷ line 13 (not r) ∷ []))
@@ -137,7 +137,7 @@ module _ (p : Plan) (h : Hours) where
       TimedNumber.done (tests p s .state-fit .only a0) (none-faulty a1) (ltb-true _ _ a2) (then-open b a3) (some-left p s b a5)
       (λ q. never-both (tests p s .waits b .whenever q) a4)
 
-pub timed-numbers : (p : Plan) (source : List ℕ) (h : Hours) (s : State) → TimedNumbers p source h s
+pub timed-numbers : (p : Plan) (source : List ℕ) (h : Moment) (s : State) → TimedNumbers p source h s
 unfolding timedTurn
 timed-numbers p source h s =
     record {

@@ -3,8 +3,8 @@ pub mod Fit
 pub mod Search
 pub mod Telling
 pub mod Allowed
-pub mod OneOffice
-pub mod TwoOffices
+pub mod OneTenant
+pub mod TwoTenants
 pub mod AnyCalls
 pub mod Computed
 pub mod Example

@@ -9,7 +9,7 @@ use native.Mathlib.Decide.{ℕ-discrete}
 use Rattle.base.specs.Tests.{pick, some}
 use Rattle.base.proofs.Tests.{pick-true, pick-false, some-one, some-none}
 use Rattle.calendar.specs.declared.Opening.the-variants.{OpensIn, Never}
-use Rattle.calendar.specs.Hours.{week, inWindow, openAt, firstFrom, untilOpen}
+use Rattle.calendar.specs.Windows.{week, inWindow, openAt, firstFrom, untilOpen}
 use Rattle.calendar.specs.Waits.{First}
 
 module _ (f : ℕ → Bool) where
@@ -53,17 +53,17 @@ module _ (f : ℕ → ℕ → Bool) where
       by h (inl e) = let y = s .holds (omega arith) in (y .0, (omega (arith, y .1 .0), ap (λ (n : ℕ). f n (y .0)) e ∙ y .1 .1))
       by h (inr e) = (i, (omega arith, ap (λ (n : ℕ). f n i) e ∙ g .holds (omega arith)))
 
-module _ (table : List ℕ) (b minute : ℕ) where
+module _ (calendar : List ℕ) (b minute : ℕ) where
   -- window w is open, n minutes from now
   abbrev pub openIn : ℕ → ℕ → Bool
-  openIn n w = inWindow table b ((minute + n) % week) w
+  openIn n w = inWindow calendar b ((minute + n) % week) w
 
-  pub told-never : (i v : ℕ) → Soonest openIn i v → i ≤ 14 → 14 ≤ i → v ≡ week → Never ≡ untilOpen table minute b
+  pub told-never : (i v : ℕ) → Soonest openIn i v → i ≤ 14 → 14 ≤ i → v ≡ week → Never ≡ untilOpen calendar minute b
   unfolding untilOpen openAt
   told-never i v s le ge e = sym (first-none (λ n. some (openIn n) 14) week 0
       (λ n l. some-none (openIn n) 14 (λ w k. s .before n (omega arith) w (omega arith))))
 
-  pub told-in : (i v : ℕ) → Soonest openIn i v → i ≤ 14 → 14 ≤ i → v ≢ week → OpensIn v ≡ untilOpen table minute b
+  pub told-in : (i v : ℕ) → Soonest openIn i v → i ≤ 14 → 14 ≤ i → v ≢ week → OpensIn v ≡ untilOpen calendar minute b
   unfolding untilOpen openAt
   told-in i v s le ge e =
       let l : v < week = omega (arith, s .most) in

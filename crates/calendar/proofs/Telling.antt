@@ -1,4 +1,4 @@
--- What the rig tells of opening: the search over a week finds the first open minute, or there is none.
+-- What the sharing tells of opening: the search over a week finds the first open minute, or there is none.
 use Prim.Native.Nat.{ℕ, zero, suc, _+_, _-_, _%_, _≤_, _<_}
 use mathlib.Core.Path.{_≡_, refl, sym, ap, _∙_}
 use mathlib.Core.Logic.{_⊎_, inl, inr}
@@ -8,7 +8,7 @@ use native.Mathlib.Nat.{eq-or-lt-of-le}
 use native.Mathlib.Omega.{arith}
 use Rattle.base.specs.Tests.{pick}
 use Rattle.calendar.specs.declared.Opening.the-variants.{OpensIn, Never}
-use Rattle.calendar.specs.Hours.{week, openAt, firstFrom, untilOpen}
+use Rattle.calendar.specs.Windows.{week, openAt, firstFrom, untilOpen}
 use Rattle.calendar.specs.Demands212.{TellsOpening}
 
 record Found (f : ℕ → Bool) (n k x : ℕ) : Type 0 where
@@ -71,18 +71,18 @@ stays minute h = omega arith
 in-week : (n : ℕ) → n % week < week
 in-week n = omega arith
 
-pub tells : (table : List ℕ) (minute b : ℕ) → TellsOpening (untilOpen table minute b) table minute b
+pub tells : (calendar : List ℕ) (minute b : ℕ) → TellsOpening (untilOpen calendar minute b) calendar minute b
 unfolding untilOpen
-tells table minute b =
+tells calendar minute b =
     record {
       then-open = λ n e. found f week 0 n e .here;
       not-before = λ n e i h. found f week 0 n e .before i (omega arith) h;
       in-a-week = λ n e. found f week 0 n e .below;
-      open-now = λ low h. at-once f 10079 0 (ap (openAt table b) (stays minute low) ∙ h);
-      only-now = λ low e. ap (openAt table b) (sym (stays minute low)) ∙ found f week 0 0 e .here;
-      never-open = λ e i h. let r = reached minute i h in ap (openAt table b) (sym (r .2)) ∙ none f week 0 e (r .0) (omega arith) (r .1);
+      open-now = λ low h. at-once f 10079 0 (ap (openAt calendar b) (stays minute low) ∙ h);
+      only-now = λ low e. ap (openAt calendar b) (sym (stays minute low)) ∙ found f week 0 0 e .here;
+      never-open = λ e i h. let r = reached minute i h in ap (openAt calendar b) (sym (r .2)) ∙ none f week 0 e (r .0) (omega arith) (r .1);
       if-never = λ h. if-none f week 0 (λ i l m. h ((minute + i) % week) (in-week (minute + i)));
     }
   where
     f : ℕ → Bool
-    f n = openAt table b ((minute + n) % week)
+    f n = openAt calendar b ((minute + n) % week)

@@ -12,7 +12,7 @@ use borrow.Author.Tests.{lt-ltb, le-ltb, ltb-true, ltb-false, le-leb, leb-true, 
 use Rattle.base.specs.Tests.{_and_, _or_, not, some}
 use Rattle.base.proofs.Tests.{both, and-true, and-left, and-false, and-no, either, or-left, or-right, is-false, never-both, not-false, not-true}
 use Rattle.base.proofs.Tests.{false-not, same-test, none-some}
-use Rattle.calendar.specs.Hours.{week, opensAt, closesAt, isWindow, isFaulty, faultyPair, faultyBoard, covers, inWindow}
+use Rattle.calendar.specs.Windows.{week, opensAt, closesAt, isWindow, isFaulty, faultyPair, faultyBoard, covers, inWindow}
 use Rattle.calendar.specs.Waits.{Fair, First}
 
 -- ---- a pair
@@ -88,16 +88,16 @@ module _ (o c m : ℕ) (low : m < week) (fair : Fair o c) where
 
 -- ---- a window of the table
 
-module _ (table : List ℕ) (b : ℕ) where
-  pub fair-pair : (w : ℕ) → faultyPair table b w ≡ false → Fair (opensAt table b w) (closesAt table b w)
+module _ (calendar : List ℕ) (b : ℕ) where
+  pub fair-pair : (w : ℕ) → faultyPair calendar b w ≡ false → Fair (opensAt calendar b w) (closesAt calendar b w)
   unfolding isFaulty isWindow
   fair-pair w e = record { most = most; order = order; none = none }
     where
       o : ℕ
-      o = opensAt table b w
+      o = opensAt calendar b w
 
       c : ℕ
-      c = closesAt table b w
+      c = closesAt calendar b w
 
       -- a pair that is not of zeros, with a fault, is faulty
       fault : ((o ≡ 0) × (c ≡ 0) → ⊥) → (ltb week c or not (ltb o c)) ≡ true → ⊥
@@ -124,6 +124,6 @@ module _ (table : List ℕ) (b : ℕ) where
           eq (yes h) = h
           eq (no h) = absurd (fault (λ y. h (y .0)) (or-right _ (not-false (le-ltb o c (omega arith)))))
 
-  pub fair-at : faultyBoard table b ≡ false → (w : ℕ) → w < 14 → Fair (opensAt table b w) (closesAt table b w)
+  pub fair-at : faultyBoard calendar b ≡ false → (w : ℕ) → w < 14 → Fair (opensAt calendar b w) (closesAt calendar b w)
   unfolding faultyBoard
-  fair-at e w l = fair-pair w (none-some (faultyPair table b) 14 e w l)
+  fair-at e w l = fair-pair w (none-some (faultyPair calendar b) 14 e w l)

@@ -1,4 +1,4 @@
-pub mod Hours
+pub mod Windows
 pub mod Demands212
 pub mod Waits
 pub mod AnyCalls

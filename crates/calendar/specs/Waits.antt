@@ -5,7 +5,7 @@ use Prim.Native.Nat.{ℕ, _≤_, _<_}
 use mathlib.Core.Path.{_≡_}
 use mathlib.Core.Logic.{_≢_}
 use mathlib.Core.Bool.{Bool, true, false}
-use Rattle.calendar.specs.Hours.{week}
+use Rattle.calendar.specs.Windows.{week}
 
 -- a pair that is no faulty window
 pub record Fair (opens closes : ℕ) : Type 0 where

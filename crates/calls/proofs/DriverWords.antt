@@ -20,7 +20,7 @@ use Rattle.machine.specs.Machine.{State, stateOf, answered}
 use Rattle.machine.proofs.RunLaws.{number-of, after-of}
 use Rattle.nest.specs.declared.Reading.{Reading}
 use Rattle.nest.specs.Nest.{processors}
-use Rattle.layout.specs.Sizes.{routeOf}
+use Rattle.layout.specs.RouteWords.{routeOf}
 use Rattle.recipe.specs.Routes.{linesFor, ReadFor}
 use Rattle.recipe.proofs.Laws.{numbered-for, accepted-for}
 use Rattle.rounds.specs.Rounds.{Told, told, drive}

@@ -10,39 +10,39 @@ use Rattle.base.specs.Numbers.{firstOf}
 use Rattle.base.proofs.Tests.{pick-true}
 use Rattle.machine.specs.Machine.{stateOf, State}
 use Rattle.machine.proofs.RunLaws.{number-of, after-of}
-use Rattle.tenants.specs.Offices.{Lent, lentOf}
+use Rattle.tenants.specs.Tenants.{TenantAreas, tenantAreas}
 use Rattle.calendar.specs.declared.Opening.{Opening}
 use Rattle.calendar.specs.declared.Opening.the-variants.{OpensIn, Never}
-use Rattle.calendar.specs.Hours.{Hours, hoursOf, untilOpen}
+use Rattle.calendar.specs.Windows.{Moment, momentOf, untilOpen}
 use Rattle.records.specs.declared.Progress.{Progress}
 use Rattle.records.specs.Records.{flatWords}
 use Rattle.records.proofs.Words.{length-words}
 use Rattle.engine.specs.Calls.{answer}
-use Rattle.timed.specs.Calls.{turnCallAt, turnCallAtFor, opensLines, opensCall}
-use Rattle.timed.proofs.Lines.{turn-inside, turn-inside-for}
+use Rattle.calendar_calls.specs.Calls.{turnCallAt, turnCallAtFor, opensLines, opensCall}
+use Rattle.calendar_calls.proofs.Lines.{turn-inside, turn-inside-for}
 use Rattle.calls.specs.declared.hour.NextOpening.{NextOpening}
 use Rattle.calls.specs.Opens.{tells, openingTold, opensIf, opensOf}
 
 -- ---- a turn that gave 0 has a record there
 
 pub record-there-at : (bytes : List ℕ) (route : ℕ) (source table : List ℕ) (minute : ℕ) (m u t : List ℕ) (rs : List Progress) (b n : ℕ) (x : State)
-    → answer n x ≡ turnCallAt bytes route source (hoursOf table minute) (stateOf m u (flatWords rs) t) b → n ≡ 0 → b < length rs
+    → answer n x ≡ turnCallAt bytes route source (momentOf table minute) (stateOf m u (flatWords rs) t) b → n ≡ 0 → b < length rs
 record-there-at bytes route source table minute m u t rs b n x is z =
     omega (
       arith,
       length-words rs,
-      turn-inside bytes route source (hoursOf table minute) (stateOf m u (flatWords rs) t) b (sym (number-of is) ∙ z),
+      turn-inside bytes route source (momentOf table minute) (stateOf m u (flatWords rs) t) b (sym (number-of is) ∙ z),
     )
 
 pub record-there-at-for : (bytes : List ℕ) (route : ℕ) (source : List ℕ) (o : ℕ) (table : List ℕ) (minute : ℕ) (m u t e : List ℕ)
-    (rs ss : List Progress) (b n : ℕ) (x : Lent)
-    → answer n x ≡ turnCallAtFor bytes route source o (hoursOf table minute) (lentOf (stateOf m u (flatWords rs) t) e) (flatWords ss) b
+    (rs ss : List Progress) (b n : ℕ) (x : TenantAreas)
+    → answer n x ≡ turnCallAtFor bytes route source o (momentOf table minute) (tenantAreas (stateOf m u (flatWords rs) t) e) (flatWords ss) b
     → n ≡ 0 → b < length rs
 record-there-at-for bytes route source o table minute m u t e rs ss b n x is z =
     omega (
       arith,
       length-words rs,
-      turn-inside-for bytes route source o (hoursOf table minute) (lentOf (stateOf m u (flatWords rs) t) e) (flatWords ss) b
+      turn-inside-for bytes route source o (momentOf table minute) (tenantAreas (stateOf m u (flatWords rs) t) e) (flatWords ss) b
           (sym (number-of is) ∙ z),
     )
 
@@ -63,13 +63,13 @@ opens-no (suc n) x h = refl
 
 -- ---- the question
 
-module _ (bytes : List ℕ) (h : Hours) (b n : ℕ) (x : Opening) (q : answer n x ≡ opensCall bytes h b) where
+module _ (bytes : List ℕ) (h : Moment) (b n : ℕ) (x : Opening) (q : answer n x ≡ opensCall bytes h b) where
   number-is : n ≡ firstOf (opensLines bytes h b)
   unfolding opensCall
   number-is = number-of q
 
   abbrev until : Opening
-  until = untilOpen (h .table) (h .minute) b
+  until = untilOpen (h .calendar) (h .minute) b
 
   pub opens-none : n ≢ 0 → (r : NextOpening) → r ≡ tells n 0 0 → r ≡ opensOf bytes h b
   unfolding opensOf

@@ -7,12 +7,12 @@ use native.Mathlib.Omega.{arith}
 use lib.ListN.{length}
 use Rattle.machine.specs.Plan.{Plan}
 use Rattle.machine.specs.Machine.{stateOf, Answered}
-use Rattle.tenants.specs.Offices.{Lent, lentOf}
+use Rattle.tenants.specs.Tenants.{TenantAreas, tenantAreas}
 use Rattle.records.specs.declared.Progress.{Progress}
 use Rattle.records.specs.Records.{flatWords}
 use Rattle.records.proofs.Words.{length-words}
 use Rattle.engine.specs.Calls.{answer, recipe}
-use Rattle.sharing.specs.Calls.{turnCallFor, lookNumber}
+use Rattle.sharing.specs.Calls.{turnCallFor, viewNumber}
 use Rattle.sharing.proofs.Starts.{turn-inside}
 use Rattle.calls.specs.declared.tenant.Viewed.{Viewed}
 use Rattle.calls.specs.View.{noView, viewIf, viewOf}
@@ -20,14 +20,14 @@ use Rattle.calls.specs.View.{noView, viewIf, viewOf}
 -- ---- a turn that gave 0 has a record there
 
 pub record-there-for : (bytes : List ℕ) (route : ℕ) (source : List ℕ) (o : ℕ) (m u t e : List ℕ) (rs ss : List Progress) (b n : ℕ)
-    (x : Lent)
-    → answer n x ≡ turnCallFor bytes route source o (lentOf (stateOf m u (flatWords rs) t) e) (flatWords ss) b → n ≡ 0 → b < length rs
+    (x : TenantAreas)
+    → answer n x ≡ turnCallFor bytes route source o (tenantAreas (stateOf m u (flatWords rs) t) e) (flatWords ss) b → n ≡ 0 → b < length rs
 record-there-for bytes route source o m u t e rs ss b n x is z =
     omega (
       arith,
       length-words rs,
-      turn-inside bytes route source o (lentOf (stateOf m u (flatWords rs) t) e) (flatWords ss) b
-          (ap (λ (y : Answered Lent). y .number) (sym is) ∙ z),
+      turn-inside bytes route source o (tenantAreas (stateOf m u (flatWords rs) t) e) (flatWords ss) b
+          (ap (λ (y : Answered TenantAreas). y .number) (sym is) ∙ z),
     )
 
 -- ---- the view
@@ -37,7 +37,7 @@ unfolding viewIf
 view-no zero p b h = absurd (h refl)
 view-no (suc n) p b h = refl
 
-module _ (bytes first second : List ℕ) (o b : ℕ) (n : ℕ) (is : n ≡ lookNumber bytes first second o b) where
+module _ (bytes first second : List ℕ) (o b : ℕ) (n : ℕ) (is : n ≡ viewNumber bytes first second o b) where
   pub view-none : n ≢ 0 → noView n ≡ viewOf bytes first second o b
   unfolding viewOf
   view-none h = sym (view-no n (recipe bytes 0) b h) ∙ ap (λ (k : ℕ). viewIf k (recipe bytes 0) b) is

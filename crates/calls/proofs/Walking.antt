@@ -39,7 +39,7 @@ use denote.Triple.Statement.{Contract, Triple}
 use denote.Triple.Call.{calls-at}
 use denote.Triple.Clauses.{ensured, lasts}
 use denote.Triple.Walked.{says}
-use Rattle.records.specs.Records.{flatWords, Carries, putAt, clearAll}
+use Rattle.records.specs.Records.{flatWords, Flattens, putAt, clearAll}
 use Rattle.records.specs.declared.Progress.{Progress}
 use Rattle.records.specs.declared.Flat.{Flat}
 use Rattle.records.proofs.Progress as T
@@ -178,8 +178,8 @@ module _ {M : Type 1} (𝓤 : URA M) (H : Heap 𝓤) (A : Atoms 𝓤) (mem : Mem
     to-clear n = (((κ, tt), (q, tt), tt, (x, (n, tt)), (slice x ∷ [], (vint w32 n ∷ [], tt))), tt)
 
     flatten-of : (f : Flat)
-        → ent 𝓤 (ensured 𝓤 H A flatten.ended (flatten.clauses 𝓤 H A mem run) (κ, tt) (x, tt) tt f) (fact 𝓤 (Carries f (flatWords (now x))))
-    flatten-of f = exE 𝓤 _ (λ ws. snd∗ 𝓤 (sem 𝓤 H A (lasts flatten.ended (κ, tt) (x, tt) ws)) (fact 𝓤 (Carries f (flatWords (now x)))))
+        → ent 𝓤 (ensured 𝓤 H A flatten.ended (flatten.clauses 𝓤 H A mem run) (κ, tt) (x, tt) tt f) (fact 𝓤 (Flattens f (flatWords (now x))))
+    flatten-of f = exE 𝓤 _ (λ ws. snd∗ 𝓤 (sem 𝓤 H A (lasts flatten.ended (κ, tt) (x, tt) ws)) (fact 𝓤 (Flattens f (flatWords (now x)))))
 
     goes-flatten : (W : Given 𝓤 H A) (ℓ : Lifetime)
         → ent 𝓤 (sep 𝓤 (A .lft κ q) (sem 𝓤 H A (ShrSlice ℓ κ R .own x (slice x ∷ [])))) (Flatten .pre to-flatten)
@@ -212,7 +212,7 @@ module _ {M : Type 1} {𝓤 : URA M} {H : Heap 𝓤} {A : Atoms 𝓤} {K : Type 
     (κ : Lft) (q : Share) (x : RefT (List Progress)) {Γ : List (Item 𝓤)} where
   pub flattens : K → FmC 𝓤 H (W .laws) C → Triple 𝓤 (C #records·flatten) (Flatten 𝓤 H A mem run) → (ℓ : Lifetime)
       → Opds K W (raw (Flatten 𝓤 H A mem run .pre (to-flatten 𝓤 H A mem run κ q x)) ∷ Γ) En xs (slice x ∷ [])
-      → ((f : Flat) → Is F f (low f ∷ []) → Carries f (flatWords (now x)) → Seq K W (‵ (flft κ q) ∷ Γ) (lands C Λ En d (low f) rest p))
+      → ((f : Flat) → Is F f (low f ∷ []) → Flattens f (flatWords (now x)) → Seq K W (‵ (flft κ q) ∷ Γ) (lands C Λ En d (low f) rest p))
       → Seq K W (‵ (flft κ q) ∷ ‵ (ShrSlice ℓ κ R .own x (slice x ∷ [])) ∷ Γ) (runs C Λ En (seq (call #records·flatten xs d) rest) p)
   flattens t fm known ℓ os k =
       use2 W (raw (Flatten 𝓤 H A mem run .pre (to-flatten 𝓤 H A mem run κ q x))) (goes-flatten 𝓤 H A mem run κ q x W ℓ) $
@@ -220,8 +220,8 @@ module _ {M : Type 1} {𝓤 : URA M} {H : Heap 𝓤} {A : Atoms 𝓤} {K : Type 
       use1 W (later (some (λ (f : Flat). ((‵ (flft κ q) ⊛ ‵ ftrue) ⊛ ‵ (F .own f (w ∷ [])))
       ⊛ raw (ensured 𝓤 H A flatten.ended (flatten.clauses 𝓤 H A mem run) (κ, tt) (x, tt) tt f)))) (id⊢ 𝓤 _) $
       await t tt $ pick t (λ f. split t $ move t (1 ∷ []) $
-      use1 W (raw (fact 𝓤 (Carries f (flatWords (now x))))) (flatten-of 𝓤 H A mem run κ q x f) $
-      heard t (Carries f (flatWords (now x))) (λ e. split t $ move t (1 ∷ []) $
+      use1 W (raw (fact 𝓤 (Flattens f (flatWords (now x))))) (flatten-of 𝓤 H A mem run κ q x f) $
+      heard t (Flattens f (flatWords (now x))) (λ e. split t $ move t (1 ∷ []) $
       peeks t F (Is F) (shows 𝓤 H A F) f (w ∷ []) (λ is. drop t $ split t $ move t (1 ∷ []) $ drop t $
       regoal t (λ (v : Val). lands C Λ En d v rest p) (ap only (LL.tells S.the-type S′.the-laws f (w ∷ []) is)) refl $
       k f (subst (λ (vs : List Val). Is F f vs) (LL.tells S.the-type S′.the-laws f (w ∷ []) is) is) e))))
@@ -236,7 +236,7 @@ module _ {M : Type 1} {𝓤 : URA M} {H : Heap 𝓤} {A : Atoms 𝓤} {K : Type 
       → Opds K W (raw (Flatten 𝓤 H A mem run .pre (to-flatten 𝓤 H A mem run (ν ∷ []) fullShare (renamed δ x)))
       ∷ ‵ (LentShared R κ (ν ∷ []) q (x .name) (x .ptr .0) (x .ptr .1) (now x)) ∷ Γ)
       En xs (slice x ∷ []))
-      → ((f : Flat) → Is F f (low f ∷ []) → Carries f (flatWords (now x))
+      → ((f : Flat) → Is F f (low f ∷ []) → Flattens f (flatWords (now x))
       → Seq K W (‵ (MutSlice ℓ κ R .own x (slice x ∷ [])) ∷ ‵ (flft κ q) ∷ Γ) (lands C Λ En d (low f) rest p))
       → Seq K W (‵ (MutSlice ℓ κ R .own x (slice x ∷ [])) ∷ ‵ (flft κ q) ∷ Γ)
       (runs C Λ En (seq (call #records·flatten xs d) rest) p)

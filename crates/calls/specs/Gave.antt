@@ -1,7 +1,7 @@
 -- Read this.
 -- What each exported call gives: a relation for each, over what it was lent, the number it gave, what it told and what it left. The contract of every function
 -- of src/ that has C linkage is its relation; all claims about the exported calls, in the files beside this one, speak of these very relations.
--- Renders document 01, "The machine" and "Numbers a call gives", and the requests that ask for a call. Lent `a`, the call gave n and left `b`;
+-- Renders document 01, "The machine" and "Numbers a call gives", and the requests that ask for a call. TenantAreas `a`, the call gave n and left `b`;
 -- what is lent for reading alone is left as it was. Board records are structs.
 use Prim.Native.Nat.{ℕ}
 use mathlib.Core.Path.{_≡_}
@@ -9,12 +9,12 @@ use mathlib.Core.List.{List, []}
 use lib.IntN.{ℤ}
 use Rattle.machine.specs.Machine.{State, stateOf}
 use Rattle.machine.specs.Runs.{Event, turnOf, deliveryOf}
-use Rattle.tenants.specs.Offices.{Lent, lentOf, Rig, rigOf, Sources}
-use Rattle.calendar.specs.Hours.{Hours, Timed, turnAt, mailOf}
+use Rattle.tenants.specs.Tenants.{TenantAreas, tenantAreas, Sharing, sharingOf, Sources}
+use Rattle.calendar.specs.Windows.{Moment, Timed, turnAt, mailOf}
 use Rattle.records.specs.declared.Progress.{Progress}
 use Rattle.records.specs.Records.{flatWords}
 use Rattle.engine.specs.Calls.{answer, freshCall, turnCall, deliverCall, collectCall, sweepCall}
-use Rattle.layout.specs.Sizes.{routeOf}
+use Rattle.layout.specs.RouteWords.{routeOf}
 use Rattle.summary.specs.declared.Figures.{Figures}
 use Rattle.summary.specs.declared.MessageLine.{MessageLine}
 use Rattle.summary.specs.declared.HopCount.{HopCount}
@@ -24,15 +24,15 @@ use Rattle.writer.specs.Fields.{Fields, Widths}
 use Rattle.writer.specs.Told.{readCall}
 use Rattle.writer.specs.Writing.{writeCall}
 use Rattle.soundings.specs.Soundings.{fillCall}
-use Rattle.sharing.specs.Calls.{turnCallFor, deliverCallFor, collectCallFor, freshRigCall}
-use Rattle.timed.specs.Calls.{turnCallAt, turnCallAtFor}
+use Rattle.sharing.specs.Calls.{turnCallFor, deliverCallFor, collectCallFor, freshSharingCall}
+use Rattle.calendar_calls.specs.Calls.{turnCallAt, turnCallAtFor}
 use Rattle.rounds.specs.Rounds.{told}
 use Rattle.schedule.specs.declared.Driven.{Driven}
 use Rattle.schedule.specs.Calls.{roundsCall, roundsOfCall}
 use Rattle.transport.specs.declared.Waiting.{Waiting}
 use Rattle.transport.specs.Calls.{messagesCall, ownersCall, waitsOf, awaitedCall, takeInCall}
 use Rattle.part_calls.specs.declared.AreaLengths.{AreaLengths}
-use Rattle.part_calls.specs.front.Calls.{ownSizesCall, ownMessagesCall, ownFreshCall, ownTurnCall, ownPostCall, ownArriveCall, ownCollectCall}
+use Rattle.part_calls.specs.front.Calls.{partSizesCall, partMessagesCall, partFreshCall, partTurnCall, partPostCall, partArriveCall, partCollectCall}
 use Rattle.packets.specs.declared.chunks.Taken.{Taken}
 use Rattle.packets.specs.Fingerprint.{fingerprintOf}
 use Rattle.packets.specs.Calls as packets
@@ -72,7 +72,7 @@ askedWith r t = stateOf [] [] (flatWords r) t
 abbrev pub kept : List ℕ → List Progress → State
 kept m r = stateOf m [] (flatWords r) []
 
--- what a call of an office is lent to change: its own areas and the shared words
+-- what a call of a tenant is lent to change: its own areas and the shared words
 pub record LentAreas : Type 0 where
   pub own : Areas
   pub engaged : List ℕ
@@ -80,22 +80,22 @@ pub record LentAreas : Type 0 where
 abbrev pub lentAreasOf : Areas → List ℕ → LentAreas
 lentAreasOf own engaged = record { own = own; engaged = engaged }
 
-abbrev pub lentWords : LentAreas → Lent
-lentWords a = lentOf (inWords (a .own)) (a .engaged)
+abbrev pub lentWords : LentAreas → TenantAreas
+lentWords a = tenantAreas (inWords (a .own)) (a .engaged)
 
--- the areas of both offices, and the shared words
-pub record RigAreas : Type 0 where
-  pub first : Areas  -- office 0's
-  pub second : Areas  -- office 1's
+-- the areas of both tenants, and the shared words
+pub record SharingAreas : Type 0 where
+  pub first : Areas  -- tenant 0's
+  pub second : Areas  -- tenant 1's
   pub engaged : List ℕ
 
-abbrev pub rigAreasOf : Areas → Areas → List ℕ → RigAreas
-rigAreasOf first second engaged = record { first = first; second = second; engaged = engaged }
+abbrev pub sharingAreasOf : Areas → Areas → List ℕ → SharingAreas
+sharingAreasOf first second engaged = record { first = first; second = second; engaged = engaged }
 
-abbrev pub rigWords : RigAreas → Rig
-rigWords a = rigOf (inWords (a .first)) (inWords (a .second)) (a .engaged)
+abbrev pub sharingWords : SharingAreas → Sharing
+sharingWords a = sharingOf (inWords (a .first)) (inWords (a .second)) (a .engaged)
 
--- ---- src/lib.rt: one office
+-- ---- src/lib.rt: one tenant
 
 module _ (bytes : List ℕ) (route : ℕ) (source : List ℕ) where
   abbrev pub FreshGave : Areas → ℕ → Areas → Type 0
@@ -133,23 +133,23 @@ pub record WriteGave (v : Fields) (old : List ℕ) (n : ℕ) (space : List ℕ) 
 abbrev pub SoundingsGave : List ℕ → List ℕ → ℕ → List ℕ → ℕ → List ℕ → Type 0
 SoundingsGave bytes file value old n source = answer n source ≡ fillCall bytes file value old
 
--- ---- src/tenant.rt: one of two offices on one rig
+-- ---- src/tenant.rt: one of two tenants on the same processors
 
 module _ (bytes : List ℕ) (route : ℕ) where
-  -- office o, lent the other's records `theirs` only to read
-  abbrev pub OfficeGave : List ℕ → ℕ → List Progress → LentAreas → Event → ℕ → LentAreas → Type 0
-  OfficeGave source o theirs a (turnOf p) n b = answer n (lentWords b) ≡ turnCallFor bytes route source o (lentWords a) (flatWords theirs) p
-  OfficeGave source o theirs a (deliveryOf m) n b =
+  -- tenant o, lent the other's records `theirs` only to read
+  abbrev pub TenantGave : List ℕ → ℕ → List Progress → LentAreas → Event → ℕ → LentAreas → Type 0
+  TenantGave source o theirs a (turnOf p) n b = answer n (lentWords b) ≡ turnCallFor bytes route source o (lentWords a) (flatWords theirs) p
+  TenantGave source o theirs a (deliveryOf m) n b =
       answer n (lentWords b) ≡ deliverCallFor bytes route source o (lentWords a) (flatWords theirs) m
 
   -- lent the words `old` too, left as `grid`
-  abbrev pub OfficeCollectGave : List ℕ → ℕ → List Progress → LentAreas → List ℕ → ℕ → List ℕ → Type 0
-  OfficeCollectGave source o theirs a old n grid = answer n grid ≡ collectCallFor bytes route source o (lentWords a) (flatWords theirs) old
+  abbrev pub TenantCollectGave : List ℕ → ℕ → List Progress → LentAreas → List ℕ → ℕ → List ℕ → Type 0
+  TenantCollectGave source o theirs a old n grid = answer n grid ≡ collectCallFor bytes route source o (lentWords a) (flatWords theirs) old
 
-  abbrev pub FreshBothGave : Sources → RigAreas → ℕ → RigAreas → Type 0
-  FreshBothGave sources a n b = answer n (rigWords b) ≡ freshRigCall bytes route sources (rigWords a)
+  abbrev pub FreshBothGave : Sources → SharingAreas → ℕ → SharingAreas → Type 0
+  FreshBothGave sources a n b = answer n (sharingWords b) ≡ freshSharingCall bytes route sources (sharingWords a)
 
--- processor b's part of office o's memories
+-- processor b's part of tenant o's memories
 abbrev pub ViewGave : List ℕ → List ℕ → List ℕ → ℕ → ℕ → Viewed → Type 0
 ViewGave bytes first second o b told = told ≡ viewOf bytes first second o b
 
@@ -161,13 +161,13 @@ module _ (bytes : List ℕ) (route : ℕ) where
   TimedGave source a (turnAt h p) n b = answer n (inWords b) ≡ turnCallAt bytes route source h (inWords a) p
   TimedGave source a (mailOf m) n b = EventGave bytes route source a (deliveryOf m) n b
 
-  -- office o, lent the other's records `theirs` only to read
-  abbrev pub OfficeTimedGave : List ℕ → ℕ → List Progress → LentAreas → Timed → ℕ → LentAreas → Type 0
-  OfficeTimedGave source o theirs a (turnAt h p) n b =
+  -- tenant o, lent the other's records `theirs` only to read
+  abbrev pub TenantTimedGave : List ℕ → ℕ → List Progress → LentAreas → Timed → ℕ → LentAreas → Type 0
+  TenantTimedGave source o theirs a (turnAt h p) n b =
       answer n (lentWords b) ≡ turnCallAtFor bytes route source o h (lentWords a) (flatWords theirs) p
-  OfficeTimedGave source o theirs a (mailOf m) n b = OfficeGave bytes route source o theirs a (deliveryOf m) n b
+  TenantTimedGave source o theirs a (mailOf m) n b = TenantGave bytes route source o theirs a (deliveryOf m) n b
 
-abbrev pub OpensGave : List ℕ → Hours → ℕ → NextOpening → Type 0
+abbrev pub OpensGave : List ℕ → Moment → ℕ → NextOpening → Type 0
 OpensGave bytes h b told = told ≡ opensOf bytes h b
 
 -- ---- src/round.rt: by rounds, on the direct route
@@ -237,23 +237,23 @@ ChartLengthGave bytes grid x y size text = text ≡ lengthCall bytes grid x y si
 
 module _ (bytes : List ℕ) (route : ℕ) where
   abbrev pub PartSizesGave : ℕ → AreaLengths → Type 0
-  PartSizesGave p told = told ≡ ownSizesCall bytes route p
+  PartSizesGave p told = told ≡ partSizesCall bytes route p
 
   abbrev pub PartMessagesGave : ℕ → List ℕ → ℕ → List ℕ → Type 0
-  PartMessagesGave p old n out = answer n out ≡ ownMessagesCall bytes route p old
+  PartMessagesGave p old n out = answer n out ≡ partMessagesCall bytes route p old
 
   abbrev pub PartFreshGave : ℕ → Areas → ℕ → Areas → Type 0
-  PartFreshGave p a n b = answer n (inWords b) ≡ ownFreshCall bytes route (inWords a) p
+  PartFreshGave p a n b = answer n (inWords b) ≡ partFreshCall bytes route (inWords a) p
 
   abbrev pub PartTurnGave : List ℕ → ℕ → Areas → ℕ → Areas → Type 0
-  PartTurnGave source p a n b = answer n (inWords b) ≡ ownTurnCall bytes route source (inWords a) p
+  PartTurnGave source p a n b = answer n (inWords b) ≡ partTurnCall bytes route source (inWords a) p
 
   abbrev pub PartPostGave : ℕ → ℕ → Areas → ℕ → Areas → Type 0
-  PartPostGave p m a n b = answer n (inWords b) ≡ ownPostCall bytes route (inWords a) p m
+  PartPostGave p m a n b = answer n (inWords b) ≡ partPostCall bytes route (inWords a) p m
 
   abbrev pub PartArriveGave : ℕ → ℕ → List ℕ → Areas → ℕ → Areas → Type 0
-  PartArriveGave p m words a n b = answer n (inWords b) ≡ ownArriveCall bytes route (inWords a) p m words
+  PartArriveGave p m words a n b = answer n (inWords b) ≡ partArriveCall bytes route (inWords a) p m words
 
   -- its memory and its record to read; the grid was `old`
   abbrev pub PartCollectGave : ℕ → List ℕ → List Progress → List ℕ → ℕ → List ℕ → Type 0
-  PartCollectGave p memory record′ old n grid = answer n grid ≡ ownCollectCall bytes route (kept memory record′) p old
+  PartCollectGave p memory record′ old n grid = answer n grid ≡ partCollectCall bytes route (kept memory record′) p old

@@ -1,8 +1,8 @@
-// The calls with hours with C linkage: a turn at a minute of the week, for one office and for one of two, over progress records as structs;
+// The calls with hours with C linkage: a turn at a minute of the week, for one tenant and for one of two, over progress records as structs;
 // and the minutes until a processor next opens. `hours` is the table, 14 pairs of words a processor.
 ghost use mathlib.Core.Path.{_≡_};
-ghost use Rattle.calendar.specs.Hours.{hoursOf, turnAt};
-ghost use Rattle.calls.specs.Gave.{areasOf, lentAreasOf, TimedGave, OfficeTimedGave, OpensGave};
+ghost use Rattle.calendar.specs.Windows.{momentOf, turnAt};
+ghost use Rattle.calls.specs.Gave.{areasOf, lentAreasOf, TimedGave, TenantTimedGave, OpensGave};
 ghost use Rattle.calls.specs.Opens.{tells, openingTold};
 use calendar::Opening;
 use records::Progress;
@@ -23,11 +23,11 @@ pub extern "C" fn rolwyddac_turn_at(
 ) -> u32
     ensures { λ r. ⌜ TimedGave (now (encoded .entry)) route (now (source .entry))
         (areasOf (now (memories .entry)) (now (buffer .entry)) (now (progress .entry)) (now (status .entry)))
-        (turnAt (hoursOf (now (hours .entry)) minute) processor)
+        (turnAt (momentOf (now (hours .entry)) minute) processor)
         r (areasOf (now (memories .exit)) (now (buffer .exit)) (now (progress .exit)) (now (status .exit))) ⌝ }
 {
     let flat = records::flatten(progress);
-    let after = timed::core::turn(
+    let after = calendar_calls::core::turn(
         encoded,
         route,
         source,
@@ -43,7 +43,7 @@ pub extern "C" fn rolwyddac_turn_at(
     after.number
 }
 
-// One turn of a processor for an office.
+// One turn of a processor for a tenant.
 #[no_mangle]
 pub extern "C" fn rolwyddac_tenant_turn_at(
     encoded: &[u8],
@@ -57,17 +57,17 @@ pub extern "C" fn rolwyddac_tenant_turn_at(
     other: &[Progress],
     hours: &[u32],
     minute: u32,
-    office: u32,
+    tenant: u32,
     processor: u32,
 ) -> u32
-    ensures { λ r. ⌜ OfficeTimedGave (now (encoded .entry)) route (now (source .entry)) office (now (other .entry))
+    ensures { λ r. ⌜ TenantTimedGave (now (encoded .entry)) route (now (source .entry)) tenant (now (other .entry))
         (lentAreasOf (areasOf (now (memories .entry)) (now (buffer .entry)) (now (progress .entry)) (now (status .entry))) (now (engaged .entry)))
-        (turnAt (hoursOf (now (hours .entry)) minute) processor)
+        (turnAt (momentOf (now (hours .entry)) minute) processor)
         r (lentAreasOf (areasOf (now (memories .exit)) (now (buffer .exit)) (now (progress .exit)) (now (status .exit))) (now (engaged .exit))) ⌝ }
 {
     let own = records::flatten(progress);
     let theirs = records::flatten(other);
-    let after = timed::core::turn_for(
+    let after = calendar_calls::core::turn_for(
         encoded,
         route,
         source,
@@ -79,7 +79,7 @@ pub extern "C" fn rolwyddac_tenant_turn_at(
         theirs,
         hours,
         minute,
-        office,
+        tenant,
         processor,
     );
     records::put(progress, after.number, processor, after.progress);
@@ -121,9 +121,9 @@ pub extern "C" fn rolwyddac_opens(
     minute: u32,
     processor: u32,
 ) -> NextOpening
-    ensures { λ r. ⌜ OpensGave (now (encoded .entry)) (hoursOf (now (hours .entry)) minute) processor r ⌝ }
+    ensures { λ r. ⌜ OpensGave (now (encoded .entry)) (momentOf (now (hours .entry)) minute) processor r ⌝ }
 {
-    let asked = timed::opens(encoded, hours, minute, processor);
+    let asked = calendar_calls::opens(encoded, hours, minute, processor);
     let number = asked.number;
     if number != 0 {
         return tell(number, 0, 0);

@@ -13,7 +13,7 @@ use summary::HopCount;
 use summary::MessageLine;
 use writer::reading::RecipeFields;
 
-pub mod tenant; // tenant.rt: for one of two tenants on one rig, and the view of a processor's memory
+pub mod tenant; // tenant.rt: for one of two tenants on the same processors, and the view of a processor's memory
 pub mod chart_text; // chart_text.rt: a grid's text
 pub mod hour; // hour.rt: with hours when processors may run
 pub mod round; // round.rt: the driver by rounds

@@ -10,8 +10,10 @@ ghost use Rattle.engine.specs.Calls.{answer};
 ghost use Rattle.schedule.specs.Calls.{roundsCall};
 ghost use Rattle.calls.specs.DriverWords.{wordsAfter};
 ghost use Rattle.calls.specs.Gave.{areasOf, RoundsGave, RoundsOfGave};
+use base::refusals;
 use records::Flat;
 use records::Progress;
+use records::RECORD_WORDS;
 use schedule::Driven;
 
 // What the driver makes but for the stores into the records: what it tells and, where its number is 0, the records' words.
@@ -24,7 +26,7 @@ fn refused(number: u32) -> Ran
     ensures { λ r. ⌜ (r .driven .number ≡ number) × ((r .driven .rounds ≡ 0) × (length (r .flat .words) ≡ 192)) ⌝ }
 {
     let flat = Flat {
-        words: [0; 192],
+        words: [0; RECORD_WORDS],
         count: 0,
     };
     let driven = Driven {
@@ -54,15 +56,15 @@ fn drive(
         × ((r .driven .number ≡ 0 → words ≤ 192) × (length (r .flat .words) ≡ 192)) ⌝ }
 {
     // no recipe has so many records
-    if words > 192 {
+    if words > RECORD_WORDS {
         let reading = recipe::read_for(encoded, 0);
         let number = reading.number;
         if number != 0 {
             return refused(number);
         }
-        return refused(9);
+        return refused(refusals::AREA);
     }
-    let mut kept = [0u32; 192];
+    let mut kept = [0u32; RECORD_WORDS];
     let driven = schedule::run(
         encoded,
         source,

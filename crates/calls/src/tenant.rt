@@ -1,14 +1,14 @@
-// The calls for a tenant of the rig, an office of the request, with C linkage, over progress records as structs: a fresh start of both offices
-// together; a turn, a delivery and collecting for one of them, to which the other's records are lent only to read; and the view of a processor's
+// The calls for a tenant (the paper: an office), with C linkage, over progress records as structs: a fresh start of both tenants together; a turn, a delivery
+// and collecting for one of them, to which the other's records are lent only to read; and the view of a processor's
 // memory.
 ghost use mathlib.Core.Path.{_≡_};
 ghost use Rattle.machine.specs.Runs.{turnOf, deliveryOf};
-ghost use Rattle.tenants.specs.Offices.{sourcesOf};
-ghost use Rattle.calls.specs.Gave.{areasOf, lentAreasOf, rigAreasOf, OfficeGave, OfficeCollectGave, FreshBothGave, ViewGave};
+ghost use Rattle.tenants.specs.Tenants.{sourcesOf};
+ghost use Rattle.calls.specs.Gave.{areasOf, lentAreasOf, sharingAreasOf, TenantGave, TenantCollectGave, FreshBothGave, ViewGave};
 ghost use Rattle.calls.specs.View.{noView};
 use records::Progress;
 
-// One turn of a processor for an office.
+// One turn of a processor for a tenant.
 #[no_mangle]
 pub extern "C" fn rolwyddac_tenant_turn(
     encoded: &[u8],
@@ -20,10 +20,10 @@ pub extern "C" fn rolwyddac_tenant_turn(
     status: &mut [u8],
     engaged: &mut [u32],
     other: &[Progress],
-    office: u32,
+    tenant: u32,
     processor: u32,
 ) -> u32
-    ensures { λ r. ⌜ OfficeGave (now (encoded .entry)) route (now (source .entry)) office (now (other .entry))
+    ensures { λ r. ⌜ TenantGave (now (encoded .entry)) route (now (source .entry)) tenant (now (other .entry))
         (lentAreasOf (areasOf (now (memories .entry)) (now (buffer .entry)) (now (progress .entry)) (now (status .entry))) (now (engaged .entry)))
         (turnOf processor)
         r (lentAreasOf (areasOf (now (memories .exit)) (now (buffer .exit)) (now (progress .exit)) (now (status .exit))) (now (engaged .exit))) ⌝ }
@@ -40,14 +40,14 @@ pub extern "C" fn rolwyddac_tenant_turn(
         status,
         engaged,
         theirs,
-        office,
+        tenant,
         processor,
     );
     records::put(progress, after.number, processor, after.progress);
     after.number
 }
 
-// The delivery of a message for an office.
+// The delivery of a message for a tenant.
 #[no_mangle]
 pub extern "C" fn rolwyddac_tenant_deliver(
     encoded: &[u8],
@@ -59,10 +59,10 @@ pub extern "C" fn rolwyddac_tenant_deliver(
     status: &mut [u8],
     engaged: &[u32],
     other: &[Progress],
-    office: u32,
+    tenant: u32,
     message: u32,
 ) -> u32
-    ensures { λ r. ⌜ OfficeGave (now (encoded .entry)) route (now (source .entry)) office (now (other .entry))
+    ensures { λ r. ⌜ TenantGave (now (encoded .entry)) route (now (source .entry)) tenant (now (other .entry))
         (lentAreasOf (areasOf (now (memories .entry)) (now (buffer .entry)) (now (progress .entry)) (now (status .entry))) (now (engaged .entry)))
         (deliveryOf message)
         r (lentAreasOf (areasOf (now (memories .entry)) (now (buffer .entry)) (now (progress .entry)) (now (status .exit))) (now (engaged .entry))) ⌝ }
@@ -79,12 +79,12 @@ pub extern "C" fn rolwyddac_tenant_deliver(
         status,
         engaged,
         theirs,
-        office,
+        tenant,
         message,
     )
 }
 
-// An office's grid, once all processors have finished for it.
+// A tenant's grid, once all processors have finished for it.
 #[no_mangle]
 pub extern "C" fn rolwyddac_tenant_collect(
     encoded: &[u8],
@@ -96,10 +96,10 @@ pub extern "C" fn rolwyddac_tenant_collect(
     status: &[u8],
     engaged: &[u32],
     other: &[Progress],
-    office: u32,
+    tenant: u32,
     grid: &mut [u32],
 ) -> u32
-    ensures { λ r. ⌜ OfficeCollectGave (now (encoded .entry)) route (now (source .entry)) office (now (other .entry))
+    ensures { λ r. ⌜ TenantCollectGave (now (encoded .entry)) route (now (source .entry)) tenant (now (other .entry))
         (lentAreasOf (areasOf (now (memories .entry)) (now (buffer .entry)) (now (progress .entry)) (now (status .entry))) (now (engaged .entry)))
         (now (grid .entry)) r (now (grid .exit)) ⌝ }
 {
@@ -115,12 +115,12 @@ pub extern "C" fn rolwyddac_tenant_collect(
         status,
         engaged,
         theirs,
-        office,
+        tenant,
         grid,
     )
 }
 
-// A fresh start of both offices together.
+// A fresh start of both tenants together.
 #[no_mangle]
 pub extern "C" fn rolwyddac_fresh_both(
     encoded: &[u8],
@@ -138,11 +138,11 @@ pub extern "C" fn rolwyddac_fresh_both(
     engaged: &mut [u32],
 ) -> u32
     ensures { λ n. ⌜ FreshBothGave (now (encoded .entry)) route (sourcesOf (now («first_source» .entry)) (now («second_source» .entry)))
-        (rigAreasOf (areasOf (now («first_memories» .entry)) (now («first_buffer» .entry)) (now («first_progress» .entry)) (now («first_status» .entry)))
+        (sharingAreasOf (areasOf (now («first_memories» .entry)) (now («first_buffer» .entry)) (now («first_progress» .entry)) (now («first_status» .entry)))
         (areasOf (now («second_memories» .entry)) (now («second_buffer» .entry)) (now («second_progress» .entry)) (now («second_status» .entry)))
         (now (engaged .entry)))
         n
-        (rigAreasOf (areasOf (now («first_memories» .exit)) (now («first_buffer» .exit)) (now («first_progress» .exit)) (now («first_status» .exit)))
+        (sharingAreasOf (areasOf (now («first_memories» .exit)) (now («first_buffer» .exit)) (now («first_progress» .exit)) (now («first_status» .exit)))
         (areasOf (now («second_memories» .exit)) (now («second_buffer» .exit)) (now («second_progress» .exit)) (now («second_status» .exit)))
         (now (engaged .exit))) ⌝ }
 {
@@ -168,7 +168,7 @@ pub extern "C" fn rolwyddac_fresh_both(
     number
 }
 
-// What a view tells: its number, where the processor's part begins in the named office's memories, and how many words it has; nothing at a refusal.
+// What a view tells: its number, where the processor's part begins in the named tenant's memories, and how many words it has; nothing at a refusal.
 #[repr(C)]
 pub struct Viewed {
     pub number: u32,
@@ -192,12 +192,12 @@ pub extern "C" fn rolwyddac_view(
     encoded: &[u8],
     first: &[u32],
     second: &[u32],
-    office: u32,
+    tenant: u32,
     processor: u32,
 ) -> Viewed
-    ensures { λ r. ⌜ ViewGave (now (encoded .entry)) (now (first .entry)) (now (second .entry)) office processor r ⌝ }
+    ensures { λ r. ⌜ ViewGave (now (encoded .entry)) (now (first .entry)) (now (second .entry)) tenant processor r ⌝ }
 {
-    let seen = sharing::look::core::look_at(encoded, first.len(), second.len(), office, processor);
+    let seen = sharing::view::core::view_at(encoded, first.len(), second.len(), tenant, processor);
     let number = seen.number;
     if number != 0 {
         return no_view(number);

@@ -3,6 +3,7 @@
 use crate::recipes::print_head;
 use libc::STDOUT_FILENO;
 ghost use Rattle.io.specs.Counts.{Counts};
+use records::RECORD_WORDS;
 
 // The areas, and what of each is lent: lent[0] is the recipe's length in bytes, lent[1] to lent[6] those of the areas; lent[7] is the
 // route of calls. They go from function to function by value.
@@ -11,7 +12,7 @@ struct Areas {
     source: [u32; 1024],
     memories: [u32; 4096],
     buffer: [u32; 7168],
-    progress: [u32; 192],
+    progress: [u32; RECORD_WORDS],
     status: [u8; 7168],
     grid: [u32; 1024],
     lent: [u32; 8],
@@ -21,13 +22,13 @@ struct Areas {
 fn front(words: &[u32], lent: u32) -> usize
     ensures { λ r. ⌜ Counts r (now (words .entry)) ⌝ }
 {
-    program_io::front(words, program_io::wide(lent))
+    program_io::front(words, program_io::as_index(lent))
 }
 
 fn front_bytes(bytes: &[u8], lent: u32) -> usize
     ensures { λ r. ⌜ Counts r (now (bytes .entry)) ⌝ }
 {
-    program_io::front_bytes(bytes, program_io::wide(lent))
+    program_io::front_bytes(bytes, program_io::as_index(lent))
 }
 
 // ---- rules by which areas are filled
@@ -369,7 +370,7 @@ fn begun(before: Areas, number: u32) -> Areas {
 fn with_recipe(fd: i32, before: Areas, length: u32) -> Areas {
     let mut areas = lend(before, 0, length);
     let mut recipe = before.recipe;
-    let padded = (program_io::wide(length) + 15) / 16 * 16;
+    let padded = (program_io::as_index(length) + 15) / 16 * 16;
     let n = program_io::front_bytes(&recipe, padded);
     io::read_full(fd, &mut recipe[..n]);
     areas.recipe = recipe;
@@ -399,7 +400,7 @@ fn run(fd: i32) {
         source: [0u32; 1024],
         memories: [0u32; 4096],
         buffer: [0u32; 7168],
-        progress: [0u32; 192],
+        progress: [0u32; RECORD_WORDS],
         status: [0u8; 7168],
         grid: [0u32; 1024],
         lent: [0u32; 8],

@@ -27,7 +27,7 @@ use Rattle.text.specs.Grid.{Frame, ncols, nrows, xllcorner, yllcorner, cellsize
 use Rattle.text.specs.Grid.{headLine, header, cell, more, row, rowsFrom, gridText}
 use Rattle.chart.specs.grid_text.Text.{frameOf, chartText}
 use Rattle.chart.specs.Call.{Written, notCharted, wrongGrid, toldOf, writeLines, writtenIf, writeCall}
-use Rattle.chart.specs.Apart.{Same, textOf, SameInputs, Demand211}
+use Rattle.chart.specs.Apart.{Same, textOf, SameInputs, TextsApart}
 use Rattle.chart.proofs.Splits.{Parted, split, cut-same, head-split}
 use Rattle.chart.proofs.grid_text.Lengths.{cells-are}
 use Rattle.chart.proofs.Answers.{none-behind}
@@ -194,7 +194,7 @@ same-text bytes a b x y u v size other s z e =
       values = λ c h i. same .values c (omega (arith, h, cells-are nest (flat-write bytes a x y size s z))) i;
     }
 
-pub demand211 : Demand211
+pub demand211 : TextsApart
 demand211 =
     record {
       apart = λ bytes a b x y u v size other s t m n e.

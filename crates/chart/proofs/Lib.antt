@@ -2,4 +2,4 @@ pub mod Splits
 pub mod Apart
 pub mod Answers
 pub mod Longest
-pub mod Rows
+pub mod Examples

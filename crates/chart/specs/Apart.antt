@@ -35,7 +35,7 @@ pub record SameInputs (bytes a b : List ℕ) (x y u v : ℤ) (size other : ℕ) 
   pub values : (c : ℕ) → c < cells (nestOf bytes) → inShape (nestOf bytes) c ≡ true → getD a c 0 ≡ getD b c 0
 
 -- no two inputs share a text
-pub record Demand211 : Type 0 where
+pub record TextsApart : Type 0 where
   pub apart : (bytes a b : List ℕ) (x y u v : ℤ) (size other : ℕ) (s t : List ℕ)
       → writeCall bytes a x y size s .told .number ≡ 0
       → writeCall bytes b u v other t .told .number ≡ 0

@@ -2,4 +2,4 @@ pub mod Call
 pub mod Apart
 pub mod Longest
 pub mod grid_text
-pub mod Rows
+pub mod Examples

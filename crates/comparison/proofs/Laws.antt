@@ -27,7 +27,8 @@ use Rattle.nest.specs.Reader.{readLines, nestOf, readingOf}
 use Rattle.nest.proofs.Facts.{accepted}
 use Rattle.nest.proofs.Answers.{nest-read}
 use Rattle.layout.specs.declared.Sizes.{Sizes}
-use Rattle.layout.specs.Sizes.{Sized, routeOf}
+use Rattle.layout.specs.Sizes.{Sized}
+use Rattle.layout.specs.RouteWords.{routeOf}
 use Rattle.summary.specs.declared.Figures.{Figures}
 use Rattle.summary.specs.Summary.{figuresOf, summaryOf}
 use Rattle.summary.proofs.Answers.{summary-is}

@@ -2,4 +2,4 @@ pub mod Product
 pub mod Most
 pub mod Laws
 pub mod Lines
-pub mod DriveRows
+pub mod DriveExamples

@@ -23,7 +23,7 @@ use Rattle.plan.specs.Shaped.{tileOf, shapedParcel, slotBox, shapedHome, shaped
 use Rattle.plan.proofs.Listed.{total-sum}
 use Rattle.plan.proofs.ShapedTiles.{tileOf-low, tileOf-is}
 use Rattle.plan.proofs.ShapedSlots.{shapedTile-low}
-use Rattle.layout.specs.Sizes.{routeOf}
+use Rattle.layout.specs.RouteWords.{routeOf}
 use Rattle.layout.proofs.Steps.{ways-few}
 use Rattle.plan_text.proofs.Laws.{messages-most as most-by-route}
 

@@ -1,4 +1,4 @@
 pub mod Agreement
 pub mod Lines
-pub mod DriveRows
+pub mod DriveExamples
 pub mod drive

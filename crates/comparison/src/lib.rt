@@ -13,6 +13,7 @@ ghost use Rattle.text.specs.Writing.{pen, write};
 ghost use Rattle.comparison.specs.Agreement.{isBeyond, sourceOf, ran, outcome, compared};
 ghost use Rattle.comparison.specs.Agreement.{ranAndCompared, Within};
 ghost use Rattle.comparison.specs.Lines.{verdictLine, agreesFor, fourLines, comparisonText};
+use records::RECORD_WORDS;
 
 pub mod drive; // drive.rt: a run on the direct route, driven to its end by the offered calls
 
@@ -159,11 +160,11 @@ fn verdict(encoded: &[u8], extent: Extent, counting: bool, falling: bool) -> boo
     let cells = extent.cells;
     let processors = extent.processors;
     let messages = extent.messages;
-    let c = program_io::wide(cells);
+    let c = program_io::as_index(cells);
     let m = memory_words(cells, processors) as usize;
-    let w = program_io::wide(extent.words);
-    let p = 3 * program_io::wide(processors);
-    let s = program_io::wide(messages);
+    let w = program_io::as_index(extent.words);
+    let p = 3 * program_io::as_index(processors);
+    let s = program_io::as_index(messages);
     let order = Order {
         processors: processors,
         messages: messages,
@@ -173,7 +174,7 @@ fn verdict(encoded: &[u8], extent: Extent, counting: bool, falling: bool) -> boo
     fill_source(&mut source[..c], counting);
     let mut memories = [0u32; 4096];
     let mut buffer = [0u32; 7168];
-    let mut progress = [0u32; 192];
+    let mut progress = [0u32; RECORD_WORDS];
     let mut status = [0u8; 7168];
     let mut grid = [0u32; 1024];
     let mut swept = [0u32; 1024];

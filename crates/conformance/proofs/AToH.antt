@@ -19,11 +19,11 @@ use Rattle.plan.specs.Messages.{directions, ahead, reaches, crosses, parcel, ta
 use Rattle.plan.specs.Box.{boxLength, boxSize}
 use Rattle.conformance.specs.Report.{theorem3, staysAhead, greatest, least, widened}
 use Rattle.nest.specs.Recipes.{rowA, rowB, rowC, rowD, rowE, rowF, rowG, rowH, rowLater}
-use Rattle.conformance.specs.Rows.{accepted, figures, figuresIf, messageLine, linesTo, linesOf, readersOf, Rows, ReportDiffers}
+use Rattle.conformance.specs.Examples.{accepted, figures, figuresIf, messageLine, linesTo, linesOf, readersOf, Rows, ReportDiffers}
 use Rattle.plan.proofs.SmallNests.{parcel-wide, parcel-later}
 use Rattle.conformance.proofs.RowNests.{nestA, nestB, nestC, nestD, nestE, nestF, nestG, nestH, nestLater, nestWide, isA, isB, isC, isD, isE, isF}
 use Rattle.conformance.proofs.RowNests.{isG, isH, isLater, isWide}
-use Rattle.conformance.proofs.IndirectRows as indirect
+use Rattle.conformance.proofs.IndirectExamples as indirect
 
 -- ---- figures
 

@@ -17,7 +17,7 @@ use Rattle.plan.specs.declared.Route.{Route}
 use Rattle.nest.specs.Places.{tilePlace}
 use Rattle.plan.specs.Geometry.{processorOf}
 use Rattle.plan.specs.Messages.{ways, slots, slotTile, slotTaker, atHome, slotParcel, slotMessage, messagesTo, boxPlan}
-use Rattle.conformance.specs.Exact.{Way, cellsBy, takerBy, stepBy, Carries}
+use Rattle.conformance.specs.Exact.{Way, cellsBy, takerBy, stepBy, MessageBy}
 use Rattle.plan.proofs.Listed.{number-order, slot-order}
 use Rattle.plan.proofs.Slots.{full-in, parcel-cells, parcel-away, full-away, message-slot}
 use Rattle.plan.proofs.Parcels.{slotTile-low}
@@ -28,7 +28,7 @@ use Rattle.conformance.proofs.Ways.{step-beyond, step-way, taker-at, on
 module _ (x : Nest) (ok : Accepted x) (r : Route) where
   carried : (m t w c : ℕ) → t < boxTiles x → Way r x w → In c (cellsBy r x t w) → senderOf (boxPlan r x) m ≡ t
       → takerOf (boxPlan r x) m ≡ takerBy r x t w → heldBy (boxPlan r x) m ≡ cellsBy r x t w
-      → processorOf x t ≢ processorOf x (takerBy r x t w) → Carries r x m t w
+      → processorOf x t ≢ processorOf x (takerBy r x t w) → MessageBy r x m t w
   carried m t w c lt h i from to is away =
       let place : (j : ℕ) → j < x .dimensions → tilePlace x (takerOf (boxPlan r x) m) j ≡ tilePlace x t j + stepBy r x w j =
       λ j l. ap (λ (u : ℕ). tilePlace x u j) to ∙ taker-at x ok r t w c lt i j l in
@@ -46,7 +46,7 @@ module _ (x : Nest) (ok : Accepted x) (r : Route) where
   -- the slot of message m, with its number
   slot-of : (m : ℕ) → m < count (boxPlan r x)
       → (s : ℕ) × (s < slots r x) × (0 < length (slotParcel r x s)) × (length (messagesTo r x s) ≡ m)
-      × Carries r x m (slotTile r x s) (wayOf r x s)
+      × MessageBy r x m (slotTile r x s) (wayOf r x s)
   unfolding atHome
   slot-of m h =
       let a = message-slot r x (slots r x) m h in
@@ -64,7 +64,7 @@ module _ (x : Nest) (ok : Accepted x) (r : Route) where
             (λ e. eqb-false _ _ (b .0) (e ∙ ap (processorOf x) (sym (slot-to x r s)))),
       )
 
-  pub message : (m : ℕ) → m < count (boxPlan r x) → (t : ℕ) × ((w : ℕ) × Carries r x m t w)
+  pub message : (m : ℕ) → m < count (boxPlan r x) → (t : ℕ) × ((w : ℕ) × MessageBy r x m t w)
   message m h = let a = slot-of m h in (slotTile r x (a .0), (wayOf r x (a .0), a .4))
 
   pub some-held : (m : ℕ) → m < count (boxPlan r x) → (c : ℕ) × In c (heldBy (boxPlan r x) m)
@@ -74,7 +74,7 @@ module _ (x : Nest) (ok : Accepted x) (r : Route) where
       (k .0, rw (ap (λ (y : Message). y .cells) (a .4)) (k .1))
 
   pub messages : (t w : ℕ) → t < boxTiles x → Way r x w → 0 < length (cellsBy r x t w) → processorOf x t ≢ processorOf x (takerBy r x t w)
-      → (m : ℕ) × (m < count (boxPlan r x)) × Carries r x m t w
+      → (m : ℕ) × (m < count (boxPlan r x)) × MessageBy r x m t w
   unfolding atHome
   messages t w lt h full away =
       let f = full-in (cellsBy r x t w) full in
@@ -87,7 +87,7 @@ module _ (x : Nest) (ok : Accepted x) (r : Route) where
       (m .0, m .1, carried (m .0) t w (f .0) lt h (f .1) (m .2 ∙ tile) (m .3 ∙ to) (m .4 ∙ is) away)
 
   -- the number of message (t, w): the messages of the slots before it
-  number-of : (m t w : ℕ) → m < count (boxPlan r x) → Carries r x m t w
+  number-of : (m t w : ℕ) → m < count (boxPlan r x) → MessageBy r x m t w
       → (s : ℕ) × (s ≡ t * ways r x + nth r w) × (0 < length (slotParcel r x s)) × (length (messagesTo r x s) ≡ m)
   number-of m t w h c =
       let a = slot-of m h in
@@ -101,8 +101,8 @@ module _ (x : Nest) (ok : Accepted x) (r : Route) where
         a .3,
       )
 
-  module _ (m n t v u w : ℕ) (lm : m < count (boxPlan r x)) (ln : n < count (boxPlan r x)) (a : Carries r x m t v)
-      (b : Carries r x n u w) where
+  module _ (m n t v u w : ℕ) (lm : m < count (boxPlan r x)) (ln : n < count (boxPlan r x)) (a : MessageBy r x m t v)
+      (b : MessageBy r x n u w) where
     -- by the place of tile and way among the slots
     by-slot : (m < n) ↔ (t * ways r x + nth r v < u * ways r x + nth r w)
     unfolding messagesTo
@@ -128,7 +128,7 @@ module _ (x : Nest) (ok : Accepted x) (r : Route) where
         back (inl l) = inl l
         back (inr (e, l)) = inr (e, nth-lt x r v w (a .way) (b .way) .1 l)
 
-  pub one : (m n t w : ℕ) → m < count (boxPlan r x) → n < count (boxPlan r x) → Carries r x m t w → Carries r x n t w → m ≡ n
+  pub one : (m n t w : ℕ) → m < count (boxPlan r x) → n < count (boxPlan r x) → MessageBy r x m t w → MessageBy r x n t w → m ≡ n
   one m n t w lm ln a b = go (decLt m n) (decLt n m)
     where
       go : Dec (m < n) → Dec (n < m) → m ≡ n
@@ -146,7 +146,7 @@ module _ (x : Nest) (ok : Accepted x) (r : Route) where
       let b = message n (f .0) in
       same (a .0) (a .1 .0) (b .0) (b .1 .0) (d .0) (f .0) (a .1 .1) (b .1 .1) (d .1 ∙ sym (f .1))
     where
-      same : (t v u w : ℕ) → m < count (boxPlan r x) → n < count (boxPlan r x) → Carries r x m t v → Carries r x n u w
+      same : (t v u w : ℕ) → m < count (boxPlan r x) → n < count (boxPlan r x) → MessageBy r x m t v → MessageBy r x n u w
           → takerOf (boxPlan r x) m ≡ takerOf (boxPlan r x) n → m ≡ n
       same t v u w lm ln a b to =
           let g : In c (cellsBy r x t v) = rw (a .holds) at p in

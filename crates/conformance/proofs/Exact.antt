@@ -7,7 +7,7 @@ use Rattle.nest.specs.declared.Nest.{Nest}
 use Rattle.nest.specs.Accepted.{Accepted}
 use Rattle.plan.specs.declared.Route.the-variants.{Direct, Indirect}
 use Rattle.plan.specs.Messages.{passed, boxPlan}
-use Rattle.conformance.specs.Exact.{cellsBy, Carries, Read, Exact}
+use Rattle.conformance.specs.Exact.{cellsBy, MessageBy, Read, Exact}
 use Rattle.plan.proofs.Slots.{full-in}
 use Rattle.plan.proofs.Homes.{hops-all}
 use Rattle.conformance.proofs.Travels.{travels}
@@ -24,7 +24,7 @@ module _ (x : Nest) (ok : Accepted x) where
   pub reads : (m c : ℕ) → m < count (boxPlan Direct x) → In c (heldBy (boxPlan Direct x) m) ↔ Read x m c
   reads m c h = let a = message x ok Direct m h in read-as x ok m (a .0) (a .1 .0) c (a .1 .1)
 
-  held-on : (m t q c : ℕ) → Carries Indirect x m t q → {P : Type 0} → In c (passed x t q) ↔ P → In c (heldBy (boxPlan Indirect x) m) ↔ P
+  held-on : (m t q c : ℕ) → MessageBy Indirect x m t q → {P : Type 0} → In c (passed x t q) ↔ P → In c (heldBy (boxPlan Indirect x) m) ↔ P
   held-on m t q c k p = rw (k .holds) p
 
 -- ---- all of it

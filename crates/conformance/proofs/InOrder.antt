@@ -16,7 +16,7 @@ use Rattle.nest.specs.Accepted.{Accepted}
 use Rattle.nest.specs.Nest.{processorCount, tileCount, cells, boxTiles, processors}
 use Rattle.nest.specs.Places.{rank, place, cellAt, cellPlace, tileAt, tilePlace, boxTileOf}
 use Rattle.nest.specs.Shape.{level, raised, meets, inShape, exists, existing, tiles}
-use Rattle.nest.specs.Reader.{ofKind, filled, nestBy, nestOf, ragged, blank, boundFits, checked, mayStand, fitsAt, wellFormed, strayRecord, outside}
+use Rattle.nest.specs.Reader.{ofKind, filled, nestBy, nestOf, ragged, blank, boundFits, checked, mayStand, fitsAt, wellFormed, strayRecord, noLength}
 use Rattle.nest.specs.Reader.{badLength, tooLarge, needlesslyWide, noCell, same, beyond, faulty, badDistance, reached, badTile, badSpread}
 use Rattle.nest.specs.Reader.{lastSpread, badProcessors, tooManyTiles, readLines}
 use Rattle.nest.proofs.Quick.{quick}
@@ -32,8 +32,8 @@ use Rattle.plan.proofs.Loops.{allocated}
 use Rattle.plan.proofs.SmallNests.{withBound}
 use Rattle.plan.proofs.Tiles.{processorOf-low}
 use Rattle.conformance.specs.ExactShape.{standsAt, CarriesShape}
-use Rattle.conformance.specs.InOrder.{InOrder, rowSpread, SpreadRows}
-use Rattle.conformance.specs.Rows.{accepted, figuresIf, messageLine, linesTo}
+use Rattle.conformance.specs.InOrder.{InOrder, rowSpread, SpreadExamples}
+use Rattle.conformance.specs.Examples.{accepted, figuresIf, messageLine, linesTo}
 use Rattle.conformance.proofs.Nested.{cells-in-order, tiles-in-order}
 use Rattle.conformance.proofs.Program.{cell-order, tile-order, processor-order, direction-order}
 use Rattle.conformance.proofs.ShapedNest.{shape-in-order}
@@ -102,7 +102,7 @@ isSpread = refl
 
 numberSpread : firstOf (readLines rowSpread) ≡ 0
 unfolding firstOf _and_ _or_ not pick every some keep those tabulate product rank place cellPlace tileAt boxTileOf tileCount cells boxTiles processors level
-    raised meets inShape exists existing tiles ofKind filled nestBy nestOf ragged blank boundFits checked mayStand fitsAt wellFormed strayRecord outside
+    raised meets inShape exists existing tiles ofKind filled nestBy nestOf ragged blank boundFits checked mayStand fitsAt wellFormed strayRecord noLength
     badLength tooLarge needlesslyWide noCell same beyond faulty badDistance reached badTile badSpread lastSpread badProcessors tooManyTiles
 numberSpread = quick rowSpread ∙ refl
 
@@ -130,7 +130,7 @@ unfolding linesTo messageLine _and_ _or_ pick every some keep product rank place
     shapedSlotTaker shapedHome shapedSlotParcel messagesOf
 linesSpread = refl
 
-pub spread-rows : SpreadRows
+pub spread-rows : SpreadExamples
 spread-rows =
     record {
       figures = rw (numberSpread, isSpread) figuresSpread;

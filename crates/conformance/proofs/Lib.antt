@@ -15,11 +15,11 @@ pub mod ShapedExact
 pub mod Plans
 pub mod AToH
 pub mod RowNests
-pub mod IndirectRows
+pub mod IndirectExamples
 pub mod SingleCounts
-pub mod ShapedRows
-pub mod BodyRows
+pub mod ShapedExamples
+pub mod BodyExamples
 pub mod InOrder
 pub mod OneBody
 pub mod Figure4
-pub mod Figure4Rows
+pub mod Figure4Examples

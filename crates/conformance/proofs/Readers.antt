@@ -18,7 +18,7 @@ use Rattle.nest.specs.Places.{cellAt, cellPlace, tilePlace, boxTileOf}
 use Rattle.plan.specs.Geometry.{hasRead, readAt, readsOf}
 use Rattle.plan.specs.Messages.{directions, ahead, before, origin, passed, boxPlan}
 use Rattle.plan.specs.Hops.{stop}
-use Rattle.conformance.specs.Exact.{Carries, Read, OnItsWay, Forwarded}
+use Rattle.conformance.specs.Exact.{MessageBy, Read, OnItsWay, Forwarded}
 use Rattle.nest.proofs.Rank.{rank-same}
 use Rattle.plan.proofs.Tiles.{cellPlace-low, cellAt-low, cellPlace-cellAt, cellAt-cellPlace, tilePlace-boxTileOf, boxTileOf-low, read-low, read-back}
 use Rattle.plan.proofs.Parcels.{Held, parcel-held, held-parcel, before-yes, before-no, passed-in, in-passed, stop-is, stop-passed, origin-low}
@@ -91,7 +91,7 @@ module _ (x : Nest) (ok : Accepted x) where
   reader-held r t v c i own chain = let b = reads-at x r c i in (b .0, held-by r c (b .0) (b .1) (b .2) (b .3) t v own chain)
 
   -- ---- direct
-  pub read-as : (m t v c : ℕ) → Carries Direct x m t v → In c (heldBy (boxPlan Direct x) m) ↔ Read x m c
+  pub read-as : (m t v c : ℕ) → MessageBy Direct x m t v → In c (heldBy (boxPlan Direct x) m) ↔ Read x m c
   read-as m t v c k = (
     (λ i. let g = parcel-held x t v c (rw (k .holds) at i) in
         record {

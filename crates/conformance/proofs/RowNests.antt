@@ -8,7 +8,7 @@ use Rattle.nest.specs.Reader.{ofKind, filled, nestBy, nestOf}
 use Rattle.nest.specs.Recipes.{rowA, rowB, rowC, rowD, rowE, rowF, rowG, rowH, rowLater}
 pub use Rattle.plan.proofs.SmallNests.{nestLater, nestWide, nestEdge}
 use Rattle.plan.proofs.SmallNests.{nest}
-use Rattle.conformance.specs.Rows.{rowWide, rowEdge, rowFull, rowSix, rowLine, rowTwice, rowMiddle}
+use Rattle.conformance.specs.Examples.{rowWide, rowEdge, rowFull, rowSix, rowLine, rowTwice, rowMiddle}
 
 abbrev pub nestA : Nest
 nestA =

@@ -5,7 +5,7 @@ use Rattle.base.specs.Tests.{_and_, _or_, not, pick, one, every, some, keep, th
 use Rattle.base.specs.Numbers.{firstOf}
 use Rattle.machine.specs.Plan.{offset, count}
 use Rattle.nest.specs.Nest.{tileCount, cells, processors, boxTiles}
-use Rattle.nest.specs.Reader.{ofKind, filled, nestBy, nestOf, ragged, blank, checked, mayStand, fitsAt, wellFormed, strayRecord, outside, badLength}
+use Rattle.nest.specs.Reader.{ofKind, filled, nestBy, nestOf, ragged, blank, checked, mayStand, fitsAt, wellFormed, strayRecord, noLength, badLength}
 use Rattle.nest.specs.Reader.{tooLarge, needlesslyWide, same, beyond, faulty, badDistance, reached, badTile, badSpread, lastSpread, badProcessors}
 use Rattle.nest.specs.Reader.{readLines}
 use Rattle.nest.proofs.Quick.{quick}
@@ -15,7 +15,7 @@ use Rattle.plan.specs.Geometry.{processorOf, inside}
 use Rattle.plan.specs.Messages.{directions, ahead, reaches, crosses, parcel, taker, before, hasOrigin, origin, passes, passed, neighbour}
 use Rattle.plan.specs.Messages.{slotCells, slotTaker, atHome, slotParcel, messagesTo, boxPlan}
 use Rattle.plan.specs.Hops.{hopsAlong, hops}
-use Rattle.conformance.specs.Rows.{rowSix, rowLine, rowTwice, rowMiddle, accepted, figures, figuresIf, messageLine, linesTo, SingleCounts}
+use Rattle.conformance.specs.Examples.{rowSix, rowLine, rowTwice, rowMiddle, accepted, figures, figuresIf, messageLine, linesTo, SingleCounts}
 use Rattle.conformance.proofs.RowNests.{nestSix, nestLine, nestTwice, nestMiddle, isSix, isLine, isTwice, isMiddle}
 
 -- ---- numbers and figures of all rows
@@ -28,7 +28,7 @@ record Numbered : Type 0 where
 
 numbered : Numbered
 unfolding firstOf _and_ _or_ not pick every some keep those tabulate product tileCount cells boxTiles processors ofKind filled nestBy nestOf ragged blank
-    checked mayStand fitsAt wellFormed strayRecord outside badLength tooLarge needlesslyWide same beyond faulty badDistance reached badTile badSpread
+    checked mayStand fitsAt wellFormed strayRecord noLength badLength tooLarge needlesslyWide same beyond faulty badDistance reached badTile badSpread
     lastSpread badProcessors
 numbered = record { six = quick rowSix ∙ refl; line = quick rowLine ∙ refl; twice = quick rowTwice ∙ refl; middle = quick rowMiddle ∙ refl }
 

@@ -42,7 +42,7 @@ stepBy Direct x v j = ahead x v j
 stepBy Indirect x q j = one (eqb j q)
 
 -- message m is that of tile t by way w
-pub record Carries (r : Route) (x : Nest) (m t w : ℕ) : Type 0 where
+pub record MessageBy (r : Route) (x : Nest) (m t w : ℕ) : Type 0 where
   pub tile : t < boxTiles x
   pub way : Way r x w
   pub sender : senderOf (boxPlan r x) m ≡ t
@@ -140,21 +140,21 @@ pub record Exact (x : Nest) : Type 0 where
   -- direct: a message holds exactly those cells of the sending tile that the taker's chain reads
   pub reads : (m c : ℕ) → m < count (boxPlan Direct x) → In c (heldBy (boxPlan Direct x) m) ↔ Read x m c
   -- indirect: exactly those that are on their way over the sending tile, its own and others'; as sets they are W-204's
-  pub passes : (m t q c : ℕ) → Carries Indirect x m t q → In c (heldBy (boxPlan Indirect x) m) ↔ OnItsWay x t q c
-  pub forwards : (m t q c : ℕ) → Carries Indirect x m t q → In c (heldBy (boxPlan Indirect x) m) ↔ Forwarded x t q c
+  pub passes : (m t q c : ℕ) → MessageBy Indirect x m t q → In c (heldBy (boxPlan Indirect x) m) ↔ OnItsWay x t q c
+  pub forwards : (m t q c : ℕ) → MessageBy Indirect x m t q → In c (heldBy (boxPlan Indirect x) m) ↔ Forwarded x t q c
   -- there each cell of each direct set goes its way, by as many messages as v has ones in dimensions with a count above 1
   pub travels : (t v c : ℕ) → t < boxTiles x → v ≤ directions x → In c (parcel x t v) → Travels x t v c
   pub hops-are : ((j : ℕ) → j < x .spread → 2 ≤ processorCount x j) → (v : ℕ) → hops x v ≡ sum (ahead x v) (x .spread)
   -- each message is one tile's by one way; each tile and way with a cell to send to another processor has one, and only one;
   -- with all counts above 1 the taker always is on another
-  pub message : (r : Route) (m : ℕ) → m < count (boxPlan r x) → (t : ℕ) × ((w : ℕ) × Carries r x m t w)
+  pub message : (r : Route) (m : ℕ) → m < count (boxPlan r x) → (t : ℕ) × ((w : ℕ) × MessageBy r x m t w)
   pub messages : (r : Route) (t w : ℕ) → t < boxTiles x → Way r x w → 0 < length (cellsBy r x t w)
-      → processorOf x t ≢ processorOf x (takerBy r x t w) → (m : ℕ) × (m < count (boxPlan r x)) × Carries r x m t w
+      → processorOf x t ≢ processorOf x (takerBy r x t w) → (m : ℕ) × (m < count (boxPlan r x)) × MessageBy r x m t w
   pub apart : ((j : ℕ) → j < x .spread → 2 ≤ processorCount x j) → (r : Route) (t w : ℕ) → t < boxTiles x → Way r x w
       → 0 < length (cellsBy r x t w) → processorOf x t ≢ processorOf x (takerBy r x t w)
-  pub one : (r : Route) (m n t w : ℕ) → m < count (boxPlan r x) → n < count (boxPlan r x) → Carries r x m t w → Carries r x n t w → m ≡ n
+  pub one : (r : Route) (m n t w : ℕ) → m < count (boxPlan r x) → n < count (boxPlan r x) → MessageBy r x m t w → MessageBy r x n t w → m ≡ n
   -- they are numbered by tile, then by direction or dimension
-  pub order : (r : Route) (m n t v u w : ℕ) → m < count (boxPlan r x) → n < count (boxPlan r x) → Carries r x m t v → Carries r x n u w
+  pub order : (r : Route) (m n t v u w : ℕ) → m < count (boxPlan r x) → n < count (boxPlan r x) → MessageBy r x m t v → MessageBy r x n u w
       → (m < n) ↔ ((t < u) ⊎ ((t ≡ u) × (v < w)))
   -- no two messages due at a tile hold the same cell
   pub once : (r : Route) (t m n c : ℕ) → In m (duesOf (boxPlan r x) t) → In n (duesOf (boxPlan r x) t)

@@ -26,8 +26,8 @@ use Rattle.plan.specs.Loops.{doLoop, forEach, loops}
 use Rattle.conformance.specs.Exact.{inner, runNest}
 use Rattle.conformance.specs.ExactShape.{shapeOf}
 use Rattle.conformance.specs.OneBody.{all, valueIn}
-use Rattle.conformance.specs.Rows.{rowEdge}
-use Rattle.conformance.specs.ShapedRows.{mail}
+use Rattle.conformance.specs.Examples.{rowEdge}
+use Rattle.conformance.specs.ShapedExamples.{mail}
 
 -- of a list those that pass the test, in its order
 unfoldable pub chosen : {A : Type 0} → (A → Bool) → List A → List A
@@ -112,7 +112,7 @@ pub record Figure4 (r : Route) (x : Nest) : Type 0 where
 
 -- ---- computed: two tiles of a processor, one after the other; a tile with several messages, on either route; the messages due at a tile
 
-pub record Figure4Rows : Type 0 where
+pub record Figure4Examples : Type 0 where
   -- row G: processor 0 has tiles 0 and 2, processor 1 tiles 1 and 3
   pub G-first : program (planOf Direct (nestOf rowG)) 0
       ≡ gather 0 ∷ calculate 0 ∷ send 0 ∷ gather 2 ∷ calculate 2 ∷ send 2 ∷ []

@@ -1,6 +1,6 @@
 -- Read this. Index order, the processor of a tile, and the hops of a message, of every accepted nest, with bounds or without.
 -- Renders document 01, "Cells, tiles and boards", for the shapes of document 02, W-209: cell numbers are the box's, tiles those that hold a cell;
--- and W-204's and W-205's hops. Figures of two spread dimensions under a bound are computed in `SpreadRows`.
+-- and W-204's and W-205's hops. Figures of two spread dimensions under a bound are computed in `SpreadExamples`.
 use Prim.Native.Nat.{ℕ, _%_, _≤_, _<_}
 use mathlib.Core.Path.{_≡_}
 use mathlib.Core.Logic.{_↔_}
@@ -20,8 +20,8 @@ use Rattle.plan.specs.Hops.{hops}
 use Rattle.plan.specs.Shaped.{planOf}
 use Rattle.conformance.specs.Exact.{Before, sequential, outer}
 use Rattle.conformance.specs.ExactShape.{standsAt, shapeOf, CarriesShape}
-use Rattle.conformance.specs.Rows.{accepted, linesTo}
-use Rattle.conformance.specs.ShapedRows.{shapedFigures, diagonal}
+use Rattle.conformance.specs.Examples.{accepted, linesTo}
+use Rattle.conformance.specs.ShapedExamples.{shapedFigures, diagonal}
 
 pub record InOrder (x : Nest) : Type 0 where
   -- cells, the box's tiles, processors and directions are numbered in the lexicographic order of their places, the first dimension weighing most;
@@ -55,7 +55,7 @@ pub record InOrder (x : Nest) : Type 0 where
 abbrev pub rowSpread : List ℕ
 rowSpread = dimension 3 1 2 ++ dimension 4 1 3 ++ dimension 1 1 0 ++ diagonal ++ distance 1 0 0 ++ close
 
-pub record SpreadRows : Type 0 where
+pub record SpreadExamples : Type 0 where
   pub figures : shapedFigures rowSpread ≡ accepted 9 5 5 28
   -- the box's twelve tiles without (1,0), (2,0) and (2,1)
   pub tiles-are : existing (nestOf rowSpread) ≡ 0 ∷ 1 ∷ 2 ∷ 3 ∷ 5 ∷ 6 ∷ 7 ∷ 10 ∷ 11 ∷ []

@@ -2,9 +2,9 @@ pub mod Report
 pub mod Travels
 pub mod Exact
 pub mod ExactShape
-pub mod Rows
-pub mod ShapedRows
-pub mod BodyRows
+pub mod Examples
+pub mod ShapedExamples
+pub mod BodyExamples
 pub mod InOrder
 pub mod OneBody
 pub mod Figure4

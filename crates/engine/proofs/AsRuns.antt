@@ -12,7 +12,7 @@ use Rattle.machine.specs.Plan.{Plan, Sound, takerOf}
 use Rattle.machine.specs.Machine.{State, Answered, Action, gather, send, collect, fresh}
 use Rattle.machine.specs.Runs.{Event, turnOf, deliveryOf, act, stateAfter, answersTo, turnsOf, CarriedOut, Demand3}
 use Rattle.machine.specs.Words.{wordAt, cellOf, Did, Posted}
-use Rattle.machine.specs.Marks.{Marks}
+use Rattle.machine.specs.StatusTells.{StatusTells}
 use Rattle.machine.proofs.Kept.{Inv}
 use Rattle.machine.proofs.Fresh.{inv-fresh}
 use Rattle.machine.proofs.Along.{run-inv, next-inv}
@@ -20,8 +20,8 @@ use Rattle.machine.proofs.RunLaws.{number-of}
 use Rattle.machine.proofs.Once.{collects-like}
 use Rattle.machine.proofs.Theorem.{theorem}
 use Rattle.machine.proofs.Posted.{posted}
-use Rattle.machine.proofs.Marks.{marks}
-use Rattle.layout.specs.Sizes.{routeOf}
+use Rattle.machine.proofs.StatusTells.{marks}
+use Rattle.layout.specs.RouteWords.{routeOf}
 use Rattle.recipe.specs.Routes.{linesFor}
 use Rattle.engine.specs.Calls.{recipe, areas, collectCall}
 use Rattle.engine.specs.Demands.{calls}
@@ -108,7 +108,7 @@ module _ (bytes : List ℕ) (route : ℕ) (source : List ℕ) (ok : firstOf (lin
     pub run-demand3 : Demand3 (calls bytes route source) (fresh p) events p source (collectCall bytes route source)
     run-demand3 = demand3 (theorem p so source events)
 
-    pub run-marks : Marks p (stateAfter (calls bytes route source) (fresh p) events) events (answersTo (calls bytes route source) (fresh p) events)
+    pub run-marks : StatusTells p (stateAfter (calls bytes route source) (fresh p) events) events (answersTo (calls bytes route source) (fresh p) events)
     run-marks = rw (state-is events, answers-are events) (marks p so source events)
 
   -- ---- what was sent

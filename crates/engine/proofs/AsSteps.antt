@@ -13,7 +13,7 @@ use Rattle.base.proofs.Tests.{not-true, true-not}
 use Rattle.base.proofs.Numbers.{first-false, none-first, first-behind, none-front, none-behind}
 use Rattle.machine.specs.Plan.{Plan}
 use Rattle.machine.specs.Machine.{State, stateOf, answered, carryOut, nextAction, turnLines, turn, deliverLines, deliver, collectLines, collected, collect}
-use Rattle.layout.specs.Sizes.{routeOf}
+use Rattle.layout.specs.RouteWords.{routeOf}
 use Rattle.recipe.specs.Routes.{linesFor}
 use Rattle.recipe.proofs.Laws.{numbered-for}
 use Rattle.engine.specs.Calls.{recipe, areas, areaLines, freshCall, turnCall, deliverCall, collectCall}

@@ -10,7 +10,7 @@ use Rattle.base.proofs.Tests.{and-true, not-true}
 use Rattle.base.proofs.Numbers.{Numbered, first-behind, first-false}
 use Rattle.machine.specs.Plan.{Plan}
 use Rattle.machine.specs.Machine.{State}
-use Rattle.layout.specs.Sizes.{routeOf}
+use Rattle.layout.specs.RouteWords.{routeOf}
 use Rattle.recipe.specs.Routes.{linesFor}
 use Rattle.recipe.proofs.Laws.{numbered-for}
 use Rattle.engine.specs.Calls.{recipe, areas, freshCall}

@@ -13,7 +13,7 @@ use Rattle.machine.specs.Plan.{Plan, Sound}
 use Rattle.machine.specs.Machine as machine
 use Rattle.machine.specs.Machine.{State, answered}
 use Rattle.machine.specs.Runs.{Event, last, answers, Demand3}
-use Rattle.machine.specs.Marks.{Marks}
+use Rattle.machine.specs.StatusTells.{StatusTells}
 use Rattle.machine.proofs.Values.{sweep-fixed, sweep-outside}
 use Rattle.nest.specs.declared.Nest.{Nest}
 use Rattle.nest.specs.Nest.{cells}
@@ -25,7 +25,7 @@ use Rattle.plan.specs.declared.Route.{Route}
 use Rattle.plan.specs.declared.Route.the-variants.{Direct, Indirect}
 use Rattle.plan.specs.Shaped.{planOf}
 use Rattle.plan.specs.Hops.{hops}
-use Rattle.conformance.specs.Rows.{figuresIf}
+use Rattle.conformance.specs.Examples.{figuresIf}
 use Rattle.conformance.specs.Exact.{sequential, runNest}
 use Rattle.conformance.proofs.Plans.{not-empty}
 use Rattle.plan.proofs.ShapedBox.{planOf-box}
@@ -36,7 +36,7 @@ use Rattle.conformance.proofs.Figure4.{figure4}
 use Rattle.plan.proofs.ShapedSound.{sound}
 use Rattle.conformance.proofs.Report.{report-agrees}
 use Rattle.conformance.proofs.Exact.{exact}
-use Rattle.layout.specs.Sizes.{routeOf}
+use Rattle.layout.specs.RouteWords.{routeOf}
 use Rattle.recipe.specs.Routes.{linesFor}
 use Rattle.recipe.proofs.Laws.{reads-for, indirect-box}
 use Rattle.summary.specs.Summary.{asFigures, figuresOf, noFigures, summaryOf, lineOf, noLine, messageLines, lineIf, messageLineOf, directionOf, hopsLines}
@@ -212,7 +212,7 @@ module _ (bytes : List ℕ) (route : ℕ) (source : List ℕ) (s : State) (b : B
   three events = rw (demand1 bytes route source s .fresh .works z) (run-demand3 bytes route source opens plan long events)
 
   marks : (events : List Event)
-      → Marks (recipe bytes route) (last (calls bytes route source) (freshCall bytes route source s .after) events) events
+      → StatusTells (recipe bytes route) (last (calls bytes route source) (freshCall bytes route source s .after) events) events
       (answers (calls bytes route source) (freshCall bytes route source s .after) events)
   marks events = rw (demand1 bytes route source s .fresh .works z) (run-marks bytes route source opens plan long events)
 

@@ -19,7 +19,7 @@ use Rattle.nest.specs.Reader.{nestOf}
 use Rattle.nest.specs.Accepted.{Accepted}
 use Rattle.plan.proofs.ShapedSound.{sound}
 use Rattle.conformance.proofs.Plans.{once}
-use Rattle.layout.specs.Sizes.{routeOf}
+use Rattle.layout.specs.RouteWords.{routeOf}
 use Rattle.recipe.specs.Routes.{linesFor}
 use Rattle.recipe.proofs.Laws.{numbered-for}
 use Rattle.engine.specs.Calls.{recipe, areas, areaLines, turnCall}

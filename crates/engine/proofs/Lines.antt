@@ -26,7 +26,8 @@ use Rattle.plan.specs.Messages.{boxPlan}
 use Rattle.plan.specs.Shaped.{planOf}
 use Rattle.plan.proofs.ShapedBox.{planOf-box}
 use Rattle.layout.specs.declared.Sizes.{Sizes}
-use Rattle.layout.specs.Sizes.{Sized, routeOf}
+use Rattle.layout.specs.Sizes.{Sized}
+use Rattle.layout.specs.RouteWords.{routeOf}
 use Rattle.nest.specs.declared.Reading.{Reading}
 use Rattle.nest.specs.Reader.{readLines, nestOf, readingOf}
 use Rattle.nest.proofs.Numbered.{numbered}

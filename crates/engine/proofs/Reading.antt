@@ -20,10 +20,11 @@ use Rattle.nest.specs.Nest.{processors}
 use Rattle.recipe.specs.Routes.{linesFor}
 use Rattle.recipe.proofs.Laws.{numbered-for}
 use Rattle.layout.specs.declared.Sizes.{Sizes}
-use Rattle.layout.specs.Sizes.{Sized, routeOf}
+use Rattle.layout.specs.Sizes.{Sized}
+use Rattle.layout.specs.RouteWords.{routeOf}
 use Rattle.records.specs.declared.Progress.{Progress}
 use Rattle.records.specs.declared.Flat.{Flat}
-use Rattle.records.specs.Records.{flatWords, Carries, putAt, zeros, clearAll}
+use Rattle.records.specs.Records.{flatWords, Flattens, putAt, zeros, clearAll}
 use Rattle.records.proofs.Words.{length-words, words-put, words-cleared}
 use Rattle.stages.specs.Progress.{progressOnly, setRecord}
 use Rattle.engine.specs.Given.{recordsAfter, zerosAfter}
@@ -37,7 +38,7 @@ pub few-words : (x : Nest) (z : Sizes) → Sized x z → (n : ℕ) → n ≡ 3 *
 few-words x z g n e = omega (arith, e, g .accepted .processors-most)
 
 -- the words that a call reads of records, where they are no more than any recipe's
-pub part-carries : (f : Flat) → length (f .words) ≡ 192 → f .count ≤ 192 → Carries f (take (f .count - 0) (drop 0 (f .words)))
+pub part-carries : (f : Flat) → length (f .words) ≡ 192 → f .count ≤ 192 → Flattens f (take (f .count - 0) (drop 0 (f .words)))
 part-carries f room few = record { counted = sym long; kept = λ _. ap (λ (k : ℕ). take k (f .words)) long ∙ all; room = room }
   where
     long : length (take (f .count - 0) (drop 0 (f .words))) ≡ f .count
@@ -52,7 +53,7 @@ part-carries f room few = record { counted = sym long; kept = λ _. ap (λ (k : 
         same : (n : ℕ) → n ≡ n - 0
         same n = omega arith
 
-pub part-is : (f : Flat) (l : List ℕ) → f .count ≤ 192 → Carries f l → take (f .count - 0) (drop 0 (f .words)) ≡ l
+pub part-is : (f : Flat) (l : List ℕ) → f .count ≤ 192 → Flattens f l → take (f .count - 0) (drop 0 (f .words)) ≡ l
 part-is f l few h = ap (λ (k : ℕ). take k (f .words)) (whole (f .count) (length l) (h .counted)) ∙ h .kept (omega (arith, few, h .counted))
   where
     whole : (n k : ℕ) → n ≡ k → n - 0 ≡ k

@@ -13,7 +13,7 @@ use Rattle.machine.specs.Machine as machine
 use Rattle.machine.specs.Machine.{State, Answered, answered, stateOf, carryOut, nextAction, turnLines, deliverLines, collectLines, collected}
 use Rattle.nest.specs.Reader.{readLines, nestOf}
 use Rattle.plan.specs.Shaped.{planOf}
-use Rattle.layout.specs.Sizes.{routeOf}
+use Rattle.layout.specs.RouteWords.{routeOf}
 use Rattle.recipe.specs.Routes.{linesFor}
 
 -- what a call answers: its number and the lent words after it

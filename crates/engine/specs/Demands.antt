@@ -14,7 +14,7 @@ use Rattle.machine.specs.Machine as machine
 use Rattle.machine.specs.Machine.{State, Answered, stateOf, gather, send, carryOut, nextAction, collected}
 use Rattle.machine.specs.Words.{wordAt, mailAt, cellOf, Does, Did, Posted}
 use Rattle.machine.specs.Runs.{Event, turnOf, deliveryOf, last, answers, Demand3}
-use Rattle.machine.specs.Marks.{Marks}
+use Rattle.machine.specs.StatusTells.{StatusTells}
 use Rattle.nest.specs.Nest.{cells}
 use Rattle.nest.specs.Shape.{inShape}
 use Rattle.nest.specs.Reader.{nestOf, readLines}
@@ -27,7 +27,7 @@ use Rattle.conformance.specs.ExactShape.{ExactShape, shapeOf}
 use Rattle.conformance.specs.InOrder.{InOrder}
 use Rattle.conformance.specs.OneBody.{OneBody}
 use Rattle.conformance.specs.Figure4.{Figure4}
-use Rattle.layout.specs.Sizes.{routeOf}
+use Rattle.layout.specs.RouteWords.{routeOf}
 use Rattle.recipe.specs.Routes.{linesFor}
 use Rattle.summary.specs.Summary.{figuresOf, noFigures, summaryOf, lineOf, noLine, messageLines, messageLineOf}
 use Rattle.summary.specs.Summary.{directionOf, Directed, hopsLines, noHops, hopsOf}
@@ -153,5 +153,5 @@ pub record Demands : Type 0 where
   -- in such a run the marks tell what was done of each message: whether it was sent, delivered and taken
   pub marks : (bytes : List ℕ) (route : ℕ) (source : List ℕ) (s : State) → Bytes bytes → freshCall bytes route source s .number ≡ 0
       → (events : List Event)
-      → Marks (recipe bytes route) (last (calls bytes route source) (freshCall bytes route source s .after) events) events
+      → StatusTells (recipe bytes route) (last (calls bytes route source) (freshCall bytes route source s .after) events) events
       (answers (calls bytes route source) (freshCall bytes route source s .after) events)

@@ -12,9 +12,10 @@ ghost use Rattle.plan.specs.Shaped.{planOf};
 ghost use Rattle.layout.specs.Sizes.{Sized};
 ghost use Rattle.nest.specs.Nest.{processors};
 ghost use Rattle.tables.specs.Tables.{Tabled};
-ghost use Rattle.records.specs.Records.{Carries};
+ghost use Rattle.records.specs.Records.{Flattens};
 ghost use Rattle.engine.specs.Given.{MayTurn, unfitLines, handedOver, recordsAfter, zerosAfter};
 ghost use Rattle.engine.specs.Calls.{answer, areas, freshCall, turnCall, deliverCall, collectCall};
+use base::refusals;
 use base::word_index;
 use base::zero_bytes;
 use base::zero_words;
@@ -31,6 +32,7 @@ use stages::gather_stage;
 use stages::ready;
 use stages::send_stage;
 use stages::tiles_left;
+use tables::TABLE_WORDS;
 use tables::tile_at;
 use tables::tile_count;
 use tables::totals;
@@ -39,7 +41,7 @@ use tables::totals;
 pub fn areas_fit(
     nest: Nest,
     sizes: Sizes,
-    lens: &[u16; 9217],
+    lens: &[u16; TABLE_WORDS],
     source: &[u32],
     memories: &[u32],
     buffer: &[u32],
@@ -70,10 +72,10 @@ pub fn areas_fit(
 }
 
 // Lines 9 and 10.
-pub fn unfit(
+pub fn refusal_of_areas(
     nest: Nest,
     sizes: Sizes,
-    lens: &[u16; 9217],
+    lens: &[u16; TABLE_WORDS],
     source: &[u32],
     memories: &[u32],
     buffer: &[u32],
@@ -82,7 +84,7 @@ pub fn unfit(
 ) -> u32
     requires { ⌜ Sized nest sizes × Tabled nest sizes (now lens) ⌝ }
     requires { ⌜ length (progress .words) ≡ 192 ⌝ }
-    ensures { λ r. ⌜ ((records : List ℕ) → Carries progress records
+    ensures { λ r. ⌜ ((records : List ℕ) → Flattens progress records
         → r ≡ firstOf (unfitLines (planOf (sizes .route) nest) (now (source .entry))
         (stateOf (now (memories .entry)) (now (buffer .entry)) records (now (status .entry)))))
         × (r ≡ 0 → progress .count ≡ 3 * processors nest) ⌝ }
@@ -90,13 +92,13 @@ pub fn unfit(
     let words = progress.words;
     let count = progress.count;
     if !areas_fit(nest, sizes, lens, source, memories, buffer, count, status) {
-        return 9;
+        return refusals::AREA;
     }
     if !fit_records(nest, sizes, lens, &words[0..count]) {
-        return 10;
+        return refusals::UNFIT;
     }
     if !fit_status(status) {
-        return 10;
+        return refusals::UNFIT;
     }
     0
 }
@@ -134,7 +136,7 @@ pub fn done(progress: Progress) -> Turned
 pub fn step(
     nest: Nest,
     sizes: Sizes,
-    lens: &[u16; 9217],
+    lens: &[u16; TABLE_WORDS],
     source: &[u32],
     memories: &mut [u32],
     buffer: &mut [u32],
@@ -154,12 +156,12 @@ pub fn step(
     let i = word_index(finished);
     let n = tile_count(nest, sizes, lens, b);
     if i >= n {
-        return refused(13);
+        return refused(refusals::FINISHED);
     }
     let t = tile_at(nest, sizes, lens, b, i);
     if stage == 0 {
         if !ready(nest, sizes, lens, status, t) {
-            return refused(12);
+            return refused(refusals::WAITING);
         }
         let gathered = gather_stage(nest, sizes, lens, memories, buffer, status, b, t, finished);
         return done(gathered);
@@ -195,12 +197,12 @@ pub fn turn(
     processor: u32,
 ) -> Turned
     requires { ⌜ length (progress .words) ≡ 192 ⌝ }
-    ensures { λ r. ⌜ ((records : List ℕ) → Carries progress records
+    ensures { λ r. ⌜ ((records : List ℕ) → Flattens progress records
         → answer (r .number) (stateOf (now (memories .exit)) (now (buffer .exit)) (recordsAfter records processor r) (now (status .exit)))
         ≡ turnCall (now (encoded .entry)) route (now (source .entry))
         (stateOf (now (memories .entry)) (now (buffer .entry)) records (now (status .entry))) processor) ⌝ }
 {
-    let mut lens = [0u16; 9217];
+    let mut lens = [0u16; TABLE_WORDS];
     let opening = open(encoded, route, &mut lens);
     let number = opening.number;
     if number != 0 {
@@ -209,7 +211,7 @@ pub fn turn(
     let nest = opening.nest;
     let sizes = opening.sizes;
     let b = processor as usize;
-    let n = unfit(
+    let n = refusal_of_areas(
         nest,
         sizes,
         &lens,
@@ -223,7 +225,7 @@ pub fn turn(
         return refused(n);
     }
     if b >= sizes.processors {
-        return refused(11);
+        return refused(refusals::NO_SUCH);
     }
     let words = progress.words;
     let count = progress.count;
@@ -246,10 +248,10 @@ pub fn hand_over(status: &mut [u8], message: u32) -> u32
 {
     let m = message as usize;
     if m >= status.len() {
-        return 11;
+        return refusals::NO_SUCH;
     }
     if status[m] != 1 {
-        return 14;
+        return refusals::NO_MAIL;
     }
     status[m] = 2;
     0
@@ -267,12 +269,12 @@ pub fn deliver(
     message: u32,
 ) -> u32
     requires { ⌜ length (progress .words) ≡ 192 ⌝ }
-    ensures { λ r. ⌜ ((records : List ℕ) → Carries progress records
+    ensures { λ r. ⌜ ((records : List ℕ) → Flattens progress records
         → answer r (stateOf (now (memories .entry)) (now (buffer .entry)) records (now (status .exit)))
         ≡ deliverCall (now (encoded .entry)) route (now (source .entry))
         (stateOf (now (memories .entry)) (now (buffer .entry)) records (now (status .entry))) message) ⌝ }
 {
-    let mut lens = [0u16; 9217];
+    let mut lens = [0u16; TABLE_WORDS];
     let opening = open(encoded, route, &mut lens);
     let number = opening.number;
     if number != 0 {
@@ -280,7 +282,7 @@ pub fn deliver(
     }
     let nest = opening.nest;
     let sizes = opening.sizes;
-    let n = unfit(
+    let n = refusal_of_areas(
         nest,
         sizes,
         &lens,
@@ -308,12 +310,12 @@ pub fn collect(
     grid: &mut [u32],
 ) -> u32
     requires { ⌜ length (progress .words) ≡ 192 ⌝ }
-    ensures { λ r. ⌜ ((records : List ℕ) → Carries progress records
+    ensures { λ r. ⌜ ((records : List ℕ) → Flattens progress records
         → answer r (now (grid .exit))
         ≡ collectCall (now (encoded .entry)) route (now (source .entry))
         (stateOf (now (memories .entry)) (now (buffer .entry)) records (now (status .entry))) (now (grid .entry))) ⌝ }
 {
-    let mut lens = [0u16; 9217];
+    let mut lens = [0u16; TABLE_WORDS];
     let opening = open(encoded, route, &mut lens);
     let number = opening.number;
     if number != 0 {
@@ -322,9 +324,9 @@ pub fn collect(
     let nest = opening.nest;
     let sizes = opening.sizes;
     if grid.len() != sizes.cells {
-        return 9;
+        return refusals::AREA;
     }
-    let n = unfit(
+    let n = refusal_of_areas(
         nest,
         sizes,
         &lens,
@@ -340,7 +342,7 @@ pub fn collect(
     let words = progress.words;
     let count = progress.count;
     if tiles_left(nest, sizes, &lens, &words[0..count]) {
-        return 15;
+        return refusals::EARLY;
     }
     copy_cells(nest, sizes, memories, grid);
     0
@@ -361,7 +363,7 @@ pub fn fresh(
         ≡ freshCall (now (encoded .entry)) route (now (source .entry))
         (stateOf (now (memories .entry)) (now (buffer .entry)) records (now (status .entry)))) ⌝ }
 {
-    let mut lens = [0u16; 9217];
+    let mut lens = [0u16; TABLE_WORDS];
     let opening = open(encoded, route, &mut lens);
     let number = opening.number;
     if number != 0 {
@@ -370,7 +372,7 @@ pub fn fresh(
     let nest = opening.nest;
     let sizes = opening.sizes;
     if !areas_fit(nest, sizes, &lens, source, memories, buffer, words, status) {
-        return 9;
+        return refusals::AREA;
     }
     zero_words(memories);
     zero_words(buffer);

@@ -8,6 +8,7 @@ ghost use Rattle.engine.specs.Calls.{answer, freshCall, turnCall, delive
 
 pub mod core; // core.rt: the calls without the stores into the records
 
+use base::refusals;
 use base::zero_words;
 use layout::sizes_of;
 use plan::Route;
@@ -156,10 +157,10 @@ pub fn sweep(encoded: &[u8], source: &[u32], grid: &mut [u32]) -> u32
     let nest = reading.nest;
     let sizes = sizes_of(nest, Route::Direct);
     if source.len() != sizes.cells {
-        return 9;
+        return refusals::AREA;
     }
     if grid.len() != sizes.cells {
-        return 9;
+        return refusals::AREA;
     }
     if nest.bounds == 0 {
         values::sweep(nest, sizes, source, grid);

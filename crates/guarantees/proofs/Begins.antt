@@ -9,17 +9,17 @@ use Rattle.base.specs.Numbers.{firstOf}
 use Rattle.base.proofs.Tests.{and-true}
 use Rattle.machine.specs.Plan.{Plan}
 use Rattle.machine.proofs.RunLaws.{number-of}
-use Rattle.tenants.specs.Offices.{Sources}
-use Rattle.layout.specs.Sizes.{routeOf}
+use Rattle.tenants.specs.Tenants.{Sources}
+use Rattle.layout.specs.RouteWords.{routeOf}
 use Rattle.recipe.specs.Routes.{linesFor}
 use Rattle.recipe.proofs.Laws.{numbered-for}
 use Rattle.records.proofs.Words.{length-words}
 use Rattle.engine.specs.Calls.{recipe, areas, freshCall}
 use Rattle.engine.proofs.Begins.{areas-fit as words-fit, none-true}
-use Rattle.sharing.specs.Calls.{rigAreas, freshRigCall}
+use Rattle.sharing.specs.Calls.{sharingAreas, freshSharingCall}
 use Rattle.schedule.specs.declared.Driven.{Driven}
 use Rattle.schedule.specs.Calls.{roundsCall}
-use Rattle.calls.specs.Gave.{Areas, inWords, RigAreas, rigWords, FreshGave, FreshBothGave, RoundsGave}
+use Rattle.calls.specs.Gave.{Areas, inWords, SharingAreas, sharingWords, FreshGave, FreshBothGave, RoundsGave}
 use Rattle.guarantees.specs.Begins.{LentFor, Begins}
 
 areas-fit : (p : Plan) (source : List ℕ) (a : Areas) → LentFor p source a → areas p source (inWords a) ≡ true
@@ -33,10 +33,10 @@ areas-fit p source a l =
       status = l .status;
     })
 
-rig-fit : (p : Plan) (sources : Sources) (a : RigAreas) → LentFor p (sources .first) (a .first) → LentFor p (sources .second) (a .second)
-    → length (a .engaged) ≡ p .processors → rigAreas p sources (rigWords a) ≡ true
-unfolding rigAreas
-rig-fit p sources a l m e =
+sharing-fit : (p : Plan) (sources : Sources) (a : SharingAreas) → LentFor p (sources .first) (a .first) → LentFor p (sources .second) (a .second)
+    → length (a .engaged) ≡ p .processors → sharingAreas p sources (sharingWords a) ≡ true
+unfolding sharingAreas
+sharing-fit p sources a l m e =
     and-true (areas-fit p (sources .first) (a .first) l) (and-true (areas-fit p (sources .second) (a .second) m) (eq-eqb _ _ e))
 
 module _ (bytes : List ℕ) (route : ℕ) (z : firstOf (linesFor (routeOf route) bytes) ≡ 0) where
@@ -46,13 +46,14 @@ module _ (bytes : List ℕ) (route : ℕ) (z : firstOf (linesFor (routeOf route)
       number-of e ∙ none-true (linesFor (routeOf route) bytes) (numbered-for (routeOf route) bytes) z (areas (recipe bytes route) source (inWords a))
       (areas-fit (recipe bytes route) source a l)
 
-  two : (sources : Sources) (a b : RigAreas) (n : ℕ) → LentFor (recipe bytes route) (sources .first) (a .first)
+  two : (sources : Sources) (a b : SharingAreas) (n : ℕ) → LentFor (recipe bytes route) (sources .first) (a .first)
       → LentFor (recipe bytes route) (sources .second) (a .second) → length (a .engaged) ≡ recipe bytes route .processors
       → FreshBothGave bytes route sources a n b → n ≡ 0
-  unfolding freshRigCall
+  unfolding freshSharingCall
   two sources a b n l m h e =
-      number-of e ∙ none-true (linesFor (routeOf route) bytes) (numbered-for (routeOf route) bytes) z (rigAreas (recipe bytes route) sources (rigWords a))
-      (rig-fit (recipe bytes route) sources a l m h)
+      number-of e ∙ none-true (linesFor (routeOf route) bytes) (numbered-for (routeOf route) bytes) z
+      (sharingAreas (recipe bytes route) sources (sharingWords a))
+      (sharing-fit (recipe bytes route) sources a l m h)
 
 rounds : (bytes : List ℕ) → firstOf (linesFor (routeOf 0) bytes) ≡ 0 → (source : List ℕ) (a b : Areas) (d : Driven) → LentFor (recipe bytes 0) source a
     → RoundsGave bytes source a d b → d .number ≡ 0

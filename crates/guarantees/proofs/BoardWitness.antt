@@ -9,11 +9,11 @@ use Rattle.nest.specs.Recipes.{rowD}
 use Rattle.engine.specs.Calls.{answer, recipe, freshCall}
 use Rattle.network.specs.Packets.{Network}
 use Rattle.part.specs.Part.{lentOf}
-use Rattle.part_calls.specs.front.Calls.{narrow, ownFreshCall}
+use Rattle.part_calls.specs.front.Calls.{toPart, partFreshCall}
 use Rattle.network_runs.specs.Calls.{startCalls}
-use Rattle.network_runs.specs.BoardRows.{sourceD, wholeSources, partSources, wholeLent, partLent}
+use Rattle.network_runs.specs.BoardExamples.{sourceD, wholeSources, partSources, wholeLent, partLent}
 use Rattle.network_runs.proofs.Demands as whole-run
-use Rattle.network_runs.proofs.BoardRows.{board-rows}
+use Rattle.network_runs.proofs.BoardExamples.{board-rows}
 use Rattle.network_runs.proofs.part.OnePart.{fresh-leaves}
 use Rattle.calls.specs.Gave.{Areas, inWords, FreshGave, PartFreshGave}
 use Rattle.guarantees.specs.OnBoards.{Boards, BegunBoards, BegunParts}
@@ -61,7 +61,7 @@ part-words b = in-words (partLent b) (1, refl)
 
 part-gave : (b : ℕ) → b < recipe rowD 0 .processors → PartFreshGave rowD 0 b (part-areas b) 0 (part-areas b)
 part-gave b h =
-    subst (λ (s : State). answer 0 s ≡ ownFreshCall rowD 0 s b) (sym (part-words b))
+    subst (λ (s : State). answer 0 s ≡ partFreshCall rowD 0 s b) (sym (part-words b))
     (answers-as 0 (partLent b) _ (board-rows .begun-parts .gave b h)
     (fresh-leaves rowD 0 (board-rows .begun .accepted) b h (partLent b) (board-rows .begun-parts .gave b h)))
 

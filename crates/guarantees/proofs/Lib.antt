@@ -1,7 +1,7 @@
 pub mod OverRecords
-pub mod OverRig
+pub mod OverSharing
 pub mod Demand210
-pub mod OverHours
+pub mod OverCalendar
 pub mod TransportCalls
 pub mod WireCalls
 pub mod OverRounds
@@ -14,6 +14,6 @@ pub mod BoardWitness
 pub mod PartCalls
 pub mod RecipeCalls
 pub mod Begins
-pub mod DriverRow
+pub mod DriverExample
 pub mod RowD
 pub mod Witnesses

@@ -19,7 +19,7 @@ use Rattle.records.specs.Records.{flatWords}
 use Rattle.records.proofs.Words.{length-words}
 use Rattle.engine.specs.Calls.{answer, recipe, collectCall}
 use Rattle.engine.specs.Demands.{calls}
-use Rattle.network.specs.Apart.{Areas as Separate, startApart, replaced}
+use Rattle.network.specs.Apart.{AreasApart as Separate, startApart, replaced}
 use Rattle.network.specs.Packets.{Packet, Network, networkOf, startNetwork}
 use Rattle.network.specs.Own.{widened}
 use Rattle.network.specs.Brought.{BoardEvent, turnAt, postAt, broughtTo, calledAt, actBoards, machineBoards, Carries}
@@ -31,7 +31,7 @@ use Rattle.network.proofs.OnBoards as boards
 use Rattle.network.proofs.OnBoards.{Seen}
 use Rattle.transport.specs.Calls.{takeInCall}
 use Rattle.part.specs.Part.{partOf, lentOf}
-use Rattle.part_calls.specs.front.Calls.{wide, narrow, ownTurnCall, ownPostCall, ownArriveCall, collectFits, ownCollected, ownCollectCall}
+use Rattle.part_calls.specs.front.Calls.{fromPart, toPart, partTurnCall, partPostCall, partArriveCall, collectFits, partCollected, partCollectCall}
 use Rattle.network_runs.specs.Calls.{Sources, startCalls}
 use Rattle.network_runs.specs.Demands.{Begun}
 use Rattle.network_runs.specs.part.Demands.{BegunApart}
@@ -174,7 +174,7 @@ module _ (bytes : List ℕ) (route : ℕ) (source : List ℕ) (sources : Sources
           gave = λ b h. sym (number-of (bg .gave b h));
         }
 
-    part-begins : Seen p (narrow p) (startApart p) (boardWords start .areas)
+    part-begins : Seen p (toPart p) (startApart p) (boardWords start .areas)
     unfolding startApart
     part-begins b h = after-of (bg .gave b h) ∙ fresh-leaves bytes route (bg .accepted) b h (inWords (lent b)) (sym (number-of (bg .gave b h)))
 
@@ -187,7 +187,7 @@ module _ (bytes : List ℕ) (route : ℕ) (source : List ℕ) (sources : Sources
     module _ (events : List BoardEvent) (k : Carries (partBoards bytes route sources) (boardWords start) events) where
       on-all-parts : OnBoards (partBoards bytes route sources) (boardWords start) events p source
       on-all-parts =
-          boards.on-boards p sound away source (narrow p) (partCalls bytes route sources) (part-alike bytes route source sources _ begun-parts)
+          boards.on-boards p sound away source (toPart p) (partCalls bytes route sources) (part-alike bytes route source sources _ begun-parts)
           (boardWords start) (bg .none) part-begins events k
 
       abbrev machine : Network
@@ -195,12 +195,12 @@ module _ (bytes : List ℕ) (route : ℕ) (source : List ℕ) (sources : Sources
 
       fo : (t : State) × Follows p source t machine
       fo =
-          boards.machine-there p sound away source (narrow p) (partCalls bytes route sources) (part-alike bytes route source sources _ begun-parts)
+          boards.machine-there p sound away source (toPart p) (partCalls bytes route sources) (part-alike bytes route source sources _ begun-parts)
           (boardWords start) (bg .none) part-begins events k
 
-      seen : Seen p (narrow p) (machine .areas) (stateAfter (partBoards bytes route sources) (boardWords start) events .areas)
+      seen : Seen p (toPart p) (machine .areas) (stateAfter (partBoards bytes route sources) (boardWords start) events .areas)
       seen =
-          boards.seen-there p sound away source (narrow p) (partCalls bytes route sources) (part-alike bytes route source sources _ begun-parts)
+          boards.seen-there p sound away source (toPart p) (partCalls bytes route sources) (part-alike bytes route source sources _ begun-parts)
           (boardWords start) (bg .none) part-begins events k
 
       module _ (numbers : List ℕ) (end : Boards) (g : Gave (PartGave bytes route sources) start events numbers end) where
@@ -212,17 +212,18 @@ module _ (bytes : List ℕ) (route : ℕ) (source : List ℕ) (sources : Sources
         steps-end = steps-are (PartGave bytes route sources) (partBoards bytes route sources) (part-is bytes route sources) bytes route source start events
             numbers end g on-all-parts
 
-        part-at : (b : ℕ) → b < p .processors → inWords (end .areas b) ≡ narrow p b (machine .areas b)
+        part-at : (b : ℕ) → b < p .processors → inWords (end .areas b) ≡ toPart p b (machine .areas b)
         part-at b h = ap (λ (w : Network). w .areas b) words-end ∙ seen b h
 
         -- collecting looks at memory and record alone
-        alone : (s : State) (b : ℕ) (old : List ℕ) → ownCollectCall bytes route (stateOf (s .memories) [] (s .progress) []) b old ≡ ownCollectCall bytes route s b old
-        unfolding ownCollectCall collectFits ownCollected partOf widened tilesLeft fitRecord
+        alone : (s : State) (b : ℕ) (old : List ℕ) → partCollectCall bytes route (stateOf (s .memories) [] (s .progress) []) b old ≡ partCollectCall bytes
+            route s b old
+        unfolding partCollectCall collectFits partCollected partOf widened tilesLeft fitRecord
         alone s b old = refl
 
         collect-as : (b : ℕ) → b < p .processors → (old grid : List ℕ) (n : ℕ) → PartCollectGave bytes route b (end .areas b .memories) (end .areas b .progress) old n grid
-            → answer n grid ≡ ownCollectCall bytes route (narrow p b (machine .areas b)) b old
-        collect-as b h old grid n e = e ∙ alone (inWords (end .areas b)) b old ∙ ap (λ (s : State). ownCollectCall bytes route s b old) (part-at b h)
+            → answer n grid ≡ partCollectCall bytes route (toPart p b (machine .areas b)) b old
+        collect-as b h old grid n e = e ∙ alone (inWords (end .areas b)) b old ∙ ap (λ (s : State). partCollectCall bytes route s b old) (part-at b h)
 
         collects-parts : CollectsParts bytes route source numbers end
         collects-parts =
@@ -234,7 +235,7 @@ module _ (bytes : List ℕ) (route : ℕ) (source : List ℕ) (sources : Sources
                   (fo .0) machine (fo .1) b h old (sym (number-of q)));
               then-all = λ f.
                   steps-end
-                  ∙ boards.at-the-end p sound away source (narrow p) (partCalls bytes route sources) (part-alike bytes route source sources _ begun-parts)
+                  ∙ boards.at-the-end p sound away source (toPart p) (partCalls bytes route sources) (part-alike bytes route source sources _ begun-parts)
                   (boardWords start) (bg .none) part-begins events k
                   (λ b h. collecting.none-left bytes route (bg .accepted) sound (reads-own bytes route source sources _ begun-parts) source (bg .whole)
                   (fo .0) machine (fo .1) b h (f b h .0) (sym (number-of (collect-as b h (f b h .0) (f b h .1 .0) 0 (f b h .1 .1)))));
@@ -242,7 +243,7 @@ module _ (bytes : List ℕ) (route : ℕ) (source : List ℕ) (sources : Sources
                   number-of (collect-as b h old grid n c)
                   ∙ collecting.collect-gives bytes route (bg .accepted) sound (reads-own bytes route source sources _ begun-parts) source (bg .whole)
                   (fo .0) machine (fo .1) b h
-                  (boards.none-left p sound away source (narrow p) (partCalls bytes route sources) (part-alike bytes route source sources _ begun-parts)
+                  (boards.none-left p sound away source (toPart p) (partCalls bytes route sources) (part-alike bytes route source sources _ begun-parts)
                   (boardWords start) (bg .none) part-begins events k (sym steps-end ∙ e) b h) old len;
             }
 
@@ -268,16 +269,16 @@ module _ (bytes : List ℕ) (route : ℕ) where
   unfolding takeInCall
   take-whole source a b m ws = whole-pick _ _ (inWords a) (whole-words a) (whole-words a)
 
-  turn-whole : (source : List ℕ) (a : Areas) (b : ℕ) → Whole (ownTurnCall bytes route source (inWords a) b .after .progress)
-  unfolding ownTurnCall lentOf
+  turn-whole : (source : List ℕ) (a : Areas) (b : ℕ) → Whole (partTurnCall bytes route source (inWords a) b .after .progress)
+  unfolding partTurnCall lentOf
   turn-whole source a b = whole-pick _ _ (inWords a) (1, refl) (whole-words a)
 
-  post-whole : (a : Areas) (b m : ℕ) → Whole (ownPostCall bytes route (inWords a) b m .after .progress)
-  unfolding ownPostCall lentOf
+  post-whole : (a : Areas) (b m : ℕ) → Whole (partPostCall bytes route (inWords a) b m .after .progress)
+  unfolding partPostCall lentOf
   post-whole a b m = whole-pick _ _ (inWords a) (1, refl) (whole-words a)
 
-  arrive-whole : (a : Areas) (b m : ℕ) (ws : List ℕ) → Whole (ownArriveCall bytes route (inWords a) b m ws .after .progress)
-  unfolding ownArriveCall lentOf
+  arrive-whole : (a : Areas) (b m : ℕ) (ws : List ℕ) → Whole (partArriveCall bytes route (inWords a) b m ws .after .progress)
+  unfolding partArriveCall lentOf
   arrive-whole a b m ws = whole-pick _ _ (inWords a) (1, refl) (whole-words a)
 
 module _ (bytes : List ℕ) (route : ℕ) where
@@ -285,13 +286,13 @@ module _ (bytes : List ℕ) (route : ℕ) where
   take-answers source a b m ws = can-answer (takeInCall bytes route source (inWords a) b m ws) (take-whole bytes route source a b m ws)
 
   part-turns : (source : List ℕ) (a : Areas) (b : ℕ) → (n : ℕ) × ((c : Areas) × PartTurnGave bytes route source b a n c)
-  part-turns source a b = can-answer (ownTurnCall bytes route source (inWords a) b) (turn-whole bytes route source a b)
+  part-turns source a b = can-answer (partTurnCall bytes route source (inWords a) b) (turn-whole bytes route source a b)
 
   part-posts : (a : Areas) (b m : ℕ) → (n : ℕ) × ((c : Areas) × PartPostGave bytes route b m a n c)
-  part-posts a b m = can-answer (ownPostCall bytes route (inWords a) b m) (post-whole bytes route a b m)
+  part-posts a b m = can-answer (partPostCall bytes route (inWords a) b m) (post-whole bytes route a b m)
 
   part-takes : (a : Areas) (b m : ℕ) (ws : List ℕ) → (n : ℕ) × ((c : Areas) × PartArriveGave bytes route b m ws a n c)
-  part-takes a b m ws = can-answer (ownArriveCall bytes route (inWords a) b m ws) (arrive-whole bytes route a b m ws)
+  part-takes a b m ws = can-answer (partArriveCall bytes route (inWords a) b m ws) (arrive-whole bytes route a b m ws)
 
   module _ (sources : Sources) (x : Boards) where
     abbrev boards-there : ℕ

@@ -21,7 +21,7 @@ use Rattle.machine.specs.Words.{wordAt, mailAt, cellOf, Does, Did, Posted}
 use Rattle.machine.proofs.RunLaws.{number-of, after-of}
 use Rattle.nest.specs.Reader.{nestOf, readLines}
 use Rattle.plan.specs.Hops.{hops}
-use Rattle.conformance.specs.Rows.{figuresIf}
+use Rattle.conformance.specs.Examples.{figuresIf}
 use Rattle.summary.specs.declared.Figures.{Figures}
 use Rattle.summary.specs.declared.MessageLine.{MessageLine}
 use Rattle.summary.specs.declared.HopCount.{HopCount}
@@ -29,7 +29,7 @@ use Rattle.summary.specs.Summary.{asFigures, figuresOf, noFigures, summaryOf, l
 use Rattle.summary.specs.Summary.{hopsIf, hopsLines, hopsOf}
 use Rattle.engine.specs.Calls.{answer, recipe, areas, freshCall, turnCall, deliverCall, collectCall}
 use Rattle.engine.specs.Demands.{Fixed, calls, Demand2}
-use Rattle.layout.specs.Sizes.{routeOf}
+use Rattle.layout.specs.RouteWords.{routeOf}
 use Rattle.recipe.specs.Routes.{linesFor}
 use Rattle.recipe.proofs.Laws.{numbered-for}
 use Rattle.engine.proofs.Demands as engine

@@ -8,8 +8,9 @@ use Rattle.engine.specs.Calls.{answer, recipe}
 use Rattle.engine.specs.Demands.{Fixed}
 use Rattle.engine.proofs.Demands as engine
 use Rattle.part_calls.specs.declared.AreaLengths.{AreaLengths}
-use Rattle.part_calls.specs.front.Calls.{boardLines, lengthsOf, noLengths, lengthsIf, ownSizesCall, ownMessagesCall, ownFreshCall, ownTurnCall, ownPostCall}
-use Rattle.part_calls.specs.front.Calls.{ownArriveCall, ownCollectCall}
+use Rattle.part_calls.specs.front.Calls.{boardLines, lengthsOf, noLengths, lengthsIf, partSizesCall, partMessagesCall, partFreshCall, partTurnCall}
+use Rattle.part_calls.specs.front.Calls.{partPostCall}
+use Rattle.part_calls.specs.front.Calls.{partArriveCall, partCollectCall}
 use Rattle.calls.specs.Tells.{Tells}
 use Rattle.calls.specs.Gave.{Areas, inWords, PartSizesGave}
 use Rattle.guarantees.specs.OverRecords.{FixedAreas}
@@ -24,13 +25,13 @@ module _ {ls : List Line} {done : State} {call : Answered State} where
 module _ (bytes : List ℕ) (route p : ℕ) where
   sizes-tell : (r : AreaLengths) → PartSizesGave bytes route p r
       → Tells (λ l. l .number) (boardLines bytes route p) (lengthsOf (recipe bytes route) p) noLengths r
-  unfolding ownSizesCall lengthsIf lengthsOf
+  unfolding partSizesCall lengthsIf lengthsOf
   sizes-tell r e =
       tells-by (λ (l : AreaLengths). l .number) (λ n. lengthsIf n (recipe bytes route) p) (lengthsOf (recipe bytes route) p) noLengths refl (λ n. refl)
       refl (λ n. refl) (boardLines bytes route p) r e
 
   pub fixed-part : FixedPart bytes route p
-  unfolding ownMessagesCall ownFreshCall ownTurnCall ownPostCall ownArriveCall ownCollectCall
+  unfolding partMessagesCall partFreshCall partTurnCall partPostCall partArriveCall partCollectCall
   fixed-part =
       record {
         sizes = sizes-tell;

@@ -1,4 +1,4 @@
--- Row D for two offices and with hours, computed on the machine's plan of it; and by the theorems what the exported calls give.
+-- Row D for two tenants and with hours, computed on the machine's plan of it; and by the theorems what the exported calls give.
 use Prim.Native.Nat.{ℕ, _≤_}
 use mathlib.Core.Path.{_≡_, refl, sym, ap, _∙_, subst}
 use mathlib.Core.Bool.{true}
@@ -7,7 +7,7 @@ use native.Mathlib.Omega.{arith}
 use lib.ListN.{length}
 use borrow.Author.Tests.{eq-eqb}
 use Rattle.base.specs.Tests.{_and_, _or_, not, pick, one, every, some, keep, those, product, sum, tabulate}
-use Rattle.base.specs.Lists.{Bytes, countIf, member, part, put, setAll, allAt, unpack, pack, storeAll}
+use Rattle.base.specs.Lists.{Bytes, countIf, member, sublist, put, setAll, allAt, unpack, pack, storeAll}
 use Rattle.base.specs.Numbers.{line, firstOf}
 use Rattle.base.proofs.Tests.{and-true, not-true}
 use Rattle.base.proofs.Numbers.{first-behind, first-false}
@@ -21,12 +21,12 @@ use Rattle.machine.proofs.Fresh.{inv-fresh}
 use Rattle.machine.proofs.Along.{next-inv}
 use Rattle.machine.proofs.RunLaws.{number-of, after-of, same-numbers}
 use Rattle.machine.proofs.Guards.{good-after}
-use Rattle.tenants.specs.Offices.{stageAgrees, fitWord, fitFor, heldByOther, freedAfter, engagedAfter, carryOutFor, turnFor, deliverFor, actFor, actOn}
-use Rattle.tenants.specs.Offices.{ofOffice, Rig, sourceFor, returned, freshRig}
+use Rattle.tenants.specs.Tenants.{stageAgrees, fitWord, fitFor, heldByOther, freedAfter, engagedAfter, carryOutFor, turnFor, deliverFor, actFor, actOn}
+use Rattle.tenants.specs.Tenants.{ofTenant, Sharing, sourceFor, returned, freshSharing}
 use Rattle.tenants.specs.Demand208.{answersOf}
-use Rattle.tenants.proofs.Engaged.{RigInv, inv-start, inv-next}
-use Rattle.calendar.specs.Hours.{isWindow, isFaulty, covers, faultyBoard, faultyTable, faultyMinute, openAt, faultyFor, closed, tableWords, Timed, turnAt}
-use Rattle.calendar.specs.Hours.{mailOf, eventOf, timedTurn, turnLinesAt, actAt, Hours}
+use Rattle.tenants.proofs.Engaged.{SharingInv, inv-start, inv-next}
+use Rattle.calendar.specs.Windows.{isWindow, isFaulty, covers, faultyBoard, faultyTable, faultyMinute, openAt, faultyFor, closed, tableWords, Timed, turnAt}
+use Rattle.calendar.specs.Windows.{mailOf, eventOf, timedTurn, turnLinesAt, actAt, Moment}
 use Rattle.calendar.proofs.Allowed.{Allowed, guards}
 use Rattle.nest.specs.Nest.{tileCount, cells, boxTiles, processors}
 use Rattle.nest.specs.Places.{rank, place, cellAt, cellPlace, tileAt, tilePlace, boxTileOf}
@@ -39,24 +39,24 @@ use Rattle.plan.specs.Shaped.{boxTile, reachesShape, shapedParcel, follows, sha
 use Rattle.plan.specs.Shaped.{shapedCells, readsShape, shapedValue}
 use Rattle.conformance.proofs.RowNests.{nestD, isD}
 use Rattle.conformance.proofs.AToH.{numberD}
-use Rattle.layout.specs.Sizes.{routeOf}
+use Rattle.layout.specs.RouteWords.{routeOf}
 use Rattle.recipe.specs.Routes.{linesFor}
 use Rattle.recipe.proofs.Laws.{open-direct, numbered-for}
 use Rattle.engine.specs.Calls.{recipe, areas}
 use Rattle.engine.proofs.AsRuns.{inv-areas}
 use Rattle.engine.proofs.AsSteps.{deliver-is}
 use Rattle.engine.proofs.Demands.{demands}
-use Rattle.sharing.specs.Calls.{rigCalls}
+use Rattle.sharing.specs.Calls.{sharingCalls}
 use Rattle.sharing.proofs.AsRuns.{alike, fresh-sources, fresh-is}
 use Rattle.sharing.proofs.Demands.{sound-plan}
-use Rattle.timed.specs.Calls.{tableLong, turnCallAt, callsAt}
-use Rattle.calls.specs.Gave.{Areas, inWords, RigAreas, rigWords, FreshGave, CollectGave, FreshBothGave, TimedGave}
+use Rattle.calendar_calls.specs.Calls.{tableLong, turnCallAt, callsAt}
+use Rattle.calls.specs.Gave.{Areas, inWords, SharingAreas, sharingWords, FreshGave, CollectGave, FreshBothGave, TimedGave}
 use Rattle.guarantees.specs.OverRecords.{Gave}
-use Rattle.guarantees.specs.OverRig.{CallsGave, CollectGaveFor, RigRun}
-use Rattle.guarantees.specs.OverHours.{TimedRun}
+use Rattle.guarantees.specs.OverSharing.{CallsGave, CollectGaveFor, SharingRun}
+use Rattle.guarantees.specs.OverCalendar.{TimedRun}
 use Rattle.guarantees.specs.RowD.{sourcesD, callsD, numbersD, eventsD, timedNumbersD, RowD}
-use Rattle.guarantees.proofs.OverRig.{over-rig}
-use Rattle.guarantees.proofs.OverHours.{over-hours}
+use Rattle.guarantees.proofs.OverSharing.{over-sharing}
+use Rattle.guarantees.proofs.OverCalendar.{over-hours}
 
 -- ---- the row's plan
 abbrev pub p : Plan
@@ -105,17 +105,17 @@ unfolding sweepTo shapedValue readsShape hasRead readAt sum _and_ _or_ pick ever
     tileCount cells boxTiles level raised meets inShape exists existing tiles
 sweep-second = refl
 
--- ---- two offices
-rig-d : answersTo (actOn d sourcesD) (freshRig d) callsD ≡ numbersD
-unfolding answersTo stateAfter stageAgrees fitWord fitFor heldByOther freedAfter engagedAfter carryOutFor turnFor deliverFor actFor actOn ofOffice returned
-    freshRig firstOf not one member offset part put setAll allAt unpack pack storeAll setProgress tilesLeft fitRecord fit unpackAll afterSends carryOut
+-- ---- two tenants
+sharing-d : answersTo (actOn d sourcesD) (freshSharing d) callsD ≡ numbersD
+unfolding answersTo stateAfter stageAgrees fitWord fitFor heldByOther freedAfter engagedAfter carryOutFor turnFor deliverFor actFor actOn ofTenant returned
+    freshSharing firstOf not one member offset sublist put setAll allAt unpack pack storeAll setProgress tilesLeft fitRecord fit unpackAll afterSends carryOut
     actionAt waiting fresh shapedValue readsShape hasRead readAt sum _and_ _or_ pick every some keep those product tileCount cells boxTiles rank place cellAt
     cellPlace tileAt tilePlace boxTileOf level raised meets inShape exists existing tiles inside directions ahead reaches taker messagesOf boxTile
     reachesShape shapedParcel follows shapedTaker shapedSlotTaker shapedHome shapedSlotParcel shapedCells processorOf processors
-rig-d = refl
+sharing-d = refl
 
-rig-D : answersTo (actOn p sourcesD) (freshRig p) callsD ≡ numbersD
-rig-D = subst (λ (q : Plan). answersTo (actOn q sourcesD) (freshRig q) callsD ≡ numbersD) (sym plan-D) rig-d
+sharing-D : answersTo (actOn p sourcesD) (freshSharing p) callsD ≡ numbersD
+sharing-D = subst (λ (q : Plan). answersTo (actOn q sourcesD) (freshSharing q) callsD ≡ numbersD) (sym plan-D) sharing-d
 
 steps-first : stepsIn (answersOf 0 callsD numbersD) ≡ 6
 unfolding answersOf pick countIf one
@@ -125,41 +125,42 @@ steps-second : stepsIn (answersOf 1 callsD numbersD) ≡ 6
 unfolding answersOf pick countIf one
 steps-second = refl
 
-module _ (a start b : RigAreas) (numbers : List ℕ) (f : FreshBothGave rowD 0 sourcesD a 0 start) (g : CallsGave rowD 0 sourcesD start callsD numbers b) where
-  run : RigRun rowD 0 sourcesD start callsD numbers b
-  run = over-rig rowD 0 .three bytes-D sourcesD a start b callsD numbers f g
+module _ (a start b : SharingAreas) (numbers : List ℕ) (f : FreshBothGave rowD 0 sourcesD a 0 start) (g : CallsGave rowD 0 sourcesD start callsD numbers b)
+  where
+    run : SharingRun rowD 0 sourcesD start callsD numbers b
+    run = over-sharing rowD 0 .three bytes-D sourcesD a start b callsD numbers f g
 
-  start-is : rigWords start ≡ freshRig p
-  start-is = after-of f ∙ fresh-is rowD 0 sourcesD (rigWords a) (sym (number-of f))
+    start-is : sharingWords start ≡ freshSharing p
+    start-is = after-of f ∙ fresh-is rowD 0 sourcesD (sharingWords a) (sym (number-of f))
 
-  offices : numbers ≡ numbersD
-  offices =
-      run .numbers-are ∙ ap (λ (r : Rig). answersTo (rigCalls rowD 0 sourcesD) r callsD) start-is
-      ∙ same-numbers (RigInv p sourcesD) (rigCalls rowD 0 sourcesD) (actOn p sourcesD)
-      (alike rowD 0 sourcesD open-D (fresh-sources rowD 0 sourcesD (rigWords a) (sym (number-of f)))) (inv-next p sound-D sourcesD) callsD (freshRig p)
-      (inv-start p sourcesD)
-      ∙ rig-D
+    tenants : numbers ≡ numbersD
+    tenants =
+        run .numbers-are ∙ ap (λ (r : Sharing). answersTo (sharingCalls rowD 0 sourcesD) r callsD) start-is
+        ∙ same-numbers (SharingInv p sourcesD) (sharingCalls rowD 0 sourcesD) (actOn p sourcesD)
+        (alike rowD 0 sourcesD open-D (fresh-sources rowD 0 sourcesD (sharingWords a) (sym (number-of f)))) (inv-next p sound-D sourcesD) callsD (freshSharing p)
+        (inv-start p sourcesD)
+        ∙ sharing-D
 
-  collected : (o : ℕ) → o ≤ 1 → stepsIn (answersOf o callsD numbersD) ≡ 6 → (l : List ℕ) → sweep d (sourceFor sourcesD o) ≡ l → (old grid : List ℕ) (n : ℕ)
-      → length old ≡ 4 → CollectGaveFor rowD 0 sourcesD b o old n grid → (n ≡ 0) × (grid ≡ l)
-  collected o low six-steps l swept old grid n long h = (
-    z,
-    run .grid o low old grid (subst (λ (k : ℕ). CollectGaveFor rowD 0 sourcesD b o old k grid) z h)
-        ∙ ap (λ (q : Plan). sweep q (sourceFor sourcesD o)) plan-D ∙ swept,
-  )
-    where
-      all : stepsIn (answersOf o callsD numbers) ≡ total p
-      all = ap (λ (ns : List ℕ). stepsIn (answersOf o callsD ns)) offices ∙ six-steps ∙ sym six
+    collected : (o : ℕ) → o ≤ 1 → stepsIn (answersOf o callsD numbersD) ≡ 6 → (l : List ℕ) → sweep d (sourceFor sourcesD o) ≡ l → (old grid : List ℕ) (n : ℕ)
+        → length old ≡ 4 → CollectGaveFor rowD 0 sourcesD b o old n grid → (n ≡ 0) × (grid ≡ l)
+    collected o low six-steps l swept old grid n long h = (
+      z,
+      run .grid o low old grid (subst (λ (k : ℕ). CollectGaveFor rowD 0 sourcesD b o old k grid) z h)
+          ∙ ap (λ (q : Plan). sweep q (sourceFor sourcesD o)) plan-D ∙ swept,
+    )
+      where
+        all : stepsIn (answersOf o callsD numbers) ≡ total p
+        all = ap (λ (ns : List ℕ). stepsIn (answersOf o callsD ns)) tenants ∙ six-steps ∙ sym six
 
-      z : n ≡ 0
-      z = run .collects o low old grid n (long ∙ cells-D) h .1 all
+        z : n ≡ 0
+        z = run .collects o low old grid n (long ∙ cells-D) h .1 all
 
 first-is : sweep d (sourceFor sourcesD 0) ≡ 4 ∷ 9 ∷ 14 ∷ 20 ∷ []
-unfolding ofOffice pick
+unfolding ofTenant pick
 first-is = sweep-first
 
 second-is : sweep d (sourceFor sourcesD 1) ≡ 1 ∷ 2 ∷ 3 ∷ 4 ∷ []
-unfolding ofOffice pick
+unfolding ofTenant pick
 second-is = sweep-second
 
 -- ---- with hours
@@ -168,7 +169,7 @@ source = sourcesD .first
 
 hours-d : answersTo (actAt d source) (fresh d) eventsD ≡ timedNumbersD
 unfolding answersTo stateAfter timedTurn actAt isWindow isFaulty covers faultyBoard faultyTable faultyMinute openAt faultyFor closed deliver firstOf not one
-    member offset part put setAll allAt unpack pack storeAll setProgress tilesLeft fitRecord fit unpackAll afterSends carryOut actionAt waiting fresh
+    member offset sublist put setAll allAt unpack pack storeAll setProgress tilesLeft fitRecord fit unpackAll afterSends carryOut actionAt waiting fresh
     shapedValue readsShape hasRead readAt sum _and_ _or_ pick every some keep those product tileCount cells boxTiles rank place cellAt cellPlace tileAt
     tilePlace boxTileOf level raised meets inShape exists existing tiles inside directions ahead reaches taker messagesOf boxTile reachesShape shapedParcel
     follows shapedTaker shapedSlotTaker shapedHome shapedSlotParcel shapedCells processorOf processors
@@ -180,10 +181,10 @@ hours-D = subst (λ (q : Plan). answersTo (actAt q source) (fresh q) eventsD ≡
 -- each turn is lent a table of its length
 abbrev Long : List Timed → Type 0
 Long [] = Unit {0}
-Long (turnAt h b ∷ es) = (length (h .table) ≡ tableWords p) × Long es
+Long (turnAt h b ∷ es) = (length (h .calendar) ≡ tableWords p) × Long es
 Long (mailOf m ∷ es) = Long es
 
-timed-is : (s : State) → Inv p source s → (h : Hours) (b : ℕ) → length (h .table) ≡ tableWords p → turnCallAt rowD 0 source h s b ≡ timedTurn p source h s b
+timed-is : (s : State) → Inv p source s → (h : Moment) (b : ℕ) → length (h .calendar) ≡ tableWords p → turnCallAt rowD 0 source h s b ≡ timedTurn p source h s b
 unfolding turnCallAt timedTurn
 timed-is s inv h b e =
     ap (λ (k : ℕ). answered k (carryOut p source s b (nextAction p s b)) s)
@@ -245,7 +246,7 @@ module _ (a start b : Areas) (numbers : List ℕ) (f : FreshGave rowD 0 source a
 pub row-D : RowD
 row-D =
     record {
-      offices = offices;
+      tenants = tenants;
       first-grid = λ a start b numbers f g. collected a start b numbers f g 0 (omega arith) steps-first _ first-is;
       second-grid = λ a start b numbers f g. collected a start b numbers f g 1 (omega arith) steps-second _ second-is;
       hours = hours;

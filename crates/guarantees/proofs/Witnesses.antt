@@ -1,4 +1,4 @@
--- The premise of OverRecords214's claims is met, so no claim there is about nothing: CanSwapGave and Swapped, by the exported calls for two offices on row D.
+-- The premise of OverRecords214's claims is met, so no claim there is about nothing: CanSwapGave and Swapped, by the exported calls for two tenants on row D.
 use Prim.Native.Nat.{ℕ}
 use mathlib.Core.Path.{_≡_, refl, sym, ap, _∙_, subst}
 use mathlib.Core.Bool.{Bool, true, false, true≢false}
@@ -6,18 +6,18 @@ use mathlib.Core.List.{List, [], _∷_, _++_}
 use native.Mathlib.Omega.{arith}
 use lib.ListN.{length, length-replicate}
 use Rattle.base.specs.Tests.{_and_, _or_, not, pick, one, every, some, keep, those, product, sum}
-use Rattle.base.specs.Lists.{member, part, put, setAll, allAt, unpack, pack, storeAll}
+use Rattle.base.specs.Lists.{member, sublist, put, setAll, allAt, unpack, pack, storeAll}
 use Rattle.base.specs.Numbers.{firstOf}
 use Rattle.machine.specs.Plan.{Plan, offset}
 use Rattle.machine.specs.Machine.{State, Answered, setProgress, tilesLeft, fitRecord, fit, unpackAll, afterSends, carryOut, actionAt, waiting, fresh}
 use Rattle.machine.specs.Runs.{Event, turnOf, deliveryOf, stateAfter}
 use Rattle.machine.proofs.Fresh.{inv-fresh}
 use Rattle.machine.proofs.RunLaws.{number-of, same-end}
-use Rattle.tenants.specs.Offices.{stageAgrees, fitWord, fitFor, heldByOther, freedAfter, engagedAfter, carryOutFor, turnFor, deliverFor, actFor, actOn}
-use Rattle.tenants.specs.Offices.{ofOffice, Rig, rigOf, returned, freshRig, Call, turnBy, deliveryBy}
-use Rattle.tenants.proofs.Engaged.{RigInv, inv-start, inv-next, inv-run}
+use Rattle.tenants.specs.Tenants.{stageAgrees, fitWord, fitFor, heldByOther, freedAfter, engagedAfter, carryOutFor, turnFor, deliverFor, actFor, actOn}
+use Rattle.tenants.specs.Tenants.{ofTenant, Sharing, sharingOf, returned, freshSharing, Call, turnBy, deliveryBy}
+use Rattle.tenants.proofs.Engaged.{SharingInv, inv-start, inv-next, inv-run}
 use Rattle.swaps.specs.Swaps.{Swapped}
-use Rattle.swaps.specs.TwoOffices.{DifferentFor, wholly}
+use Rattle.swaps.specs.TwoTenants.{DifferentFor, wholly}
 use Rattle.nest.specs.Nest.{tileCount, cells, boxTiles, processors}
 use Rattle.nest.specs.Places.{rank, place, cellAt, cellPlace, tileAt, tilePlace, boxTileOf}
 use Rattle.nest.specs.Shape.{level, raised, meets, inShape, exists, existing, tiles}
@@ -28,17 +28,17 @@ use Rattle.plan.specs.Shaped.{boxTile, reachesShape, shapedParcel, follows, sha
 use Rattle.plan.specs.Shaped.{readsShape, shapedValue}
 use Rattle.engine.specs.Calls.{answer}
 use Rattle.engine.specs.Demands.{LentWords}
-use Rattle.sharing.specs.Calls.{freshRigCall, rigCalls}
+use Rattle.sharing.specs.Calls.{freshSharingCall, sharingCalls}
 use Rattle.sharing.proofs.AsRuns.{alike, fresh-sources, fresh-is}
-use Rattle.sharing.proofs.Demands.{rig-demands}
-use Rattle.calls.specs.Gave.{RigAreas, rigAreasOf, rigWords, FreshBothGave}
+use Rattle.sharing.proofs.Demands.{sharing-demands}
+use Rattle.calls.specs.Gave.{SharingAreas, sharingAreasOf, sharingWords, FreshBothGave}
 use Rattle.guarantees.specs.OverRecords.{Gave}
-use Rattle.guarantees.specs.OverRig.{CallGave}
+use Rattle.guarantees.specs.OverSharing.{CallGave}
 use Rattle.guarantees.specs.OverRecords214.{CanGive, CanSwapGave, DifferentAreas}
 use Rattle.guarantees.specs.RowD.{sourcesD}
 use Rattle.guarantees.proofs.BoardWitness.{fresh-words}
 use Rattle.guarantees.proofs.OverRecords.{areasFrom, run-words}
-use Rattle.guarantees.proofs.OverRig.{over-rig, rig-call}
+use Rattle.guarantees.proofs.OverSharing.{over-sharing, sharing-call}
 use Rattle.guarantees.proofs.OverRecords214.{over-records214}
 use Rattle.guarantees.proofs.RowD.{p, d, plan-D, bytes-D, open-D, sound-D, cells-D}
 
@@ -55,13 +55,13 @@ module _ {A E S : Type 0} (Step : A → E → ℕ → A → Type 0) (words : A �
       let x = can a e in
       (x .1 .0, subst (λ (n : ℕ). Step a e n (x .1 .0)) (number-of (is a e (x .0) (x .1 .0) (x .1 .1)) ∙ z) (x .1 .1))
 
--- ---- a fresh start of both offices
-start : RigAreas
-start = rigAreasOf (areasFrom (fresh p)) (areasFrom (fresh p)) (freshRig p .engaged)
+-- ---- a fresh start of both tenants
+start : SharingAreas
+start = sharingAreasOf (areasFrom (fresh p)) (areasFrom (fresh p)) (freshSharing p .engaged)
 
-start-words : rigWords start ≡ freshRig p
-unfolding start freshRig
-start-words = ap (λ (s : State). rigOf s s (freshRig p .engaged)) fresh-words
+start-words : sharingWords start ≡ freshSharing p
+unfolding start freshSharing
+start-words = ap (λ (s : State). sharingOf s s (freshSharing p .engaged)) fresh-words
 
 lent : (source : List ℕ) → length source ≡ 4 → LentWords p source (fresh p)
 lent source l =
@@ -73,29 +73,30 @@ lent source l =
       status = inv-fresh p source .shape .status;
     }
 
-gives-0 : freshRigCall rowD 0 sourcesD (freshRig p) .number ≡ 0
-unfolding freshRig
+gives-0 : freshSharingCall rowD 0 sourcesD (freshSharing p) .number ≡ 0
+unfolding freshSharing
 gives-0 =
-    rig-demands .begins rowD 0 sourcesD (freshRig p) open-D (lent (sourcesD .first) refl) (lent (sourcesD .second) refl) (length-replicate {A = ℕ} (p .processors) 2)
+    sharing-demands .begins rowD 0 sourcesD (freshSharing p) open-D (lent (sourcesD .first) refl) (lent (sourcesD .second) refl)
+    (length-replicate {A = ℕ} (p .processors) 2)
 
-both-are : (n : ℕ) (r : Rig) (x : Answered Rig) → x .number ≡ n → x .after ≡ r → answer n r ≡ x
+both-are : (n : ℕ) (r : Sharing) (x : Answered Sharing) → x .number ≡ n → x .after ≡ r → answer n r ≡ x
 both-are n r x e f = rw (sym e, sym f) refl
 
 begun : FreshBothGave rowD 0 sourcesD start 0 start
 begun =
-    subst (λ (r : Rig). answer 0 r ≡ freshRigCall rowD 0 sourcesD r) (sym start-words)
-    (both-are 0 (freshRig p) (freshRigCall rowD 0 sourcesD (freshRig p)) gives-0 (fresh-is rowD 0 sourcesD (freshRig p) gives-0))
+    subst (λ (r : Sharing). answer 0 r ≡ freshSharingCall rowD 0 sourcesD r) (sym start-words)
+    (both-are 0 (freshSharing p) (freshSharingCall rowD 0 sourcesD (freshSharing p)) gives-0 (fresh-is rowD 0 sourcesD (freshSharing p) gives-0))
 
--- ---- office 0 has done tile 0 on processor 0, which is free again: its message can be delivered, and office 1 can gather there
+-- ---- tenant 0 has done tile 0 on processor 0, which is free again: its message can be delivered, and tenant 1 can gather there
 unfoldable turned : List Call
 turned = turnBy 0 0 ∷ turnBy 0 0 ∷ turnBy 0 0 ∷ []
 
-abbrev after : Plan → Rig
-after q = stateAfter (actOn q sourcesD) (freshRig q) turned
+abbrev after : Plan → Sharing
+after q = stateAfter (actOn q sourcesD) (freshSharing q) turned
 
 both-d : (actOn d sourcesD (after d) (deliveryBy 0 0) .number ≡ 0) × (actOn d sourcesD (after d) (turnBy 1 0) .number ≡ 0)
-unfolding turned stateAfter stageAgrees fitWord fitFor heldByOther freedAfter engagedAfter carryOutFor turnFor deliverFor actFor actOn ofOffice returned
-    freshRig firstOf not one member offset part put setAll allAt unpack pack storeAll setProgress tilesLeft fitRecord fit unpackAll afterSends carryOut
+unfolding turned stateAfter stageAgrees fitWord fitFor heldByOther freedAfter engagedAfter carryOutFor turnFor deliverFor actFor actOn ofTenant returned
+    freshSharing firstOf not one member offset sublist put setAll allAt unpack pack storeAll setProgress tilesLeft fitRecord fit unpackAll afterSends carryOut
     actionAt waiting fresh shapedValue readsShape hasRead readAt sum _and_ _or_ pick every some keep those product tileCount cells boxTiles rank place cellAt
     cellPlace tileAt tilePlace boxTileOf level raised meets inShape exists existing tiles inside directions ahead reaches taker messagesOf boxTile
     reachesShape shapedParcel follows shapedTaker shapedSlotTaker shapedHome shapedSlotParcel shapedCells processorOf processors
@@ -106,41 +107,41 @@ both-D =
     subst
     (λ (q : Plan). (actOn q sourcesD (after q) (deliveryBy 0 0) .number ≡ 0) × (actOn q sourcesD (after q) (turnBy 1 0) .number ≡ 0)) (sym plan-D) both-d
 
-abbrev acts : Rig → Call → Answered Rig
-acts = rigCalls rowD 0 sourcesD
+abbrev acts : Sharing → Call → Answered Sharing
+acts = sharingCalls rowD 0 sourcesD
 
-same : (r : Rig) → RigInv p sourcesD r → (c : Call) → acts r c ≡ actOn p sourcesD r c
-same = alike rowD 0 sourcesD open-D (fresh-sources rowD 0 sourcesD (freshRig p) gives-0)
+same : (r : Sharing) → SharingInv p sourcesD r → (c : Call) → acts r c ≡ actOn p sourcesD r c
+same = alike rowD 0 sourcesD open-D (fresh-sources rowD 0 sourcesD (freshSharing p) gives-0)
 
-abbrev Step : RigAreas → Call → ℕ → RigAreas → Type 0
+abbrev Step : SharingAreas → Call → ℕ → SharingAreas → Type 0
 Step = CallGave rowD 0 sourcesD
 
-abbrev can : (a : RigAreas) (c : Call) → (n : ℕ) × ((b : RigAreas) × Step a c n b)
-can = over-rig rowD 0 .one .can-call sourcesD
+abbrev can : (a : SharingAreas) (c : Call) → (n : ℕ) × ((b : SharingAreas) × Step a c n b)
+can = over-sharing rowD 0 .one .can-call sourcesD
 
-abbrev run : (ns : List ℕ) × ((b : RigAreas) × Gave Step start turned ns b)
-run = can-run Step rigWords acts (rig-call rowD 0 sourcesD) can turned start
+abbrev run : (ns : List ℕ) × ((b : SharingAreas) × Gave Step start turned ns b)
+run = can-run Step sharingWords acts (sharing-call rowD 0 sourcesD) can turned start
 
-areas-are : rigWords (run .1 .0) ≡ after p
+areas-are : sharingWords (run .1 .0) ≡ after p
 areas-are =
-    run-words Step rigWords acts (rig-call rowD 0 sourcesD) (run .1 .1) ∙ ap (λ (r : Rig). stateAfter acts r turned) start-words
-    ∙ same-end (RigInv p sourcesD) acts (actOn p sourcesD) same (inv-next p sound-D sourcesD) turned (freshRig p) (inv-start p sourcesD)
+    run-words Step sharingWords acts (sharing-call rowD 0 sourcesD) (run .1 .1) ∙ ap (λ (r : Sharing). stateAfter acts r turned) start-words
+    ∙ same-end (SharingInv p sourcesD) acts (actOn p sourcesD) same (inv-next p sound-D sourcesD) turned (freshSharing p) (inv-start p sourcesD)
 
 gives : (c : Call) → actOn p sourcesD (after p) c .number ≡ 0 → CanGive Step (run .1 .0) c
 gives c z =
-    can-give Step rigWords acts (rig-call rowD 0 sourcesD) can (run .1 .0) c
-    (ap (λ (r : Rig). acts r c .number) areas-are
-    ∙ number-of (same (after p) (inv-run p sound-D sourcesD turned (freshRig p) (inv-start p sourcesD)) c) ∙ z)
+    can-give Step sharingWords acts (sharing-call rowD 0 sourcesD) can (run .1 .0) c
+    (ap (λ (r : Sharing). acts r c .number) areas-are
+    ∙ number-of (same (after p) (inv-run p sound-D sourcesD turned (freshSharing p) (inv-start p sourcesD)) c) ∙ z)
 
 unfoldable isTurn : Event → Bool
 isTurn (turnOf b) = true
 isTurn (deliveryOf m) = false
 
-different : (r : Rig) → DifferentFor wholly p r (deliveryBy 0 0) (turnBy 1 0)
+different : (r : Sharing) → DifferentFor wholly p r (deliveryBy 0 0) (turnBy 1 0)
 unfolding isTurn
 different r =
     record {
-      different = λ e. let z : _≡_ {A = ℕ} 0 1 = ap (λ (c : Call). c .office) e in omega arith;
+      different = λ e. let z : _≡_ {A = ℕ} 0 1 = ap (λ (c : Call). c .tenant) e in omega arith;
       not-gathers = λ t. true≢false (ap isTurn (sym (t .first-turn)));
     }
 
@@ -160,6 +161,6 @@ swapped : Swapped (CanSwapGave Step (DifferentAreas wholly p Step) start) (turne
 swapped = Swapped.swap turned [] (deliveryBy 0 0) (turnBy 1 0) can-swap-gave
 
 -- so the claim says of these two lists, from this start, that they get the same numbers and leave the same areas
-one-end : (ns ks : List ℕ) (b c : RigAreas) → Gave Step start (turned ++ (deliveryBy 0 0 ∷ turnBy 1 0 ∷ [])) ns b
+one-end : (ns ks : List ℕ) (b c : SharingAreas) → Gave Step start (turned ++ (deliveryBy 0 0 ∷ turnBy 1 0 ∷ [])) ns b
     → Gave Step start (turned ++ (turnBy 1 0 ∷ deliveryBy 0 0 ∷ [])) ks c → (ns ≡ ks) × (b ≡ c)
 one-end ns ks b c g h = over-records214 rowD 0 .two bytes-D sourcesD start start begun .rewinds .same-run _ _ ns ks b c swapped g h

@@ -9,12 +9,12 @@ use mathlib.Core.List.{List}
 use lib.ListN.{length}
 use Rattle.base.specs.Numbers.{firstOf}
 use Rattle.machine.specs.Plan.{Plan, count, words}
-use Rattle.tenants.specs.Offices.{Sources}
-use Rattle.layout.specs.Sizes.{routeOf}
+use Rattle.tenants.specs.Tenants.{Sources}
+use Rattle.layout.specs.RouteWords.{routeOf}
 use Rattle.recipe.specs.Routes.{linesFor}
 use Rattle.engine.specs.Calls.{recipe}
 use Rattle.schedule.specs.declared.Driven.{Driven}
-use Rattle.calls.specs.Gave.{Areas, RigAreas, FreshGave, FreshBothGave, RoundsGave}
+use Rattle.calls.specs.Gave.{Areas, SharingAreas, FreshGave, FreshBothGave, RoundsGave}
 
 -- areas of their lengths, by the plan's figures
 pub record LentFor (p : Plan) (source : List ℕ) (a : Areas) : Type 0 where
@@ -27,8 +27,8 @@ pub record LentFor (p : Plan) (source : List ℕ) (a : Areas) : Type 0 where
 pub record Begins (bytes : List ℕ) (route : ℕ) : Type 0 where
   pub one : firstOf (linesFor (routeOf route) bytes) ≡ 0 → (source : List ℕ) (a b : Areas) (n : ℕ) → LentFor (recipe bytes route) source a
       → FreshGave bytes route source a n b → n ≡ 0
-  -- two offices, each with areas of its own, and a shared word a processor
-  pub two : firstOf (linesFor (routeOf route) bytes) ≡ 0 → (sources : Sources) (a b : RigAreas) (n : ℕ)
+  -- two tenants, each with areas of its own, and a shared word a processor
+  pub two : firstOf (linesFor (routeOf route) bytes) ≡ 0 → (sources : Sources) (a b : SharingAreas) (n : ℕ)
       → LentFor (recipe bytes route) (sources .first) (a .first) → LentFor (recipe bytes route) (sources .second) (a .second)
       → length (a .engaged) ≡ recipe bytes route .processors → FreshBothGave bytes route sources a n b → n ≡ 0
   -- the driver by rounds, on the direct route

@@ -1,7 +1,7 @@
 pub mod OverRecords
-pub mod OverRig
+pub mod OverSharing
 pub mod Demand210
-pub mod OverHours
+pub mod OverCalendar
 pub mod TransportCalls
 pub mod WireCalls
 pub mod OverRounds
@@ -12,5 +12,5 @@ pub mod OnBoards
 pub mod PartCalls
 pub mod RecipeCalls
 pub mod Begins
-pub mod DriverRow
+pub mod DriverExample
 pub mod RowD

@@ -8,12 +8,12 @@ use mathlib.Core.List.{List, [], _∷_, _++_}
 use lib.ListN.{length}
 use lib.Dec.{eqb}
 use Rattle.base.specs.Tests.{pick}
-use Rattle.base.specs.Lists.{Bytes, part, pack}
+use Rattle.base.specs.Lists.{Bytes, sublist, pack}
 use Rattle.base.specs.Numbers.{firstOf}
 use Rattle.machine.specs.Plan.{Plan, count, heldBy}
 use Rattle.machine.specs.Machine.{placeOf, Answered}
 use Rattle.machine.specs.Runs.{turnOf, deliveryOf, last, answers, stepsIn}
-use Rattle.layout.specs.Sizes.{routeOf}
+use Rattle.layout.specs.RouteWords.{routeOf}
 use Rattle.recipe.specs.Routes.{linesFor}
 use Rattle.engine.specs.Calls.{answer, recipe, collectCall}
 use Rattle.network.specs.Apart.{takerAt}
@@ -88,7 +88,7 @@ module _ (bytes : List ℕ) (route : ℕ) where
   PartGave sources x (turnAt b) n y = CallAt (plan .processors) b (PartTurnGave bytes route (sources b) b) [] x n y
   PartGave sources x (postAt b m) n y =
       CallAt (plan .processors) b (PartPostGave bytes route b m)
-      (newPacket n m (part (x .areas b .buffer) (mailAt plan b m) (length (heldBy plan m)))) x n y
+      (newPacket n m (sublist (x .areas b .buffer) (mailAt plan b m) (length (heldBy plan m)))) x n y
   PartGave sources x (broughtTo b m ws) n y = CallAt (plan .processors) b (PartArriveGave bytes route b m ws) [] x n y
 
   -- ---- a beginning: one recipe and one route for all, each board's fresh start gave 0, and nothing is posted

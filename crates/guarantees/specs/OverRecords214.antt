@@ -8,16 +8,16 @@ use mathlib.Core.List.{List}
 use Rattle.base.specs.Lists.{Bytes}
 use Rattle.machine.specs.Plan.{Plan}
 use Rattle.machine.specs.Runs.{Event, turnOf}
-use Rattle.tenants.specs.Offices.{Sources, Call}
-use Rattle.calendar.specs.Hours.{eventOf, callOf}
+use Rattle.tenants.specs.Tenants.{Sources, Call}
+use Rattle.calendar.specs.Windows.{eventOf, callOf}
 use Rattle.swaps.specs.Swaps.{Swapped}
-use Rattle.swaps.specs.OneOffice.{Different, plainly}
-use Rattle.swaps.specs.TwoOffices.{TwoGathers, DifferentFor, wholly}
+use Rattle.swaps.specs.OneTenant.{Different, plainly}
+use Rattle.swaps.specs.TwoTenants.{TwoGathers, DifferentFor, wholly}
 use Rattle.engine.specs.Calls.{recipe}
-use Rattle.calls.specs.Gave.{Areas, RigAreas, rigWords, FreshGave, EventGave, FreshBothGave, TimedGave}
+use Rattle.calls.specs.Gave.{Areas, SharingAreas, sharingWords, FreshGave, EventGave, FreshBothGave, TimedGave}
 use Rattle.guarantees.specs.OverRecords.{Gave}
-use Rattle.guarantees.specs.OverRig.{CallGave}
-use Rattle.guarantees.specs.OverHours.{TimedCallGave}
+use Rattle.guarantees.specs.OverSharing.{CallGave}
+use Rattle.guarantees.specs.OverCalendar.{TimedCallGave}
 
 -- ---- any calls in a row
 
@@ -52,31 +52,31 @@ module _ {A E : Type 0} (Step : A → E → ℕ → A → Type 0) where
         pub same-run : (es fs : List E) (ns ks : List ℕ) (b c : A) → Swapped CanSwapGave es fs
             → Gave Step start es ns b → Gave Step start fs ks c → (ns ≡ ks) × (b ≡ c)
 
--- ---- one office; eventOf: what the machine reads of a call
+-- ---- one tenant; eventOf: what the machine reads of a call
 
 pub record Demand214Gave {X : Type 0} (eventOf : X → Event) (Step : Areas → X → ℕ → Areas → Type 0) (start : Areas) : Type 0 where
   -- lent any areas that a run left
   pub swaps : (events : List X) (numbers : List ℕ) (a : Areas) → Gave Step start events numbers a → SwapsGave Step (Different eventOf) a
   pub rewinds : RewindsGave Step (Different eventOf) start
 
--- ---- two offices; callOf: what the rig without hours reads of a call
+-- ---- two tenants; callOf: what the sharing without hours reads of a call
 
-module _ {C : Type 0} (callOf : C → Call) (p : Plan) (Step : RigAreas → C → ℕ → RigAreas → Type 0) where
-  abbrev pub DifferentAreas : RigAreas → C → C → Type 0
-  DifferentAreas a = DifferentFor callOf p (rigWords a)
+module _ {C : Type 0} (callOf : C → Call) (p : Plan) (Step : SharingAreas → C → ℕ → SharingAreas → Type 0) where
+  abbrev pub DifferentAreas : SharingAreas → C → C → Type 0
+  DifferentAreas a = DifferentFor callOf p (sharingWords a)
 
-  pub record SwapsForGave (a : RigAreas) : Type 0 where
+  pub record SwapsForGave (a : SharingAreas) : Type 0 where
     pub swaps : SwapsGave Step DifferentAreas a
-    -- two turns of one processor by two offices that can both give 0 are both gathers
-    pub both-gather : (c d : C) (b : ℕ) → callOf c .office ≢ callOf d .office → callOf c .event ≡ turnOf b → callOf d .event ≡ turnOf b
-        → CanGive Step a c → CanGive Step a d → TwoGathers p (rigWords a) (callOf c) (callOf d)
+    -- two turns of one processor by two tenants that can both give 0 are both gathers
+    pub both-gather : (c d : C) (b : ℕ) → callOf c .tenant ≢ callOf d .tenant → callOf c .event ≡ turnOf b → callOf d .event ≡ turnOf b
+        → CanGive Step a c → CanGive Step a d → TwoGathers p (sharingWords a) (callOf c) (callOf d)
     -- and after either of them the other is refused, engaged
-    pub only-one : (c d : C) (x y : RigAreas) (n : ℕ) → TwoGathers p (rigWords a) (callOf c) (callOf d) → CanGive Step a d
+    pub only-one : (c d : C) (x y : SharingAreas) (n : ℕ) → TwoGathers p (sharingWords a) (callOf c) (callOf d) → CanGive Step a d
         → Step a c 0 x → Step x d n y → n ≡ 19
 
-  pub record Demand214ForGave (start : RigAreas) : Type 0 where
+  pub record Demand214ForGave (start : SharingAreas) : Type 0 where
     -- lent any areas that a run left
-    pub swaps : (calls : List C) (numbers : List ℕ) (a : RigAreas) → Gave Step start calls numbers a → SwapsForGave a
+    pub swaps : (calls : List C) (numbers : List ℕ) (a : SharingAreas) → Gave Step start calls numbers a → SwapsForGave a
     pub rewinds : RewindsGave Step DifferentAreas start
 
 -- ---- the calls of crates/calls, from a fresh start that gave 0
@@ -84,10 +84,10 @@ module _ {C : Type 0} (callOf : C → Call) (p : Plan) (Step : RigAreas → C �
 pub record OverRecords214 (bytes : List ℕ) (route : ℕ) : Type 0 where
   pub one : Bytes bytes → (source : List ℕ) (a start : Areas) → FreshGave bytes route source a 0 start
       → Demand214Gave plainly (EventGave bytes route source) start
-  pub two : Bytes bytes → (sources : Sources) (a start : RigAreas) → FreshBothGave bytes route sources a 0 start
+  pub two : Bytes bytes → (sources : Sources) (a start : SharingAreas) → FreshBothGave bytes route sources a 0 start
       → Demand214ForGave wholly (recipe bytes route) (CallGave bytes route sources) start
   -- with hours
   pub one-at : Bytes bytes → (source : List ℕ) (a start : Areas) → FreshGave bytes route source a 0 start
       → Demand214Gave eventOf (TimedGave bytes route source) start
-  pub two-at : Bytes bytes → (sources : Sources) (a start : RigAreas) → FreshBothGave bytes route sources a 0 start
+  pub two-at : Bytes bytes → (sources : Sources) (a start : SharingAreas) → FreshBothGave bytes route sources a 0 start
       → Demand214ForGave callOf (recipe bytes route) (TimedCallGave bytes route sources) start

@@ -10,8 +10,9 @@ use Rattle.engine.specs.Demands.{Fixed}
 use Rattle.network.specs.Apart.{marked, received}
 use Rattle.network.specs.Own.{handled}
 use Rattle.part_calls.specs.declared.AreaLengths.{AreaLengths}
-use Rattle.part_calls.specs.front.Calls.{wide, narrow, boardLines, lengthsOf, noLengths, ownRows, ownMessagesLines, ownFreshLines, ownTurnLines, stepped}
-use Rattle.part_calls.specs.front.Calls.{ownPostLines, ownArriveLines, ownCollected, ownCollectLines}
+use Rattle.part_calls.specs.front.Calls.{fromPart, toPart, boardLines, lengthsOf, noLengths, partRows, partMessagesLines, partFreshLines, partTurnLines}
+use Rattle.part_calls.specs.front.Calls.{stepped}
+use Rattle.part_calls.specs.front.Calls.{partPostLines, partArriveLines, partCollected, partCollectLines}
 use Rattle.calls.specs.Tells.{Tells}
 use Rattle.calls.specs.Gave.{Areas, inWords, kept, PartSizesGave, PartMessagesGave, PartFreshGave, PartTurnGave, PartPostGave, PartArriveGave}
 use Rattle.calls.specs.Gave.{PartCollectGave}
@@ -22,17 +23,17 @@ pub record FixedPart (bytes : List ℕ) (route p : ℕ) : Type 0 where
   pub sizes : (told : AreaLengths) → PartSizesGave bytes route p told
       → Tells (λ l. l .number) (boardLines bytes route p) (lengthsOf (recipe bytes route) p) noLengths told
   pub messages : (old out : List ℕ) (n : ℕ) → PartMessagesGave bytes route p old n out
-      → Fixed (answer n out) (ownMessagesLines bytes route p old) (ownRows (recipe bytes route) p (handled (recipe bytes route) p)) old
+      → Fixed (answer n out) (partMessagesLines bytes route p old) (partRows (recipe bytes route) p (handled (recipe bytes route) p)) old
   pub fresh : (a b : Areas) (n : ℕ) → PartFreshGave bytes route p a n b
-      → FixedAreas (ownFreshLines bytes route (inWords a) p) (narrow (recipe bytes route) p (machine.fresh (recipe bytes route))) a n b
+      → FixedAreas (partFreshLines bytes route (inWords a) p) (toPart (recipe bytes route) p (machine.fresh (recipe bytes route))) a n b
   pub turn : (source : List ℕ) (a b : Areas) (n : ℕ) → PartTurnGave bytes route source p a n b
-      → FixedAreas (ownTurnLines bytes route source (inWords a) p)
-      (narrow (recipe bytes route) p (stepped (recipe bytes route) p source (inWords a))) a n b
+      → FixedAreas (partTurnLines bytes route source (inWords a) p)
+      (toPart (recipe bytes route) p (stepped (recipe bytes route) p source (inWords a))) a n b
   pub post : (m : ℕ) (a b : Areas) (n : ℕ) → PartPostGave bytes route p m a n b
-      → FixedAreas (ownPostLines bytes route (inWords a) p m)
-      (narrow (recipe bytes route) p (marked (wide (recipe bytes route) p (inWords a)) m)) a n b
+      → FixedAreas (partPostLines bytes route (inWords a) p m)
+      (toPart (recipe bytes route) p (marked (fromPart (recipe bytes route) p (inWords a)) m)) a n b
   pub arrive : (m : ℕ) (words : List ℕ) (a b : Areas) (n : ℕ) → PartArriveGave bytes route p m words a n b
-      → FixedAreas (ownArriveLines bytes route (inWords a) p m words)
-      (narrow (recipe bytes route) p (received (recipe bytes route) (wide (recipe bytes route) p (inWords a)) m words)) a n b
+      → FixedAreas (partArriveLines bytes route (inWords a) p m words)
+      (toPart (recipe bytes route) p (received (recipe bytes route) (fromPart (recipe bytes route) p (inWords a)) m words)) a n b
   pub collect : (memory : List ℕ) (own : List Progress) (old grid : List ℕ) (n : ℕ) → PartCollectGave bytes route p memory own old n grid
-      → Fixed (answer n grid) (ownCollectLines bytes route (kept memory own) p old) (ownCollected (recipe bytes route) p (kept memory own) old) old
+      → Fixed (answer n grid) (partCollectLines bytes route (kept memory own) p old) (partCollected (recipe bytes route) p (kept memory own) old) old

@@ -20,7 +20,8 @@ use Rattle.nest.specs.Places.{place, tileAt, tilePlace}
 use Rattle.plan.specs.Messages.{two, directions, ahead, taker, neighbour, ways, slots, slotTile, slotTaker}
 use Rattle.plan.proofs.Tiles.{tileCount-pos, tileAt-tilePlace}
 use Rattle.plan.proofs.Parcels.{ahead-beyond, ahead-low, slotTile-low}
-use Rattle.layout.specs.Sizes.{routeOf, along, endAt, Stepped}
+use Rattle.layout.specs.Sizes.{along, endAt, Stepped}
+use Rattle.layout.specs.RouteWords.{routeOf}
 use Rattle.layout.specs.Places.{nth, Has, Places, Placed}
 use Rattle.layout.proofs.Dims.{product-pos, place-lengths, rank-add, rank-most}
 use Rattle.layout.proofs.Cells.{four, zeros, twos, two-few, two-product, box-few}

@@ -1,4 +1,4 @@
--- Read `routeOf`; the rest is for contracts below the calls.
+-- For contracts below the calls: no reader needs it.
 -- What the code below the calls is given of a nest: its route and counts, made once in a call; the tiles at the ends of a slot, and the steps to them.
 -- No sentence of document 01.
 use Prim.Native.Nat.{ℕ, suc, zero, _+_, _%_, _<_}
@@ -14,11 +14,6 @@ use Rattle.plan.specs.declared.Route.{Route}
 use Rattle.plan.specs.declared.Route.the-variants.{Direct, Indirect}
 use Rattle.plan.specs.Messages.{ahead, ways, slots, slotTile, slotTaker}
 use Rattle.layout.specs.declared.Sizes.{Sizes}
-
--- the route that a caller names by a word: 0 direct, any other indirect
-unfoldable pub routeOf : ℕ → Route
-routeOf zero = Direct
-routeOf (suc word) = Indirect
 
 pub record Sized (x : Nest) (z : Sizes) : Type 0 where
   pub accepted : Accepted x

@@ -20,7 +20,7 @@ use Rattle.machine.proofs.Kept.{Inv}
 use Rattle.machine.proofs.Along.{next-inv}
 use Rattle.machine.proofs.Theorem.{theorem, named-next}
 use Rattle.machine.proofs.Posted.{did, posted, next-is}
-use Rattle.machine.proofs.Marks.{marks-passed}
+use Rattle.machine.proofs.StatusTells.{marks-passed}
 use Rattle.machine.proofs.RunLaws.{after-of, after-append, Passed, ends, steps-same, turns-same, one-end}
 use Rattle.machine.proofs.Once.{once-passed, collects-like}
 use Rattle.machine.proofs.Guards.{Guards, alike-guards, is-plain, plain-zero, good-after}
@@ -199,7 +199,7 @@ alone p so source Good v acts fo start good own Good′ v′ acts′ fo′ start
           (ran p so source Good′ v′ acts′ fo′ start′ good′ own′ calls′);
     }
 
--- ---- one office: calls that are guarded follow the machine
+-- ---- one tenant: calls that are guarded follow the machine
 pub follows : {X : Type 0} (p : Plan) (so : Sound p) (source : List ℕ) (calls : State → X → Answered State) (event : X → Event) (allowed : X → Type 0)
     → Guards (Inv p source) (act p source) calls event allowed → Follows p source (Inv p source) (whole event) calls
 follows p so source calls event allowed gd =

@@ -4,7 +4,7 @@ use mathlib.Core.Path.{_≡_, refl}
 use mathlib.Core.List.{List, [], _∷_, _++_}
 use lib.ListN.{take, getD}
 use Rattle.base.specs.Tests.{_and_, _or_, not, pick, one, every, some, keep, those, sum}
-use Rattle.base.specs.Lists.{member, part, put, setAll, storeAll, allAt, unpack, pack, countIf}
+use Rattle.base.specs.Lists.{member, sublist, put, setAll, storeAll, allAt, unpack, pack, countIf}
 use Rattle.base.specs.Numbers.{firstOf}
 use Rattle.machine.specs.Plan.{offset}
 use Rattle.machine.specs.Machine.{setProgress, tilesLeft, fitRecord, fit, unpackAll, afterSends, carryOut, actionAt, waiting, turn, deliver, fresh}
@@ -35,7 +35,7 @@ along : counted 0 ++ (counted 1 ++ (counted 2 ++ (counted 3 ++ (counted 4 ++ (co
     ∷ 1 ∷ 1 ∷ 1 ∷ 0 ∷ 2
     ∷ 1 ∷ 1 ∷ 1 ∷ 1 ∷ 3
     ∷ 1 ∷ 1 ∷ 1 ∷ 1 ∷ 3 ∷ []
-unfolding counted small source events programOver turnsOf calculates sends takes deliveriesOf sum member those keep offset part put unpack unpackAll
+unfolding counted small source events programOver turnsOf calculates sends takes deliveriesOf sum member those keep offset sublist put unpack unpackAll
     setAll storeAll pack allAt every some one countIf not pick _and_ _or_ firstOf setProgress tilesLeft fitRecord fit afterSends carryOut actionAt
     waiting turn deliver act stateAfter answersTo fresh
 along = refl
@@ -47,7 +47,7 @@ turned n =
     ∷ turnsOf 1 (take n events) (answersTo (act small source) (fresh small) (take n events)) ∷ []
 
 turns : turned 0 ++ (turned 1 ++ (turned 2 ++ (turned 4 ++ (turned 8 ++ (turned 9 ++ turned 18))))) ≡ 0 ∷ 0 ∷ 1 ∷ 0 ∷ 1 ∷ 0 ∷ 3 ∷ 0 ∷ 3 ∷ 0 ∷ 3 ∷ 1 ∷ 5 ∷ 3 ∷ []
-unfolding turned small source events programOver turnsOf calculates sends takes deliveriesOf sum member those keep offset part put unpack unpackAll
+unfolding turned small source events programOver turnsOf calculates sends takes deliveriesOf sum member those keep offset sublist put unpack unpackAll
     setAll storeAll pack allAt every some one countIf not pick _and_ _or_ firstOf setProgress tilesLeft fitRecord fit afterSends carryOut actionAt
     waiting turn deliver act stateAfter answersTo fresh
 turns = refl

@@ -7,7 +7,7 @@ use mathlib.Core.List.{List, [], _∷_, _++_}
 use native.Mathlib.Omega.{arith}
 use lib.ListN.{getD}
 use Rattle.base.specs.Tests.{_and_, _or_, not, pick, one, every, some, keep, those}
-use Rattle.base.specs.Lists.{In, member, part, put, setAll, storeAll, allAt, unpack, pack}
+use Rattle.base.specs.Lists.{In, member, sublist, put, setAll, storeAll, allAt, unpack, pack}
 use Rattle.base.specs.Numbers.{firstOf}
 use Rattle.machine.specs.Plan.{Sound, offset}
 use Rattle.machine.specs.Machine.{setProgress, tilesLeft, fitRecord, fit, unpackAll, afterSends, carryOut, actionAt, waiting, turn, deliver, fresh}
@@ -15,7 +15,7 @@ use Rattle.machine.specs.Machine.{gather, send, stateOf}
 use Rattle.machine.specs.Runs.{Event, turnOf, deliveryOf, act, stateAfter, answersTo, programOver, turnsOf}
 use Rattle.machine.specs.Words.{wordAt, Did}
 use Rattle.machine.specs.Fit.{Fit, FitRecord, Waits}
-use Rattle.machine.specs.Marks.{Among}
+use Rattle.machine.specs.StatusTells.{Among}
 use Rattle.machine.proofs.SoundTest.{allIn, isRising, knows, cellTest, ownTest, tileTest, heldTest, messageTest, soundTest, tested}
 use Rattle.machine.proofs.Posted.{posted}
 use Rattle.machine.proofs.Fit.{tests}
@@ -42,12 +42,12 @@ unfoldable then : List Event
 then = deliveryOf 0 ∷ []
 
 sent : Did (act small source) (fresh small) small before 0 (send 0)
-unfolding before small source programOver turnsOf those keep offset part put unpack unpackAll setAll storeAll pack allAt every some one not pick _and_
+unfolding before small source programOver turnsOf those keep offset sublist put unpack unpackAll setAll storeAll pack allAt every some one not pick _and_
     _or_ firstOf setProgress tilesLeft fitRecord fit afterSends carryOut actionAt waiting turn deliver act stateAfter answersTo fresh
 sent = record { gave = refl; named = refl }
 
 gathered : Did (act small source) (fresh small) small (before ++ (turnOf 0 ∷ then)) 1 (gather 1)
-unfolding before then small source programOver turnsOf those keep offset part put unpack unpackAll setAll storeAll pack allAt every some one not pick
+unfolding before then small source programOver turnsOf those keep offset sublist put unpack unpackAll setAll storeAll pack allAt every some one not pick
     _and_ _or_ firstOf setProgress tilesLeft fitRecord fit afterSends carryOut actionAt waiting turn deliver act stateAfter answersTo fresh
 gathered = record { gave = refl; named = refl }
 
@@ -58,7 +58,7 @@ unfolding small
 arrives = posted small sound source before 0 0 sent .arrives then 1 0 (omega arith) gathered
 
 word : wordAt small (stateAfter (act small source) (fresh small) before) 0 1 ≡ 3
-unfolding before small source those keep offset part put unpack unpackAll setAll storeAll pack allAt every some one not pick _and_ _or_ firstOf
+unfolding before small source those keep offset sublist put unpack unpackAll setAll storeAll pack allAt every some one not pick _and_ _or_ firstOf
     setProgress tilesLeft fitRecord fit afterSends carryOut actionAt waiting turn deliver act stateAfter answersTo fresh
 word = refl
 
@@ -79,4 +79,4 @@ waits = tests small (fresh small) .waits 1 .only refl
 -- ---- Marks.Among: the send of message 0 is among these steps, so it is marked
 among : Among small (before ++ (turnOf 0 ∷ [])) (0 ∷ 0 ∷ 0 ∷ []) (send 0)
 unfolding before small programOver turnsOf those keep one _and_
-among = record { processor = 0; low = omega arith; place = 2; within = omega arith; named = refl; done = omega arith }
+among = record { processor = 0; low = omega arith; index = 2; within = omega arith; named = refl; done = omega arith }

@@ -8,7 +8,7 @@ use native.Mathlib.Omega.{arith}
 use native.Mathlib.Decide.{ℕ-discrete}
 use lib.ListN.{length, getD, set, length-set}
 use lib.Seq.{getD-set-same, getD-set-other}
-use Rattle.base.specs.Lists.{In, Rising, part, put, unpack, pack, storeAll}
+use Rattle.base.specs.Lists.{In, Rising, sublist, put, unpack, pack, storeAll}
 use Rattle.base.specs.Tests.{every}
 use Rattle.base.proofs.Tests.{both, never-both, true-not, every-at}
 use Rattle.base.proofs.Numbers.{none-first}
@@ -153,7 +153,7 @@ module _ (p : Plan) (so : Sound p) (source : List ℕ) (s : State) (b : ℕ) whe
       memories-length : length (put (s .memories) (b * p .cells) new) ≡ length (s .memories)
       memories-length = length-put (s .memories) (b * p .cells) new memory-fits
 
-      new-is : part (put (s .memories) (b * p .cells) new) (b * p .cells) (p .cells) ≡ new
+      new-is : sublist (put (s .memories) (b * p .cells) new) (b * p .cells) (p .cells) ≡ new
       new-is = piece-same (s .memories) (p .cells) (p .processors) b new long new-length low
 
     module _ (t : ℕ) (own : p .processorOf t ≡ b) (mail : length (s .buffer) ≡ words p) where

@@ -1,4 +1,4 @@
--- Read this. Runs of any calls that answer like the machine but may refuse more: turns of one of two offices, turns with hours, or calls of two
+-- Read this. Runs of any calls that answer like the machine but may refuse more: turns of one of two tenants, turns with hours, or calls of two
 -- kinds in one list. What demands 2 and 3 and the marks say of such a run is stated here once; tenants, calendar and swaps say which calls are meant.
 -- Renders document 01, "The machine" and "Runs", for requests W-208 and W-212 and for lists that mix plain and timed turns.
 use Prim.Native.Nat.{ℕ, _<_}
@@ -12,11 +12,11 @@ use Rattle.machine.specs.Plan.{Plan, count, takerOf, heldBy}
 use Rattle.machine.specs.Machine.{State, Answered, Action, gather, send}
 use Rattle.machine.specs.Runs.{Event, turnOf, stateAfter, answersTo, total, program, turnsOf, stepsIn, Once, Collects, CarriedOut}
 use Rattle.machine.specs.Words.{wordAt, mailAt, cellOf, Does}
-use Rattle.machine.specs.Marks.{Marks}
+use Rattle.machine.specs.StatusTells.{StatusTells}
 
 -- ---- what the machine sees of a call. S: all that the calls are lent. X: the calls
 pub record View (S X : Type 0) : Type 0 where
-  pub own : S → State  -- the four areas that the run is about: of two offices, one's own
+  pub own : S → State  -- the four areas that the run is about: of two tenants, one's own
   pub ours : X → Bool  -- the call is for these
   pub event : X → Event  -- the call without what the machine does not read, as its hours
 
@@ -95,10 +95,10 @@ module _ {S X : Type 0} (v : View S X) (acts : S → X → Answered S) (start : 
     -- each turn that gives 0 writes and leaves what its action does
     pub does : (before : List X) (x : X) (b : ℕ) (a : Action) → DidIn p before x b a → Does p source (ownAfter before) (ownThen before x) b a
     pub posted : (before : List X) (x : X) (b m : ℕ) → DidIn p before x b (send m) → PostedIn p before x b m
-    pub marks : (calls : List X) → Marks p (ownAfter calls) (eventsIn v calls) (numbersOf calls)
+    pub marks : (calls : List X) → StatusTells p (ownAfter calls) (eventsIn v calls) (numbersOf calls)
 
--- two runs, of whatever calls, that agree on their events and the numbers they got leave the same words in these areas: an office's own, whatever the other
--- office did; and those of one office alone
+-- two runs, of whatever calls, that agree on their events and the numbers they got leave the same words in these areas: a tenant's own, whatever the other
+-- tenant did; and those of one tenant alone
 pub record Alone {S X S′ X′ : Type 0} (v : View S X) (acts : S → X → Answered S) (start : S) (v′ : View S′ X′) (acts′ : S′ → X′ → Answered S′) (start′ : S′)
     : Type 0 where
   pub same-words : (calls : List X) (calls′ : List X′) → eventsIn v calls ≡ eventsIn v′ calls′

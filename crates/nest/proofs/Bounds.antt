@@ -17,13 +17,13 @@ use Rattle.base.specs.Numbers.{firstOf}
 use Rattle.base.proofs.Tests.{both, every-at, every-all, pick-true, pick-false}
 use Rattle.base.proofs.Numbers.{none-first}
 use Rattle.nest.specs.declared.Nest.{Nest}
-use Rattle.nest.specs.Nest.{side, bounded, earlier, slope, offset, cells}
+use Rattle.nest.specs.Nest.{side, bounded, earlier, slope, boundOffset, cells}
 use Rattle.nest.specs.Places.{place, cellPlace}
 use Rattle.base.specs.Bytes.{half}
 use Rattle.nest.specs.Reader.{kind, ofKind, records, distancesOf, slopeAt, offsetAt, filled, nestBy, nestOf, ragged, fitsAt}
 use Rattle.nest.specs.Reader.{strayRecord, readLines}
 use Rattle.nest.specs.Shape.{level, raised, meets, inShape}
-use Rattle.nest.specs.Bounds.{signedByte, signedHalf, componentOf, earlierOf, lineOf, Meets, BoundsMean, BoundRows}
+use Rattle.nest.specs.Bounds.{signedByte, signedHalf, componentOf, earlierOf, lineOf, Meets, BoundsMean, BoundExamples}
 use Rattle.nest.proofs.Laws.{filled-in, Formed, stands-bound}
 use Rattle.nest.proofs.Facts.{bound-in, stray-no}
 use Rattle.nest.proofs.Integers.{lineAt, meets-integers, slope-signed, offset-signed}
@@ -56,7 +56,7 @@ module _ (bytes : List ℕ) (n m e : ℕ) (b : Bytes bytes) (f : Formed bytes n 
   unfolding nestBy
   slope-is = filled-in 4 (λ i. slopeAt bytes (n + i)) m k l (f .bounds-most)
 
-  offset-is : offset x k ≡ offsetAt bytes (n + k)
+  offset-is : boundOffset x k ≡ offsetAt bytes (n + k)
   unfolding nestBy
   offset-is = filled-in 4 (λ i. offsetAt bytes (n + i)) m k l (f .bounds-most)
 
@@ -66,7 +66,7 @@ module _ (bytes : List ℕ) (n m e : ℕ) (b : Bytes bytes) (f : Formed bytes n 
   line-is : (i : ℕ → ℕ) → lineAt x k i ≡ lineOf bytes (n + k) i
   unfolding lineOf signedByte signedHalf
   line-is i =
-      ap (λ (s : ℕ). subℕ s 1 *ℤ pos (i (earlier x k)) +ℤ subℕ (offset x k) 32768) slope-is
+      ap (λ (s : ℕ). subℕ s 1 *ℤ pos (i (earlier x k)) +ℤ subℕ (boundOffset x k) 32768) slope-is
       ∙ (ap (λ (o : ℕ). subℕ (slopeAt bytes (n + k)) 1 *ℤ pos (i (earlier x k)) +ℤ subℕ o 32768) offset-is
       ∙ (ap (λ (j : ℕ). subℕ (slopeAt bytes (n + k)) 1 *ℤ pos (i j) +ℤ subℕ (offsetAt bytes (n + k)) 32768) earlier-is
       ∙ (ap (λ (z : ℤ). z *ℤ earlierOf bytes (n + k) i +ℤ subℕ (offsetAt bytes (n + k)) 32768)
@@ -131,7 +131,7 @@ bounds-mean bytes b h =
 
 -- ---- small shapes
 
-pub bound-rows : BoundRows
+pub bound-rows : BoundExamples
 unfolding _and_ _or_ not pick every keep those tabulate product place cellPlace cells ofKind filled nestBy nestOf level raised meets inShape signedByte
     signedHalf
 bound-rows =

@@ -16,7 +16,7 @@ use Rattle.base.specs.Tests.{_and_, pick, every}
 use Rattle.base.proofs.Tests.{both, and-true, and-no, same-test, is-false, pick-true, pick-false}
 use Rattle.nest.specs.declared.Nest.{Nest}
 use Rattle.nest.specs.declared.Interval.{Interval}
-use Rattle.nest.specs.Nest.{lengthOf, side, bounded, earlier, slope, offset}
+use Rattle.nest.specs.Nest.{lengthOf, side, bounded, earlier, slope, boundOffset}
 use Rattle.nest.specs.Places.{place, cellPlace}
 use Rattle.nest.specs.Shape.{level, raised, meets}
 use Rattle.nest.specs.Spans.{Framed, last, rowPlace, meetsFirst, within, spot, Narrow, Cuts, Spans, Row, Marked, HasLengths, PlaceWritten}
@@ -105,7 +105,7 @@ module _ (x : Nest) (fr : Framed x) (at : List ℕ) (k : ℕ) (low : k < x .boun
   base-room n = n (earlier x k) (omega (arith, before-last))
 
   abbrev lineOf : ℕ
-  lineOf = slope x k * spot at (earlier x k) + offset x k
+  lineOf = slope x k * spot at (earlier x k) + boundOffset x k
 
   abbrev baseOf : ℕ
   baseOf = spot at (earlier x k) + 32768

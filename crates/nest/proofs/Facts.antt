@@ -17,19 +17,19 @@ use Rattle.base.proofs.Select.{keep-same, keep-few}
 use Rattle.base.proofs.Numbers.{none-first}
 use Rattle.nest.specs.declared.Nest.{Nest}
 use Rattle.nest.specs.Accepted.{Accepted}
-use Rattle.nest.specs.Nest.{lengthOf, tileLength, processorCount, component, weight, side, bounded, earlier, slope, offset, cells, processors}
+use Rattle.nest.specs.Nest.{lengthOf, tileLength, processorCount, component, weight, side, bounded, earlier, slope, boundOffset, cells, processors}
 use Rattle.nest.specs.Shape.{inShape, tiles}
-use Rattle.nest.specs.Spans.{Framed, Shaped}
+use Rattle.nest.specs.Spans.{Framed, InRange}
 use Rattle.base.specs.Lists.{Bytes}
 use Rattle.base.specs.Bytes.{half}
 use Rattle.nest.specs.Reader.{kind, records, ofKind, distancesOf, slopeAt, filled, nestBy, nestOf, ragged, boundFits, checked, mayStand, fitsAt}
-use Rattle.nest.specs.Reader.{strayRecord, outside, badLength, tooLarge, noCell, beyond, faulty, badDistance, reached, badTile, isSpread, badSpread}
+use Rattle.nest.specs.Reader.{strayRecord, noLength, badLength, tooLarge, noCell, beyond, faulty, badDistance, reached, badTile, isSpread, badSpread}
 use Rattle.nest.specs.Reader.{lastSpread, badProcessors, tooManyTiles, nestLines, readLines}
 use Rattle.nest.proofs.Laws.{Formed, formed, front-kept, filled-length, filled-at, filled-in, filled-out, filled-below, half-small, word-small}
 use Rattle.nest.proofs.Laws.{weight-small, stands-bound, stands-last, checked-close, checked-bound}
 
-pub inside-range : (v : ℕ) → outside v ≡ false → (1 ≤ v) × (v ≤ 1024)
-unfolding outside
+pub inside-range : (v : ℕ) → noLength v ≡ false → (1 ≤ v) × (v ≤ 1024)
+unfolding noLength
 inside-range v h = let p = neither h in let z = eqb-false v 0 (p .0) in (omega arith, ltb-false 1024 v (p .1))
 
 -- a test that fails below n fails somewhere
@@ -153,7 +153,7 @@ module _ (x : Nest) where
   a-cell t e h = not-true (sym e ∙ h)
 
   -- what line 3 adds to line 2, for rows
-  pub framed-by : Shaped x → badLength x ≡ false → Framed x
+  pub framed-by : InRange x → badLength x ≡ false → Framed x
   framed-by s h =
       record {
         dimensions-least = s .dimensions-least;
@@ -231,7 +231,7 @@ module _ (bytes : List ℕ) (n m e : ℕ) where
   unfolding nestBy
   slope-small f k = below 3 (λ i. slopeAt bytes (n + i)) k (omega arith) (λ i l. bound-in f i l .slope)
 
-  pub offset-small : (k : ℕ) → offset (nestBy bytes n m e) k < 65536
+  pub offset-small : (k : ℕ) → boundOffset (nestBy bytes n m e) k < 65536
   unfolding nestBy
   offset-small k = filled-below 4 _ m 65536 (omega arith) (λ i. mod-lt (half bytes (16 * (n + i) + 6) + 32768) (omega arith)) k
 

@@ -12,7 +12,7 @@ use borrow.Author.Tests.{lt-ltb, le-ltb, leb-true, le-leb}
 use Rattle.base.specs.Tests.{pick}
 use Rattle.base.proofs.Tests.{same-test, pick-true, pick-false}
 use Rattle.nest.specs.declared.Nest.{Nest}
-use Rattle.nest.specs.Nest.{side, bounded, earlier, slope, offset}
+use Rattle.nest.specs.Nest.{side, bounded, earlier, slope, boundOffset}
 use Rattle.nest.specs.Shape.{level, raised, meets}
 
 -- ---- differences of natural numbers as integers
@@ -89,7 +89,7 @@ times (suc (suc (suc s))) e o d h = absurd (omega arith)
 
 -- slope × the earlier component + offset
 abbrev pub lineAt : Nest → ℕ → (ℕ → ℕ) → ℤ
-lineAt x k i = subℕ (slope x k) 1 *ℤ pos (i (earlier x k)) +ℤ subℕ (offset x k) 32768
+lineAt x k i = subℕ (slope x k) 1 *ℤ pos (i (earlier x k)) +ℤ subℕ (boundOffset x k) 32768
 
 -- the component is at least, or at most, that
 pub meets-integers : (x : Nest) (i : ℕ → ℕ) (k : ℕ) → slope x k ≤ 2
@@ -97,12 +97,12 @@ pub meets-integers : (x : Nest) (i : ℕ → ℕ) (k : ℕ) → slope x k ≤ 2
 unfolding meets level raised
 meets-integers x i k h =
     let e : ℕ = i (earlier x k) in
-    let g : ℕ = slope x k * i (earlier x k) + offset x k in
+    let g : ℕ = slope x k * i (earlier x k) + boundOffset x k in
     let w : i (bounded x k) + (i (earlier x k) + 32768) ≡ i (bounded x k) + i (earlier x k) + 32768 = omega arith in
     sym (rw (
-      times (slope x k) (i (earlier x k)) (offset x k) 32768 h,
-      below (i (bounded x k)) (slope x k * i (earlier x k) + offset x k) (i (earlier x k) + 32768),
-      above (i (bounded x k)) (slope x k * i (earlier x k) + offset x k) (i (earlier x k) + 32768),
+      times (slope x k) (i (earlier x k)) (boundOffset x k) 32768 h,
+      below (i (bounded x k)) (slope x k * i (earlier x k) + boundOffset x k) (i (earlier x k) + 32768),
+      above (i (bounded x k)) (slope x k * i (earlier x k) + boundOffset x k) (i (earlier x k) + 32768),
       w,
     ) refl)
 

@@ -8,7 +8,7 @@ use Rattle.base.specs.Numbers.{firstOf}
 use Rattle.nest.specs.Nest.{tileCount, cells, boxTiles, processors}
 use Rattle.nest.specs.Places.{rank, place, cellPlace, tileAt, boxTileOf}
 use Rattle.nest.specs.Shape.{level, raised, meets, inShape, exists, existing, tiles}
-use Rattle.nest.specs.Reader.{ofKind, filled, nestBy, nestOf, ragged, blank, boundFits, checked, mayStand, fitsAt, wellFormed, strayRecord, outside}
+use Rattle.nest.specs.Reader.{ofKind, filled, nestBy, nestOf, ragged, blank, boundFits, checked, mayStand, fitsAt, wellFormed, strayRecord, noLength}
 use Rattle.nest.specs.Reader.{badLength, tooLarge, needlesslyWide, noCell, same, beyond, faulty, badDistance, reached, badTile, badSpread}
 use Rattle.nest.specs.Reader.{lastSpread, badProcessors, tooManyTiles, readLines}
 use Rattle.nest.specs.Recipes.{dimension, distance, close, rowA, rowB, rowC, rowD, rowE, rowF, rowG, rowH, rowLater}
@@ -17,14 +17,14 @@ use Rattle.nest.proofs.Quick.{told, quick, quick-all}
 pub numbers : told (rowA ∷ rowB ∷ rowC ∷ rowD ∷ rowE ∷ rowF ∷ rowG ∷ rowH ∷ rowLater ∷ [])
     ≡ 0 ∷ 0 ∷ 0 ∷ 0 ∷ 0 ∷ 0 ∷ 0 ∷ 0 ∷ 0 ∷ []
 unfolding firstOf _and_ _or_ not pick every some keep those tabulate product rank place cellPlace tileAt boxTileOf tileCount cells boxTiles processors level
-    raised meets inShape exists existing tiles ofKind filled nestBy nestOf ragged blank boundFits checked mayStand fitsAt wellFormed strayRecord outside
+    raised meets inShape exists existing tiles ofKind filled nestBy nestOf ragged blank boundFits checked mayStand fitsAt wellFormed strayRecord noLength
     badLength tooLarge needlesslyWide noCell same beyond faulty badDistance reached badTile badSpread lastSpread badProcessors tooManyTiles
 numbers = quick-all _ ∙ refl
 
 -- two faults, a distance of zeros and a tile length 0: the first line counts
 pub first-counts : firstOf (readLines (dimension 4 0 2 ++ dimension 1 1 0 ++ distance 0 0 0 ++ close)) ≡ 5
 unfolding firstOf _and_ _or_ not pick every some keep those tabulate product rank place cellPlace tileAt boxTileOf tileCount cells boxTiles processors level
-    raised meets inShape exists existing tiles ofKind filled nestBy nestOf ragged blank boundFits checked mayStand fitsAt wellFormed strayRecord outside
+    raised meets inShape exists existing tiles ofKind filled nestBy nestOf ragged blank boundFits checked mayStand fitsAt wellFormed strayRecord noLength
     badLength tooLarge needlesslyWide noCell same beyond faulty badDistance reached badTile badSpread lastSpread badProcessors tooManyTiles
 first-counts = quick _ ∙ refl
 
@@ -35,7 +35,7 @@ pub reach-counts : told
     ∷ (dimension 8 2 2 ++ dimension 8 1 0 ++ distance 2 2 0 ++ close) ∷ [])
     ≡ 0 ∷ 6 ∷ 6 ∷ []
 unfolding firstOf _and_ _or_ not pick every some keep those tabulate product rank place cellPlace tileAt boxTileOf tileCount cells boxTiles processors level
-    raised meets inShape exists existing tiles ofKind filled nestBy nestOf ragged blank boundFits checked mayStand fitsAt wellFormed strayRecord outside
+    raised meets inShape exists existing tiles ofKind filled nestBy nestOf ragged blank boundFits checked mayStand fitsAt wellFormed strayRecord noLength
     badLength tooLarge needlesslyWide noCell same beyond faulty badDistance reached badTile badSpread lastSpread badProcessors tooManyTiles
 reach-counts = quick-all _ ∙ refl
 
@@ -51,7 +51,7 @@ pub counts-told : told
     ∷ fours 2 0 2 0 ∷ fours 2 0 0 2 ∷ fours 2 2 0 2 ∷ fours 2 2 2 2 ∷ fours 8 4 4 0 ∷ fours 4 4 4 0 ∷ [])
     ≡ 16 ∷ 17 ∷ 7 ∷ 0 ∷ 16 ∷ 16 ∷ 16 ∷ 17 ∷ 7 ∷ 0 ∷ []
 unfolding firstOf _and_ _or_ not pick every some keep those tabulate product rank place cellPlace tileAt boxTileOf tileCount cells boxTiles processors level
-    raised meets inShape exists existing tiles ofKind filled nestBy nestOf ragged blank boundFits checked mayStand fitsAt wellFormed strayRecord outside
+    raised meets inShape exists existing tiles ofKind filled nestBy nestOf ragged blank boundFits checked mayStand fitsAt wellFormed strayRecord noLength
     badLength tooLarge needlesslyWide noCell same beyond faulty badDistance reached badTile badSpread lastSpread badProcessors tooManyTiles
 counts-told = quick-all _ ∙ refl
 
@@ -60,7 +60,7 @@ pub ones-told : told
     (twos 4 2 1 0 ∷ fours 1 6 0 0 ∷ fours 1 2 2 0 ∷ fours 2 1 2 0 ∷ fours 2 2 1 0 ∷ fours 1 1 1 0 ∷ fours 1 64 1 0 ∷ [])
     ≡ 0 ∷ 0 ∷ 0 ∷ 0 ∷ 0 ∷ 0 ∷ 0 ∷ []
 unfolding firstOf _and_ _or_ not pick every some keep those tabulate product rank place cellPlace tileAt boxTileOf tileCount cells boxTiles processors level
-    raised meets inShape exists existing tiles ofKind filled nestBy nestOf ragged blank boundFits checked mayStand fitsAt wellFormed strayRecord outside
+    raised meets inShape exists existing tiles ofKind filled nestBy nestOf ragged blank boundFits checked mayStand fitsAt wellFormed strayRecord noLength
     badLength tooLarge needlesslyWide noCell same beyond faulty badDistance reached badTile badSpread lastSpread badProcessors tooManyTiles
 ones-told = quick-all _ ∙ refl
 
@@ -68,7 +68,7 @@ pub ones-refused : told
     (twos 4 2 0 1 ∷ twos 4 2 1 1 ∷ fours 1 0 1 0 ∷ fours 1 1 1 1 ∷ fours 1 65 0 0 ∷ fours 65 1 1 0 ∷ fours 1 8 9 0 ∷ [])
     ≡ 16 ∷ 17 ∷ 16 ∷ 17 ∷ 7 ∷ 7 ∷ 7 ∷ []
 unfolding firstOf _and_ _or_ not pick every some keep those tabulate product rank place cellPlace tileAt boxTileOf tileCount cells boxTiles processors level
-    raised meets inShape exists existing tiles ofKind filled nestBy nestOf ragged blank boundFits checked mayStand fitsAt wellFormed strayRecord outside
+    raised meets inShape exists existing tiles ofKind filled nestBy nestOf ragged blank boundFits checked mayStand fitsAt wellFormed strayRecord noLength
     badLength tooLarge needlesslyWide noCell same beyond faulty badDistance reached badTile badSpread lastSpread badProcessors tooManyTiles
 ones-refused = quick-all _ ∙ refl
 
@@ -77,7 +77,7 @@ pub counts-between : told
     (twos 4 0 0 1 ∷ twos 4 0 1 1 ∷ twos 4 0 65 0 ∷ twos 64 2 0 1 ∷ twos 64 2 1 1 ∷ twos 64 2 65 0 ∷ twos 64 2 1 0 ∷ [])
     ≡ 6 ∷ 6 ∷ 6 ∷ 16 ∷ 17 ∷ 7 ∷ 8 ∷ []
 unfolding firstOf _and_ _or_ not pick every some keep those tabulate product rank place cellPlace tileAt boxTileOf tileCount cells boxTiles processors level
-    raised meets inShape exists existing tiles ofKind filled nestBy nestOf ragged blank boundFits checked mayStand fitsAt wellFormed strayRecord outside
+    raised meets inShape exists existing tiles ofKind filled nestBy nestOf ragged blank boundFits checked mayStand fitsAt wellFormed strayRecord noLength
     badLength tooLarge needlesslyWide noCell same beyond faulty badDistance reached badTile badSpread lastSpread badProcessors tooManyTiles
 counts-between = quick-all _ ∙ refl
 
@@ -111,7 +111,7 @@ pub far-told : told
     ∷ (dimension 4 2 2 ++ dimension 1 1 0 ++ far 257 0 0 ++ close) ∷ [])
     ≡ 0 ∷ 0 ∷ 0 ∷ 0 ∷ 6 ∷ 0 ∷ 6 ∷ 6 ∷ 0 ∷ 2 ∷ 6 ∷ []
 unfolding firstOf _and_ _or_ not pick every some keep those tabulate product rank place cellPlace tileAt boxTileOf tileCount cells boxTiles processors level
-    raised meets inShape exists existing tiles ofKind filled nestBy nestOf ragged blank boundFits checked mayStand fitsAt wellFormed strayRecord outside
+    raised meets inShape exists existing tiles ofKind filled nestBy nestOf ragged blank boundFits checked mayStand fitsAt wellFormed strayRecord noLength
     badLength tooLarge needlesslyWide noCell same beyond faulty badDistance reached badTile badSpread lastSpread badProcessors tooManyTiles
 far-told = quick-all _ ∙ refl
 
@@ -122,7 +122,7 @@ pub far-stray : told
     ∷ (far 300 0 0 ++ channel (distance 1 0 0)) ∷ (channel (distance 1 0 0) ++ far 300 0 0) ∷ [])
     ≡ 0 ∷ 2 ∷ 2 ∷ 2 ∷ 2 ∷ 2 ∷ []
 unfolding firstOf _and_ _or_ not pick every some keep those tabulate product rank place cellPlace tileAt boxTileOf tileCount cells boxTiles processors level
-    raised meets inShape exists existing tiles ofKind filled nestBy nestOf ragged blank boundFits checked mayStand fitsAt wellFormed strayRecord outside
+    raised meets inShape exists existing tiles ofKind filled nestBy nestOf ragged blank boundFits checked mayStand fitsAt wellFormed strayRecord noLength
     badLength tooLarge needlesslyWide noCell same beyond faulty badDistance reached badTile badSpread lastSpread badProcessors tooManyTiles
 far-stray = quick-all _ ∙ refl
 
@@ -133,7 +133,7 @@ pub far-between : told
     ∷ (long 600 400 ++ dimension 100 2 0 ++ far 1 0 0 ++ close) ∷ channel (far 300 0 0 ++ far 300 0 0) ∷ channel (far 0 0 300) ∷ [])
     ≡ 18 ∷ 18 ∷ 18 ∷ 18 ∷ 4 ∷ 5 ∷ 5 ∷ []
 unfolding firstOf _and_ _or_ not pick every some keep those tabulate product rank place cellPlace tileAt boxTileOf tileCount cells boxTiles processors level
-    raised meets inShape exists existing tiles ofKind filled nestBy nestOf ragged blank boundFits checked mayStand fitsAt wellFormed strayRecord outside
+    raised meets inShape exists existing tiles ofKind filled nestBy nestOf ragged blank boundFits checked mayStand fitsAt wellFormed strayRecord noLength
     badLength tooLarge needlesslyWide noCell same beyond faulty badDistance reached badTile badSpread lastSpread badProcessors tooManyTiles
 far-between = quick-all _ ∙ refl
 

@@ -8,7 +8,7 @@ use Rattle.base.specs.Numbers.{firstOf}
 use Rattle.nest.specs.Nest.{tileCount, cells, boxTiles, processors}
 use Rattle.nest.specs.Places.{rank, place, cellPlace, tileAt, boxTileOf}
 use Rattle.nest.specs.Shape.{level, raised, meets, inShape, exists, existing, tiles}
-use Rattle.nest.specs.Reader.{ofKind, filled, nestBy, nestOf, ragged, blank, boundFits, checked, mayStand, fitsAt, wellFormed, strayRecord, outside}
+use Rattle.nest.specs.Reader.{ofKind, filled, nestBy, nestOf, ragged, blank, boundFits, checked, mayStand, fitsAt, wellFormed, strayRecord, noLength}
 use Rattle.nest.specs.Reader.{badLength, tooLarge, needlesslyWide, noCell, same, beyond, faulty, badDistance, reached, badTile, badSpread}
 use Rattle.nest.specs.Reader.{lastSpread, badProcessors, tooManyTiles, readLines}
 use Rattle.nest.specs.Recipes.{dimension, bound, distance, close}
@@ -73,7 +73,7 @@ pub bounds-told : told
     ∷ (least ++ square []) ∷ square (distance 0 1 0 ++ least) ∷ (square [] ++ least) ∷ [])
     ≡ 0 ∷ 0 ∷ 0 ∷ 2 ∷ 2 ∷ 2 ∷ 2 ∷ 2 ∷ 2 ∷ 2 ∷ 2 ∷ 2 ∷ 2 ∷ 2 ∷ 2 ∷ 2 ∷ []
 unfolding firstOf _and_ _or_ not pick every some keep those tabulate product rank place cellPlace tileAt boxTileOf tileCount cells boxTiles processors level
-    raised meets inShape exists existing tiles ofKind filled nestBy nestOf ragged blank boundFits checked mayStand fitsAt wellFormed strayRecord outside
+    raised meets inShape exists existing tiles ofKind filled nestBy nestOf ragged blank boundFits checked mayStand fitsAt wellFormed strayRecord noLength
     badLength tooLarge needlesslyWide noCell same beyond faulty badDistance reached badTile badSpread lastSpread badProcessors tooManyTiles
 bounds-told = quick-all _ ∙ refl
 
@@ -83,6 +83,6 @@ pub shape-between : told
     ∷ (dimension 200 2 2 ++ dimension 200 2 0 ++ nothing ++ distance 1 0 0 ++ close) ∷ square (least ++ distance 0 0 0) ∷ [])
     ≡ 20 ∷ 20 ∷ 20 ∷ 18 ∷ 4 ∷ 5 ∷ []
 unfolding firstOf _and_ _or_ not pick every some keep those tabulate product rank place cellPlace tileAt boxTileOf tileCount cells boxTiles processors level
-    raised meets inShape exists existing tiles ofKind filled nestBy nestOf ragged blank boundFits checked mayStand fitsAt wellFormed strayRecord outside
+    raised meets inShape exists existing tiles ofKind filled nestBy nestOf ragged blank boundFits checked mayStand fitsAt wellFormed strayRecord noLength
     badLength tooLarge needlesslyWide noCell same beyond faulty badDistance reached badTile badSpread lastSpread badProcessors tooManyTiles
 shape-between = quick-all _ ∙ refl

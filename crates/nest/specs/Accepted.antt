@@ -6,7 +6,7 @@ use mathlib.Core.Path.{_≡_}
 use mathlib.Core.Bool.{true}
 use Rattle.base.specs.Tests.{some}
 use Rattle.nest.specs.declared.Nest.{Nest}
-use Rattle.nest.specs.Nest.{lengthOf, tileLength, processorCount, component, weight, side, bounded, earlier, slope, offset, cells, processors}
+use Rattle.nest.specs.Nest.{lengthOf, tileLength, processorCount, component, weight, side, bounded, earlier, slope, boundOffset, cells, processors}
 use Rattle.nest.specs.Shape.{inShape, tiles}
 
 pub record Accepted (x : Nest) : Type 0 where
@@ -30,7 +30,7 @@ pub record Accepted (x : Nest) : Type 0 where
   pub bounded-low : (k : ℕ) → k < x .bounds → bounded x k < x .dimensions
   pub earlier-low : (k : ℕ) → k < x .bounds → earlier x k < bounded x k
   pub slope-most : (k : ℕ) → slope x k ≤ 2
-  pub offset-most : (k : ℕ) → offset x k < 65536
+  pub offset-most : (k : ℕ) → boundOffset x k < 65536
   pub shift-most : x .shift < 32
   pub boundary-most : x .boundary < 4294967296
   pub cells-most : cells x ≤ 16384

@@ -56,7 +56,7 @@ three b = dimension 3 1 2 ++ dimension 3 1 0 ++ b ++ distance 1 0 0 ++ close
 abbrev pub left : List ℕ → List ℕ
 left b = keep (inShape (nestOf (three b))) (cells (nestOf (three b)))
 
-pub record BoundRows : Type 0 where
+pub record BoundExamples : Type 0 where
   pub byte : signedByte 0 ∷ signedByte 1 ∷ signedByte 127 ∷ signedByte 128 ∷ signedByte 255 ∷ []
       ≡ pos 0 ∷ pos 1 ∷ pos 127 ∷ negsuc 127 ∷ negsuc 0 ∷ []
   pub half-is : signedHalf 0 ∷ signedHalf 32767 ∷ signedHalf 32768 ∷ signedHalf 65535 ∷ []

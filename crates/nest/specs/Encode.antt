@@ -8,7 +8,7 @@ use lib.ListN.{replicate}
 use lib.Dec.{ltb}
 use Rattle.base.specs.Tests.{pick, every}
 use Rattle.nest.specs.declared.Nest.{Nest}
-use Rattle.nest.specs.Nest.{lengthOf, tileLength, processorCount, component, weight, side, bounded, earlier, slope, offset}
+use Rattle.nest.specs.Nest.{lengthOf, tileLength, processorCount, component, weight, side, bounded, earlier, slope, boundOffset}
 
 -- numbers of one, two and four bytes, little-endian; of a wider number only these are written
 abbrev pub low : ℕ → ℕ
@@ -36,8 +36,8 @@ wideRecord d1 d2 d3 d4 weight = 4 ∷ 0 ∷ halfBytes d1 ++ halfBytes d2 ++ half
 
 -- a bound; slope and offset are given as slope + 1 and offset + 32,768
 unfoldable pub boundRecord : ℕ → ℕ → ℕ → ℕ → ℕ → List ℕ
-boundRecord side dimension earlier slope offset =
-    5 ∷ low side ∷ low dimension ∷ low earlier ∷ low (slope + 255) ∷ 0 ∷ halfBytes (offset + 32768) ++ replicate 8 0
+boundRecord side dimension earlier slope boundOffset =
+    5 ∷ low side ∷ low dimension ∷ low earlier ∷ low (slope + 255) ∷ 0 ∷ halfBytes (boundOffset + 32768) ++ replicate 8 0
 
 unfoldable pub closeRecord : ℕ → ℕ → List ℕ
 closeRecord shift boundary = 3 ∷ low shift ∷ 0 ∷ 0 ∷ wordBytes boundary ++ replicate 8 0
@@ -48,7 +48,7 @@ dimensionOf x j = dimensionRecord (lengthOf x j) (tileLength x j) (processorCoun
 
 -- of bound k
 unfoldable pub boundOf : Nest → ℕ → List ℕ
-boundOf x k = boundRecord (side x k) (bounded x k) (earlier x k) (slope x k) (offset x k)
+boundOf x k = boundRecord (side x k) (bounded x k) (earlier x k) (slope x k) (boundOffset x k)
 
 -- each component of distance e fits a byte
 unfoldable pub narrow : Nest → ℕ → Bool

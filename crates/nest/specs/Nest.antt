@@ -37,8 +37,8 @@ earlier x k = getD (x .earlier) k 0
 abbrev pub slope : Nest → ℕ → ℕ
 slope x k = getD (x .slopes) k 0
 
-abbrev pub offset : Nest → ℕ → ℕ
-offset x k = getD (x .offsets) k 0
+abbrev pub boundOffset : Nest → ℕ → ℕ
+boundOffset x k = getD (x .offsets) k 0
 
 -- tiles of the box along dimension j: up to the one that holds the last cell
 unfoldable pub tileCount : Nest → ℕ → ℕ

@@ -108,11 +108,11 @@ unfoldable pub strayRecord : List ℕ → Bool
 strayRecord bytes = not (wellFormed bytes (ofKind bytes 1) (ofKind bytes 5) (distancesOf bytes))
 
 -- lines 3 to 8, of the nest that the bytes give, with 20 before 5, 16 and 17 before 7
-unfoldable pub outside : ℕ → Bool
-outside v = eqb v 0 or ltb 1024 v
+unfoldable pub noLength : ℕ → Bool
+noLength v = eqb v 0 or ltb 1024 v
 
 unfoldable pub badLength : Nest → Bool
-badLength x = some (λ j. outside (lengthOf x j)) (x .dimensions)
+badLength x = some (λ j. noLength (lengthOf x j)) (x .dimensions)
 
 unfoldable pub tooLarge : Nest → Bool
 tooLarge x = ltb 16384 (cells x)
@@ -144,7 +144,7 @@ unfoldable pub reached : Nest → ℕ → Bool
 reached x j = some (λ e. ltb (tileLength x j) (component x e j)) (x .distances)
 
 unfoldable pub badTile : Nest → Bool
-badTile x = some (λ j. outside (tileLength x j) or reached x j) (x .dimensions)
+badTile x = some (λ j. noLength (tileLength x j) or reached x j) (x .dimensions)
 
 -- a dimension is spread where its count is not 0
 abbrev pub isSpread : Nest → ℕ → Bool

@@ -8,13 +8,13 @@ use lib.ListN.{length}
 use lib.Dec.{eqb, leb}
 use Rattle.base.specs.Tests.{_and_, pick, every, some, keep}
 use Rattle.nest.specs.declared.Nest.{Nest}
-use Rattle.nest.specs.Nest.{side, bounded, earlier, slope, offset, cells, boxTiles}
+use Rattle.nest.specs.Nest.{side, bounded, earlier, slope, boundOffset, cells, boxTiles}
 use Rattle.nest.specs.Places.{cellPlace, boxTileOf}
 
 -- bound k at place i: slope × the earlier component + offset, and the component bounded, each plus the earlier component and 32,768,
 -- so that no number is negative
 unfoldable pub level : Nest → ℕ → (ℕ → ℕ) → ℕ
-level x k i = slope x k * i (earlier x k) + offset x k
+level x k i = slope x k * i (earlier x k) + boundOffset x k
 
 unfoldable pub raised : Nest → ℕ → (ℕ → ℕ) → ℕ
 raised x k i = i (bounded x k) + i (earlier x k) + 32768

@@ -11,7 +11,7 @@ use lib.Dec.{eqb, ltb, leb}
 use Rattle.base.specs.Tests.{_and_, _or_, pick, every, some}
 use Rattle.nest.specs.declared.Nest.{Nest}
 use Rattle.nest.specs.declared.Interval.{Interval}
-use Rattle.nest.specs.Nest.{lengthOf, tileLength, processorCount, bounded, earlier, slope, offset}
+use Rattle.nest.specs.Nest.{lengthOf, tileLength, processorCount, bounded, earlier, slope, boundOffset}
 use Rattle.nest.specs.Places.{place, cellPlace, boxTileOf}
 use Rattle.nest.specs.Shape.{meets, inShape}
 
@@ -27,14 +27,14 @@ pub record Framed (x : Nest) : Type 0 where
   pub bounded-low : (k : ℕ) → k < x .bounds → bounded x k < x .dimensions
   pub earlier-low : (k : ℕ) → k < x .bounds → earlier x k < bounded x k
   pub slope-most : (k : ℕ) → slope x k ≤ 2
-  pub offset-most : (k : ℕ) → offset x k < 65536
+  pub offset-most : (k : ℕ) → boundOffset x k < 65536
 
 -- what line 6 leaves of the tile lengths
 abbrev pub Tiled : Nest → Type 0
 Tiled x = (j : ℕ) → j < x .dimensions → 1 ≤ tileLength x j
 
 -- what line 2 leaves of all numbers that lines 3 to 8 are tested on
-pub record Shaped (x : Nest) : Type 0 where
+pub record InRange (x : Nest) : Type 0 where
   pub dimensions-least : 1 ≤ x .dimensions
   pub dimensions-most : x .dimensions ≤ 4
   pub spread-most : x .spread ≤ 4
@@ -46,7 +46,7 @@ pub record Shaped (x : Nest) : Type 0 where
   pub bounded-low : (k : ℕ) → k < x .bounds → bounded x k < x .dimensions
   pub earlier-low : (k : ℕ) → k < x .bounds → earlier x k < bounded x k
   pub slope-most : (k : ℕ) → slope x k ≤ 2
-  pub offset-most : (k : ℕ) → offset x k < 65536
+  pub offset-most : (k : ℕ) → boundOffset x k < 65536
 
 abbrev pub last : Nest → ℕ
 last x = x .dimensions - 1

@@ -13,6 +13,21 @@ use crate::division::tiles_along;
 
 pub mod division; // division.rt: a component divided by a tile length, in 16-bit numbers (W-206), the one such division
 
+// Limits of the reader: so many cells (number 4), ..
+pub const MOST_CELLS: usize = 16384;
+
+// .. tiles (number 8), ..
+pub const MOST_TILES: usize = 1024;
+
+// .. processors (number 7), ..
+pub const MOST_PROCESSORS: usize = 64;
+
+// .. cells along a dimension, of the grid or of a tile (numbers 3 and 6).
+pub const MOST_LENGTH: usize = 1024;
+
+// Seven for each tile: three spread dimensions have seven directions.
+pub const MOST_MESSAGES: usize = 7168;
+
 // A loop nest with constant distances, cut into tiles: the cells of a box that its bounds leave.
 pub struct Nest {
     pub dimensions: usize,

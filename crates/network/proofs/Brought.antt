@@ -23,7 +23,7 @@ use Rattle.machine.proofs.Turns.{delivered, can-deliver}
 use Rattle.machine.proofs.Kept.{statusOf}
 use Rattle.machine.proofs.Events.{flying}
 use Rattle.machine.proofs.RunLaws.{Passed, number-of, after-of}
-use Rattle.network.specs.Apart.{Areas, senderAt, takerAt, replaced, marked, received, sentOff, arrived}
+use Rattle.network.specs.Apart.{AreasApart, senderAt, takerAt, replaced, marked, received, sentOff, arrived}
 use Rattle.network.specs.Packets.{Packet, packetAt, Network, networkOf, statusAt, NetworkEvent, turnBy, postOf, arrivalOf, posted, post, arrive}
 use Rattle.network.specs.Packets.{turnNetwork, actNetwork, machineEvents}
 use Rattle.network.specs.Apart.{turnApart}
@@ -63,7 +63,7 @@ module _ (boards : ℕ) (n : Network) (b : ℕ) (a : Answered State) (ps : List 
           after-of e
           ∙ ap (λ (x : State). networkOf (replaced (n .areas) b x) ps) (same h k)
           ∙ ap (λ (l : List Packet). networkOf (replaced (n .areas) b (n .areas b)) l) (none h k)
-          ∙ ap (λ (x : Areas). networkOf x (n .packets)) (replaced-own (n .areas) b)
+          ∙ ap (λ (x : AreasApart). networkOf x (n .packets)) (replaced-own (n .areas) b)
       go (no k) = after-of (pick-false _ (calledAt n b a ps) (record { number = 11; after = n }) (le-ltb b boards (omega arith)))
 
 -- ---- what a message is asked when it is handed over, and when it is taken in
@@ -217,11 +217,11 @@ module _ (p : Plan) (so : Sound p) (away : Away p) (source : List ℕ) where
         go : (v : Bool)
             → pick v (calledAt n b (turn p source (n .areas b) b) (n .packets)) (record { number = 11; after = n })
             ≡ record {
-              number = pick {A = Answered Areas} v
+              number = pick {A = Answered AreasApart} v
                   (record { number = turn p source (n .areas b) b .number; after = replaced (n .areas) b (turn p source (n .areas b) b .after) })
                   (record { number = 11; after = n .areas }) .number;
               after = networkOf
-                  (pick {A = Answered Areas} v
+                  (pick {A = Answered AreasApart} v
                   (record { number = turn p source (n .areas b) b .number; after = replaced (n .areas) b (turn p source (n .areas b) b .after) })
                   (record { number = 11; after = n .areas }) .after) (n .packets);
             }
@@ -312,7 +312,7 @@ module _ (p : Plan) (so : Sound p) (away : Away p) (source : List ℕ) where
         take-as =
             after-of (take-here (take-low z))
             ∙ ap (λ (x : State). networkOf (replaced (n .areas) b x) (n .packets)) (take-goes p (n .areas b) b m ws takes)
-            ∙ ap (λ (x : Areas). networkOf x (n .packets)) (sym one-place)
+            ∙ ap (λ (x : AreasApart). networkOf x (n .packets)) (sym one-place)
             ∙ sym (after-of (arrive-zero p n (w .at) arrives))
 
         pub was-in-flight : (m < count p) × (statusOf s m ≡ 1)

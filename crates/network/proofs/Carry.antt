@@ -22,7 +22,7 @@ use Rattle.machine.proofs.Turns.{Delivered, delivered}
 use Rattle.machine.proofs.Progress.{Shape}
 use Rattle.machine.proofs.Kept.{Inv, inv-fit, statusOf}
 use Rattle.machine.proofs.Invariant.{sender-low}
-use Rattle.network.specs.Apart.{Areas, replaced, senderAt, takerAt, marked, received, sentOff, arrived, carried, deliverApart}
+use Rattle.network.specs.Apart.{AreasApart, replaced, senderAt, takerAt, marked, received, sentOff, arrived, carried, deliverApart}
 use Rattle.network.proofs.Letters.{Letter, letter-both, letter-none, letter-gone, letter-is, replaced-same, replaced-other, words-fit, words-there}
 use Rattle.network.proofs.Letters.{words-other}
 use Rattle.network.proofs.Agrees.{Agrees, Nothing}
@@ -118,7 +118,7 @@ module _ (p : Plan) (b : ℕ) (r : State) (m : ℕ) where
                 (ag .letters k l n);
           }
 
-module _ (p : Plan) (so : Sound p) (source : List ℕ) (s : State) (areas : Areas) (inv : Inv p source s)
+module _ (p : Plan) (so : Sound p) (source : List ℕ) (s : State) (areas : AreasApart) (inv : Inv p source s)
     (each : (c : ℕ) → c < p .processors → Agrees Nothing Nothing p s c (areas c)) (m : ℕ) where
   module _ (lo : m < count p) where
     sender-at : senderAt p m < p .processors

@@ -6,7 +6,7 @@ use Prim.Native.Nat.{ℕ, zero, suc, _+_, _/_}
 use mathlib.Core.List.{List, [], _∷_, _++_}
 use lib.ListN.{getD}
 use Rattle.base.specs.Tests.{_and_, _or_, not, pick, one, every, some, keep, those, tabulate}
-use Rattle.base.specs.Lists.{part, put, setAll, storeAll, allAt, unpack, pack, countIf}
+use Rattle.base.specs.Lists.{sublist, put, setAll, storeAll, allAt, unpack, pack, countIf}
 use Rattle.base.specs.Numbers.{firstOf}
 use Rattle.machine.specs.Plan.{Plan, offset}
 use Rattle.machine.specs.Machine.{setProgress, tilesLeft, fitRecord, fit, unpackAll, afterSends, carryOut, actionAt, waiting, turn, fresh, sweepTo, sweep}
@@ -22,26 +22,26 @@ unfoldable firsts : List Event
 firsts = turnOf 0 ∷ turnOf 0 ∷ turnOf 0 ∷ turnOf 1 ∷ deliveryOf 0 ∷ deliveryOf 0 ∷ deliveryOf 12 ∷ turnOf 4 ∷ turnOf 1 ∷ []
 
 first-numbers : answersApart (actApart rows ones) (startApart rows) firsts ≡ 0 ∷ 0 ∷ 0 ∷ 12 ∷ 0 ∷ 14 ∷ 11 ∷ 11 ∷ 0 ∷ []
-unfolding rows ones total-of those keep offset part put unpack unpackAll setAll storeAll pack allAt every some one countIf not pick _and_ _or_ firstOf
+unfolding rows ones total-of those keep offset sublist put unpack unpackAll setAll storeAll pack allAt every some one countIf not pick _and_ _or_ firstOf
     setProgress tilesLeft fitRecord fit afterSends carryOut actionAt waiting turn fresh firsts startApart replaced turnApart sentOff arrived carried
     deliverApart actApart stateAfter answersTo
 first-numbers = refl
 
 -- the first message's words at its sender's, at its taker's, and at a third processor's
 words-at-0 : pack (lastApart rows ones firsts 0 .buffer) (0 ∷ 1 ∷ 2 ∷ []) ≡ 2 ∷ 6 ∷ 0 ∷ []
-unfolding rows ones total-of those keep offset part put unpack unpackAll setAll storeAll pack allAt every some one countIf not pick _and_ _or_ firstOf
+unfolding rows ones total-of those keep offset sublist put unpack unpackAll setAll storeAll pack allAt every some one countIf not pick _and_ _or_ firstOf
     setProgress tilesLeft fitRecord fit afterSends carryOut actionAt waiting turn fresh firsts startApart replaced turnApart sentOff arrived carried
     deliverApart actApart stateAfter answersTo
 words-at-0 = refl
 
 words-at-1 : pack (lastApart rows ones firsts 1 .buffer) (0 ∷ 1 ∷ 2 ∷ []) ≡ 2 ∷ 6 ∷ 0 ∷ []
-unfolding rows ones total-of those keep offset part put unpack unpackAll setAll storeAll pack allAt every some one countIf not pick _and_ _or_ firstOf
+unfolding rows ones total-of those keep offset sublist put unpack unpackAll setAll storeAll pack allAt every some one countIf not pick _and_ _or_ firstOf
     setProgress tilesLeft fitRecord fit afterSends carryOut actionAt waiting turn fresh firsts startApart replaced turnApart sentOff arrived carried
     deliverApart actApart stateAfter answersTo
 words-at-1 = refl
 
 words-at-2 : pack (lastApart rows ones firsts 2 .buffer) (0 ∷ 1 ∷ 2 ∷ []) ≡ 0 ∷ 0 ∷ 0 ∷ []
-unfolding rows ones total-of those keep offset part put unpack unpackAll setAll storeAll pack allAt every some one countIf not pick _and_ _or_ firstOf
+unfolding rows ones total-of those keep offset sublist put unpack unpackAll setAll storeAll pack allAt every some one countIf not pick _and_ _or_ firstOf
     setProgress tilesLeft fitRecord fit afterSends carryOut actionAt waiting turn fresh firsts startApart replaced turnApart sentOff arrived carried
     deliverApart actApart stateAfter answersTo
 words-at-2 = refl
@@ -49,7 +49,7 @@ words-at-2 = refl
 -- its status: 2 at the sender's, 3 at the taker's, 0 elsewhere; processor 0's record is known to itself alone
 marks : getD (lastApart rows ones firsts 0 .status) 0 0 ∷ getD (lastApart rows ones firsts 1 .status) 0 0 ∷ getD
     (lastApart rows ones firsts 2 .status) 0 0 ∷ [] ≡ 2 ∷ 3 ∷ 0 ∷ []
-unfolding rows ones total-of those keep offset part put unpack unpackAll setAll storeAll pack allAt every some one countIf not pick _and_ _or_ firstOf
+unfolding rows ones total-of those keep offset sublist put unpack unpackAll setAll storeAll pack allAt every some one countIf not pick _and_ _or_ firstOf
     setProgress tilesLeft fitRecord fit afterSends carryOut actionAt waiting turn fresh firsts startApart replaced turnApart sentOff arrived carried
     deliverApart actApart stateAfter answersTo
 marks = refl
@@ -57,7 +57,7 @@ marks = refl
 records : pack (lastApart rows ones firsts 0 .progress) (0 ∷ 1 ∷ 2 ∷ 3 ∷ 4 ∷ 5 ∷ []) ++ pack (lastApart rows ones firsts 1 .progress)
     (0 ∷ 1 ∷ 2 ∷ 3 ∷ 4 ∷ 5 ∷ [])
     ≡ 1 ∷ 0 ∷ 0 ∷ 0 ∷ 0 ∷ 0 ∷ 0 ∷ 0 ∷ 0 ∷ 0 ∷ 1 ∷ 0 ∷ []
-unfolding rows ones total-of those keep offset part put unpack unpackAll setAll storeAll pack allAt every some one countIf not pick _and_ _or_ firstOf
+unfolding rows ones total-of those keep offset sublist put unpack unpackAll setAll storeAll pack allAt every some one countIf not pick _and_ _or_ firstOf
     setProgress tilesLeft fitRecord fit afterSends carryOut actionAt waiting turn fresh firsts startApart replaced turnApart sentOff arrived carried
     deliverApart actApart stateAfter answersTo
 records = refl
@@ -97,13 +97,13 @@ whole =
 
 whole-numbers : answersApart (actApart line3 source3) (startApart line3) whole
     ≡ 12 ∷ 0 ∷ 0 ∷ 14 ∷ 0 ∷ 12 ∷ 0 ∷ 14 ∷ 0 ∷ 0 ∷ 0 ∷ 12 ∷ 0 ∷ 14 ∷ 0 ∷ 11 ∷ 0 ∷ 13 ∷ []
-unfolding line3 valueAt source3 those keep offset part put unpack unpackAll setAll storeAll pack allAt every some one countIf not pick _and_ _or_ firstOf
+unfolding line3 valueAt source3 those keep offset sublist put unpack unpackAll setAll storeAll pack allAt every some one countIf not pick _and_ _or_ firstOf
     setProgress tilesLeft fitRecord fit afterSends carryOut actionAt waiting turn fresh whole startApart replaced turnApart sentOff arrived carried
     deliverApart actApart stateAfter answersTo
 whole-numbers = refl
 
 whole-grid : assembled line3 (lastApart line3 source3 whole) ≡ 1 ∷ 3 ∷ 6 ∷ []
-unfolding line3 valueAt source3 those keep offset part put unpack unpackAll setAll storeAll pack allAt every some one countIf not pick _and_ _or_ firstOf
+unfolding line3 valueAt source3 those keep offset sublist put unpack unpackAll setAll storeAll pack allAt every some one countIf not pick _and_ _or_ firstOf
     setProgress tilesLeft fitRecord fit afterSends carryOut actionAt waiting turn fresh whole startApart replaced turnApart sentOff arrived carried
     deliverApart actApart stateAfter answersTo assembled tabulate
 whole-grid = refl
@@ -114,20 +114,20 @@ whole-sweep = refl
 
 -- no processor has the grid: each has its own cells in its own part, and what it was brought
 parts : lastApart line3 source3 whole 0 .memories ++ lastApart line3 source3 whole 1 .memories ≡ 1 ∷ 3 ∷ 0 ∷ 0 ∷ 0 ∷ 0 ∷ 0 ∷ 0 ∷ 0 ∷ 0 ∷ 3 ∷ 6 ∷ []
-unfolding line3 valueAt source3 those keep offset part put unpack unpackAll setAll storeAll pack allAt every some one countIf not pick _and_ _or_ firstOf
+unfolding line3 valueAt source3 those keep offset sublist put unpack unpackAll setAll storeAll pack allAt every some one countIf not pick _and_ _or_ firstOf
     setProgress tilesLeft fitRecord fit afterSends carryOut actionAt waiting turn fresh whole startApart replaced turnApart sentOff arrived carried
     deliverApart actApart stateAfter answersTo
 parts = refl
 
 -- collecting waits for every processor's own word
 early : collectApart line3 (lastApart line3 source3 (turnOf 0 ∷ [])) (7 ∷ 7 ∷ 7 ∷ []) .number ≡ 15
-unfolding line3 valueAt source3 those keep offset part put unpack unpackAll setAll storeAll pack allAt every some one countIf not pick _and_ _or_ firstOf
+unfolding line3 valueAt source3 those keep offset sublist put unpack unpackAll setAll storeAll pack allAt every some one countIf not pick _and_ _or_ firstOf
     setProgress tilesLeft fitRecord fit afterSends carryOut actionAt waiting turn fresh whole startApart replaced turnApart sentOff arrived carried
     deliverApart actApart stateAfter answersTo collectApart
 early = refl
 
 on-time : collectApart line3 (lastApart line3 source3 whole) (7 ∷ 7 ∷ 7 ∷ []) .after ≡ 1 ∷ 3 ∷ 6 ∷ []
-unfolding line3 valueAt source3 those keep offset part put unpack unpackAll setAll storeAll pack allAt every some one countIf not pick _and_ _or_ firstOf
+unfolding line3 valueAt source3 those keep offset sublist put unpack unpackAll setAll storeAll pack allAt every some one countIf not pick _and_ _or_ firstOf
     setProgress tilesLeft fitRecord fit afterSends carryOut actionAt waiting turn fresh whole startApart replaced turnApart sentOff arrived carried
     deliverApart actApart stateAfter answersTo collectApart assembled tabulate
 on-time = refl
@@ -141,14 +141,14 @@ networked =
 
 network-numbers : answers (actNetwork line3 source3) (startNetwork line3) networked
     ≡ 14 ∷ 0 ∷ 0 ∷ 0 ∷ 0 ∷ 0 ∷ 0 ∷ 11 ∷ 0 ∷ 0 ∷ 14 ∷ 12 ∷ 0 ∷ 14 ∷ 11 ∷ 0 ∷ 14 ∷ 0 ∷ []
-unfolding line3 valueAt source3 those keep offset part put unpack unpackAll setAll storeAll pack allAt every some one countIf not pick _and_ _or_ firstOf
+unfolding line3 valueAt source3 those keep offset sublist put unpack unpackAll setAll storeAll pack allAt every some one countIf not pick _and_ _or_ firstOf
     setProgress tilesLeft fitRecord fit afterSends carryOut actionAt waiting turn fresh startApart replaced turnApart sentOff arrived stateAfter answersTo
     actNetwork turnNetwork post posted arrive networked
 network-numbers = refl
 
 -- the machine's own call on the joined parts
 network-grid : collect line3 (joined line3 (lastNetwork line3 source3 networked .areas)) (7 ∷ 7 ∷ 7 ∷ []) .after ≡ 1 ∷ 3 ∷ 6 ∷ []
-unfolding line3 valueAt source3 those keep offset part put unpack unpackAll setAll storeAll pack allAt every some one countIf not pick _and_ _or_ firstOf
+unfolding line3 valueAt source3 those keep offset sublist put unpack unpackAll setAll storeAll pack allAt every some one countIf not pick _and_ _or_ firstOf
     setProgress tilesLeft fitRecord fit afterSends carryOut actionAt waiting turn fresh startApart replaced turnApart sentOff arrived stateAfter answersTo
     actNetwork turnNetwork post posted arrive networked joinTo collect collected tabulate
 network-grid = refl

@@ -1,4 +1,4 @@
--- Areas joined from the processors' own parts and records: collecting them is collecting from the processors; and where shared areas are beside these,
+-- AreasApart joined from the processors' own parts and records: collecting them is collecting from the processors; and where shared areas are beside these,
 -- both are collecting from the shared ones.
 use Prim.Native.Nat.{ℕ, zero, suc, _*_, _≤_, _<_}
 use mathlib.Core.Path.{_≡_, refl, sym, ap, _∙_}
@@ -20,12 +20,12 @@ use Rattle.machine.proofs.Records.{SameRecord, same-then, record-other, record-
 use Rattle.machine.proofs.Progress.{Shape}
 use Rattle.machine.proofs.Kept.{inv-fit, statusOf, memory-length}
 use Rattle.machine.proofs.Fresh.{inv-fresh, status-fresh}
-use Rattle.network.specs.Apart.{Areas, joinTo, joined, assembled, collectApart}
+use Rattle.network.specs.Apart.{AreasApart, joinTo, joined, assembled, collectApart}
 use Rattle.network.proofs.Agrees.{left-same}
 use Rattle.network.proofs.Together.{Together}
 
 -- the parts of the first n processors are there
-record Parts (p : Plan) (areas : Areas) (n : ℕ) (j : State) : Type 0 where
+record Parts (p : Plan) (areas : AreasApart) (n : ℕ) (j : State) : Type 0 where
   memories : length (j .memories) ≡ p .processors * p .cells
   progress : length (j .progress) ≡ 3 * p .processors
   buffer : length (j .buffer) ≡ words p
@@ -35,7 +35,7 @@ record Parts (p : Plan) (areas : Areas) (n : ℕ) (j : State) : Type 0 where
   unsent : (m : ℕ) → statusOf j m ≡ 0
 
 -- one processor's parts more
-module _ (p : Plan) (areas : Areas) (n : ℕ) (j : State) (low : n < p .processors) (long : length (memoryOf p (areas n) n) ≡ p .cells)
+module _ (p : Plan) (areas : AreasApart) (n : ℕ) (j : State) (low : n < p .processors) (long : length (memoryOf p (areas n) n) ≡ p .cells)
     (q : Parts p areas n j) where
   abbrev added : State
   added =
@@ -69,7 +69,7 @@ module _ (p : Plan) (areas : Areas) (n : ℕ) (j : State) (low : n < p .processo
         unsent = q .unsent;
       }
 
-module _ (p : Plan) (areas : Areas) (shapes : (b : ℕ) → b < p .processors → Shape p (areas b)) where
+module _ (p : Plan) (areas : AreasApart) (shapes : (b : ℕ) → b < p .processors → Shape p (areas b)) where
   parts : (n : ℕ) → n ≤ p .processors → Parts p areas n (joinTo p areas n)
   unfolding joinTo
   parts zero h =
@@ -117,7 +117,7 @@ module _ (p : Plan) (areas : Areas) (shapes : (b : ℕ) → b < p .processors �
   unfolding tilesLeft
   left-joined b h = ap (λ (f : ℕ). ltb f (length (tilesOf p b))) (all .recorded b h .finished)
 
-module _ (p : Plan) (so : Sound p) (areas : Areas) (shapes : (b : ℕ) → b < p .processors → Shape p (areas b)) where
+module _ (p : Plan) (so : Sound p) (areas : AreasApart) (shapes : (b : ℕ) → b < p .processors → Shape p (areas b)) where
   collected-joined : collected p (joined p areas) ≡ assembled p areas
   unfolding collected assembled pick
   collected-joined = tabulate-same _ _ (p .cells) (λ c h. same-cell c h (p .inside c) refl)
@@ -136,7 +136,7 @@ module _ (p : Plan) (so : Sound p) (areas : Areas) (shapes : (b : ℕ) → b < p
       (ap (λ (k : ℕ). answered k (assembled p areas) grid) (first-false 10 _ _ (not-true (fit-joined p areas shapes))))
 
 -- ---- beside shared areas s
-module _ {Q : ℕ → Type 0} (p : Plan) (so : Sound p) (source : List ℕ) (s : State) (areas : Areas) (to : Together Q p source s areas) where
+module _ {Q : ℕ → Type 0} (p : Plan) (so : Sound p) (source : List ℕ) (s : State) (areas : AreasApart) (to : Together Q p source s areas) where
   pub assembled-same : assembled p areas ≡ collected p s
   unfolding assembled collected pick
   assembled-same =

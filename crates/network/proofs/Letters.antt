@@ -8,13 +8,13 @@ use native.Mathlib.Decide.{decLt, ℕ-discrete}
 use lib.ListN.{length, getD}
 use lib.Dec.{eqb}
 use borrow.Author.Tests.{eqb-true, eq-eqb, ne-eqb}
-use Rattle.base.specs.Lists.{In, part, put, allAt}
+use Rattle.base.specs.Lists.{In, sublist, put, allAt}
 use Rattle.base.proofs.Tests.{same-test, pick-true, pick-false}
 use Rattle.base.proofs.Lists.{part-put-same, part-put-before, part-put-after}
 use Rattle.machine.specs.Plan.{Plan, count, heldBy, words, offset}
 use Rattle.machine.specs.Machine.{State, placeOf}
 use Rattle.machine.proofs.Values.{offset-apart}
-use Rattle.network.specs.Apart.{Areas, replaced, senderAt, takerAt}
+use Rattle.network.specs.Apart.{AreasApart, replaced, senderAt, takerAt}
 
 -- at the taker's it is 2 exactly when it is 2 shared, and then the words agree; at the sender's 1 when 1 shared, unless it is one of Q, which were posted;
 -- and 1 nowhere else
@@ -136,7 +136,7 @@ module _ {Q : ℕ → Type 0} (p : Plan) (b m : ℕ) where
       letter-coming x′ y ws′ vs (l .high) ns (omega arith) (λ i. l .due-none i ns h) (λ k. omega arith) (l .only-own ns)
 
 -- ---- the processors' areas, one of them replaced
-module _ (areas : Areas) (b : ℕ) (s : State) where
+module _ (areas : AreasApart) (b : ℕ) (s : State) where
   pub replaced-same : (c : ℕ) → c ≡ b → replaced areas b s c ≡ s
   unfolding replaced
   replaced-same c e = pick-true _ _ _ (eq-eqb c b e)
@@ -146,7 +146,7 @@ module _ (areas : Areas) (b : ℕ) (s : State) where
   replaced-other c n = pick-false _ _ _ (ne-eqb c b n)
 
 -- one put back as it was
-pub replaced-own : (areas : Areas) (b : ℕ) → replaced areas b (areas b) ≡ areas
+pub replaced-own : (areas : AreasApart) (b : ℕ) → replaced areas b (areas b) ≡ areas
 replaced-own areas b = fun-ext (λ c. go c (ℕ-discrete c b))
   where
     go : (c : ℕ) → Dec (c ≡ b) → replaced areas b (areas b) c ≡ areas c
@@ -159,7 +159,7 @@ module _ (p : Plan) (buffer : List ℕ) (m : ℕ) (ws : List ℕ) (len : length 
   words-fit = rw (e, len) (offset-apart (p .messages) m (count p) lo lo)
 
   pub words-there : placeOf p (put buffer (offset (p .messages) m) ws) m ≡ ws
-  words-there = ap (part (put buffer (offset (p .messages) m) ws) (offset (p .messages) m)) (sym e)
+  words-there = ap (sublist (put buffer (offset (p .messages) m) ws) (offset (p .messages) m)) (sym e)
       ∙ part-put-same buffer (offset (p .messages) m) ws words-fit
 
   pub words-other : (k : ℕ) → k < count p → k ≢ m → placeOf p (put buffer (offset (p .messages) m) ws) k ≡ placeOf p buffer k

@@ -19,7 +19,7 @@ pub mod Collected
 pub mod Locality
 pub mod Fine
 pub mod Own
-pub mod OwnRuns
+pub mod PartRuns
 pub mod NotLocal
 pub mod Example
 pub mod Witnesses

@@ -30,7 +30,7 @@ use Rattle.machine.proofs.Kept.{memory-length, memory-new}
 use Rattle.machine.proofs.RunLaws.{number-of}
 use Rattle.machine.proofs.Words.{packs, unpacks, stores}
 use Rattle.network.specs.Apart.{takerAt}
-use Rattle.network.specs.Locality.{Lent, Keeps, WritesOwn, Handles, SameTo, SameSource, Likewise, Local, ReadsOwnWord}
+use Rattle.network.specs.Locality.{PlanLengths, Keeps, WritesOwn, Handles, SameTo, SameSource, Likewise, Local, ReadsOwnWord}
 use Rattle.network.proofs.Letters.{allAt-same, words-there, words-other}
 use Rattle.network.proofs.Agrees.{set-both, after-both, waiting-law, lines-law}
 
@@ -125,7 +125,7 @@ turn-fit : (p : Plan) (source : List ℕ) (s : State) (b : ℕ) → turn p sourc
 unfolding turn
 turn-fit p source s b z = true-not (none-first 10 _ _ (λ k. omega arith) z .0)
 
-pub shape-of : (p : Plan) (source : List ℕ) (s : State) → Lent p source s → fit p s ≡ true → Shape p s
+pub shape-of : (p : Plan) (source : List ℕ) (s : State) → PlanLengths p source s → fit p s ≡ true → Shape p s
 unfolding fit
 shape-of p source s le f =
     record {
@@ -161,7 +161,7 @@ nothing p s b =
       status-length = refl;
     }
 
-module _ (p : Plan) (so : Sound p) (source : List ℕ) (s : State) (b : ℕ) (le : Lent p source s) where
+module _ (p : Plan) (so : Sound p) (source : List ℕ) (s : State) (b : ℕ) (le : PlanLengths p source s) where
   abbrev t : ℕ
   t = currentTile p s b
 
@@ -484,7 +484,7 @@ local p so own =
 
 -- turns that answer as these do, wherever the areas have their lengths
 pub local-as : (p : Plan) (turns turns′ : List ℕ → State → ℕ → Answered State) → Local p turns
-    → ((source : List ℕ) (s : State) (b : ℕ) → Lent p source s → turns′ source s b ≡ turns source s b) → Local p turns′
+    → ((source : List ℕ) (s : State) (b : ℕ) → PlanLengths p source s → turns′ source s b ≡ turns source s b) → Local p turns′
 local-as p turns turns′ l is =
     record {
       writes = λ source s b le. rw (is source s b le) (l .writes source s b le);

@@ -23,7 +23,7 @@ use Rattle.machine.proofs.Kept.{Inv, swept, statusOf}
 use Rattle.machine.proofs.Events.{flying}
 use Rattle.machine.proofs.Along.{next-inv}
 use Rattle.machine.proofs.RunLaws.{after-append, steps-append, steps-one}
-use Rattle.network.specs.Apart.{Areas, senderAt, takerAt, marked, sentOff, arrived}
+use Rattle.network.specs.Apart.{AreasApart, senderAt, takerAt, marked, sentOff, arrived}
 use Rattle.network.specs.Packets.{Packet, Network, networkOf, packetAt, statusAt, NetworkEvent, turnBy, postOf, arrivalOf, posted, post, arrive}
 use Rattle.network.specs.Packets.{turnNetwork, actNetwork, startNetwork, machineEvents, machineRun}
 use Rattle.network.proofs.Agrees.{Agrees, Nothing}
@@ -228,7 +228,7 @@ module _ (p : Plan) (so : Sound p) (source : List ℕ) (s : State) (n : Network)
     inv-then : Inv p source (marked s m)
     inv-then = rw delivers-after at (next-inv p so source s inv (deliveryOf m))
 
-    delivery-steps : (areas : Areas) → ((c : ℕ) → c < p .processors → Agrees (Has (n .packets)) Nothing p (marked s m) c (areas c))
+    delivery-steps : (areas : AreasApart) → ((c : ℕ) → c < p .processors → Agrees (Has (n .packets)) Nothing p (marked s m) c (areas c))
         → Stepped p source s n (deliveryOf m ∷ []) (record { number = 0; after = networkOf areas (n .packets) })
     delivery-steps areas each =
         record {

@@ -7,13 +7,13 @@ use mathlib.Core.List.{List, [], _∷_}
 use native.Mathlib.Omega.{arith}
 use lib.ListN.{getD, set}
 use Rattle.base.specs.Tests.{_and_, _or_, not, pick, one, every, some, keep, those}
-use Rattle.base.specs.Lists.{In, part, put, setAll, storeAll, allAt, unpack, pack, countIf}
+use Rattle.base.specs.Lists.{In, sublist, put, setAll, storeAll, allAt, unpack, pack, countIf}
 use Rattle.base.specs.Numbers.{firstOf}
 use Rattle.machine.specs.Plan.{Plan, sendsOf, duesOf, offset}
 use Rattle.machine.specs.Machine.{State, stateOf, setProgress, tilesLeft, fitRecord, fit, unpackAll, afterSends, carryOut, actionAt, waiting}
 use Rattle.machine.specs.Machine.{Answered, turn, fresh, currentTile}
 use Rattle.machine.specs.Words.{wordAt}
-use Rattle.network.specs.Locality.{Lent, Keeps, SameTo, Likewise, Local, ReadsOwnWord}
+use Rattle.network.specs.Locality.{PlanLengths, Keeps, SameTo, Likewise, Local, ReadsOwnWord}
 use Rattle.network.proofs.Computed.{line3, valueAt, source3}
 
 abbrev start : State
@@ -32,11 +32,11 @@ peeks source s b =
 unfoldable other : State
 other = stateOf (0 ∷ 0 ∷ 0 ∷ 7 ∷ 0 ∷ 0 ∷ []) (0 ∷ 0 ∷ []) (0 ∷ 0 ∷ 0 ∷ 0 ∷ 0 ∷ 0 ∷ []) (0 ∷ 0 ∷ [])
 
-lent-start : Lent line3 source3 start
+lent-start : PlanLengths line3 source3 start
 unfolding line3 source3 fresh offset
 lent-start = record { source = refl; memories = refl; buffer = refl; progress = refl; status = refl }
 
-lent-other : Lent line3 source3 other
+lent-other : PlanLengths line3 source3 other
 unfolding line3 source3 other offset
 lent-other = record { source = refl; memories = refl; buffer = refl; progress = refl; status = refl }
 
@@ -48,7 +48,7 @@ same-word (suc (suc zero)) h = refl
 same-word (suc (suc (suc i))) h = absurd (omega arith)
 
 same-start : SameTo line3 0 start other
-unfolding line3 fresh other offset part
+unfolding line3 fresh other offset sublist
 same-start =
     record {
       memory = λ c l k. same-word (0 * 3 + c) (omega arith);
@@ -67,12 +67,12 @@ alike : Likewise line3 source3 source3 start other 0
 alike = record { lent = lent-start; lent′ = lent-other; both-fit = both-fit; same-source = λ t c h e i. refl; same-areas = same-start }
 
 peeks-start : wordAt line3 (peeks source3 start 0 .after) 0 0 ≡ 0
-unfolding peeks line3 valueAt source3 those keep offset part put unpack unpackAll setAll storeAll pack allAt every some one countIf not pick _and_ _or_
+unfolding peeks line3 valueAt source3 those keep offset sublist put unpack unpackAll setAll storeAll pack allAt every some one countIf not pick _and_ _or_
     firstOf setProgress tilesLeft fitRecord fit afterSends carryOut actionAt waiting turn fresh
 peeks-start = refl
 
 peeks-other : wordAt line3 (peeks source3 other 0 .after) 0 0 ≡ 7
-unfolding peeks other line3 valueAt source3 those keep offset part put unpack unpackAll setAll storeAll pack allAt every some one countIf not pick _and_ _or_
+unfolding peeks other line3 valueAt source3 those keep offset sublist put unpack unpackAll setAll storeAll pack allAt every some one countIf not pick _and_ _or_
     firstOf setProgress tilesLeft fitRecord fit afterSends carryOut actionAt waiting turn fresh
 peeks-other = refl
 
@@ -97,7 +97,7 @@ meddles source s b =
     }
 
 meddles-start : getD (meddles source3 start 0 .after .status) 1 0 ≡ 1
-unfolding meddles line3 valueAt source3 those keep offset part put unpack unpackAll setAll storeAll pack allAt every some one countIf not pick _and_ _or_
+unfolding meddles line3 valueAt source3 those keep offset sublist put unpack unpackAll setAll storeAll pack allAt every some one countIf not pick _and_ _or_
     firstOf setProgress tilesLeft fitRecord fit afterSends carryOut actionAt waiting turn fresh
 meddles-start = refl
 

@@ -17,7 +17,7 @@ use Rattle.machine.specs.Plan.{Plan, Sound, count, heldBy, tilesOf}
 use Rattle.machine.specs.Machine.{State, Action, gather, memoryOf, placeOf, finishedOf, stageOf, sentOf, tilesLeft, fit, Answered, turn, deliver, carryOut}
 use Rattle.machine.specs.Machine.{nextAction, collect, fresh, sweep}
 use Rattle.machine.specs.Runs.{Event, turnOf, deliveryOf, act, stateAfter, answersTo, steps, total, program, turnsOf, deliveriesOf, stepsIn, Demand3}
-use Rattle.machine.specs.Marks.{Standing, Marks}
+use Rattle.machine.specs.StatusTells.{Standing, StatusTells}
 use Rattle.machine.proofs.Turns as turns
 use Rattle.machine.proofs.Turns.{can-deliver, can-collect}
 use Rattle.machine.proofs.Progress.{prog, prog-is, prog-before, work, full}
@@ -26,8 +26,8 @@ use Rattle.machine.proofs.Kept.{statusOf, inv-fit}
 use Rattle.machine.proofs.RunLaws.{Passed, number-of, after-of, ends, steps-same, turns-same, brings-same}
 use Rattle.machine.proofs.Once.{once-passed, collects-like}
 use Rattle.machine.proofs.Theorem.{theorem, named-next}
-use Rattle.machine.proofs.Marks.{marks-passed}
-use Rattle.network.specs.Apart.{Areas, startApart, replaced, senderAt, takerAt, joined}
+use Rattle.machine.proofs.StatusTells.{marks-passed}
+use Rattle.network.specs.Apart.{AreasApart, startApart, replaced, senderAt, takerAt, joined}
 use Rattle.network.specs.Packets.{Packet, packetAt, Network, networkOf, NetworkEvent, turnBy, postOf, arrivalOf, turnNetwork, actNetwork, startNetwork}
 use Rattle.network.specs.Packets.{mailed}
 use Rattle.network.specs.Brought.{BoardEvent, turnAt, postAt, broughtTo, BoardCalls, calledAt, actBoards, takeIn, machineCalls, machineBoards}
@@ -48,25 +48,25 @@ use Rattle.network.proofs.Posts.{isOf, has-count, once-count, at-least,
 
 -- ---- what calls see of a board's areas: all of them, or its own part
 
-abbrev pub Seen : Plan → (ℕ → State → State) → Areas → Areas → Type 0
+abbrev pub Seen : Plan → (ℕ → State → State) → AreasApart → AreasApart → Type 0
 Seen p view a o = (b : ℕ) → b < p .processors → o b ≡ view b (a b)
 
 abbrev pub seenAs : (ℕ → State → State) → ℕ → Answered State → Answered State
 seenAs view b a = record { number = a .number; after = view b (a .after) }
 
 -- they answer there as the machine does
-pub record Answers (p : Plan) (source : List ℕ) (view : ℕ → State → State) (c : BoardCalls) (a : Areas) : Type 0 where
+pub record Answers (p : Plan) (source : List ℕ) (view : ℕ → State → State) (c : BoardCalls) (a : AreasApart) : Type 0 where
   pub turns : (b : ℕ) → b < p .processors → c .turns b (view b (a b)) ≡ seenAs view b (turn p source (a b) b)
   pub posts : (b m : ℕ) → b < p .processors → c .posts b (view b (a b)) m ≡ seenAs view b (deliver p (a b) m)
   pub reads : (b m : ℕ) → b < p .processors → m < count p → senderAt p m ≡ b → c .reads b (view b (a b)) m ≡ placeOf p (a b .buffer) m
-  pub takes : (b m : ℕ) (ws : List ℕ) → b < p .processors → c .takes b (view b (a b)) m ws ≡ seenAs view b (takeIn p (a b) b m ws)
+  pub accepts : (b m : ℕ) (ws : List ℕ) → b < p .processors → c .accepts b (view b (a b)) m ws ≡ seenAs view b (takeIn p (a b) b m ws)
 
 pub record Mirrors (p : Plan) (view : ℕ → State → State) (x y : Answered Network) : Type 0 where
   pub number : x .number ≡ y .number
   pub packets : x .after .packets ≡ y .after .packets
   pub seen : Seen p view (y .after .areas) (x .after .areas)
 
-replaced-seen : (p : Plan) (view : ℕ → State → State) (a o : Areas) (b : ℕ) (x y : State) → Seen p view a o → y ≡ view b x
+replaced-seen : (p : Plan) (view : ℕ → State → State) (a o : AreasApart) (b : ℕ) (x y : State) → Seen p view a o → y ≡ view b x
     → Seen p view (replaced a b x) (replaced o b y)
 replaced-seen p view a o b x y v e c l = go (ℕ-discrete c b)
   where
@@ -117,8 +117,8 @@ module _ (p : Plan) (so : Sound p) (away : Away p) (source : List ℕ) (view : �
     posts-as : (b m : ℕ) → b < p .processors → c .posts b (o .areas b) m ≡ seenAs view b (deliver p (n .areas b) m)
     posts-as b m h = rw (v b h) (alike s n fo .posts b m h)
 
-    takes-as : (b m : ℕ) (ws : List ℕ) → b < p .processors → c .takes b (o .areas b) m ws ≡ seenAs view b (takeIn p (n .areas b) b m ws)
-    takes-as b m ws h = rw (v b h) (alike s n fo .takes b m ws h)
+    takes-as : (b m : ℕ) (ws : List ℕ) → b < p .processors → c .accepts b (o .areas b) m ws ≡ seenAs view b (takeIn p (n .areas b) b m ws)
+    takes-as b m ws h = rw (v b h) (alike s n fo .accepts b m ws h)
 
     packets-as : (b m : ℕ) → b < p .processors
         → o .packets ++ pick (eqb (c .posts b (o .areas b) m .number) 0) (record { message = m; words = c .reads b (o .areas b) m } ∷ []) []
@@ -346,7 +346,7 @@ module _ (p : Plan) (so : Sound p) (away : Away p) (source : List ℕ) (view : �
       came Standing.delivered h = omega arith
       came Standing.taken h = omega arith
 
-      marks : Marks p S (eventsAt events) (numbersAt events (answersTo B (startNetwork p) events))
+      marks : StatusTells p S (eventsAt events) (numbersAt events (answersTo B (startNetwork p) events))
       marks = marks-passed p so source (R .run)
 
       came-again : (m : ℕ) (ws : List ℕ) → m < count p → length ws ≡ length (heldBy p m) → 1 ≤ takenIn A start events m
@@ -523,7 +523,7 @@ module _ (p : Plan) (so : Sound p) (away : Away p) (source : List ℕ) (c : Boar
 
   module _ (events : List BoardEvent) (k : Carries acts start events)
       (shared : State → Event → Answered State) (collects : State → List ℕ → Answered (List ℕ)) (like : SharedLike p source shared collects) where
-    abbrev last-areas : Areas
+    abbrev last-areas : AreasApart
     last-areas = stateAfter acts start events .areas
 
     abbrev final : State

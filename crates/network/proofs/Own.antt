@@ -25,7 +25,7 @@ use Rattle.machine.proofs.Progress.{Shape}
 use Rattle.machine.proofs.Kept.{memory-length}
 use Rattle.machine.proofs.Fresh.{inv-fresh, status-fresh}
 use Rattle.network.specs.Apart.{senderAt, takerAt}
-use Rattle.network.specs.Locality.{Lent, Keeps, Handles, SameTo, SameSource, Likewise, Local, ReadsOwnWord}
+use Rattle.network.specs.Locality.{PlanLengths, Keeps, Handles, SameTo, SameSource, Likewise, Local, ReadsOwnWord}
 use Rattle.network.specs.Own.{owns, keeps, handles, ownCells, keptCells, handled, Own, mailOf, putMail, narrowed, widened, sourceOf, turnOwn, OwnPart}
 use Rattle.network.proofs.Letters.{words-fit, words-there, words-other}
 use Rattle.network.proofs.Locality.{local}
@@ -168,7 +168,7 @@ module _ (p : Plan) (b : ℕ) where
       (λ m i. let k = keep-in (handles p b) (count p) m i in e .marks m (k .0) (handle-test p b m (k .1))))
 
   -- ---- the part of s, in areas that are else as a fresh start
-  module _ (source : List ℕ) (s : State) (low : b < p .processors) (le : Lent p source s) where
+  module _ (source : List ℕ) (s : State) (low : b < p .processors) (le : PlanLengths p source s) where
     fresh-shape : Shape p (fresh p)
     fresh-shape = inv-fresh p source .shape
 
@@ -235,7 +235,7 @@ module _ (p : Plan) (b : ℕ) where
           marks = mark-back;
         }
 
-    pub wide-lent : (source′ : List ℕ) → length source′ ≡ p .cells → Lent p source′ wide
+    pub wide-lent : (source′ : List ℕ) → length source′ ≡ p .cells → PlanLengths p source′ wide
     unfolding widened narrowed
     wide-lent source′ long =
         record {

@@ -12,7 +12,7 @@ use Rattle.machine.specs.Machine.{State, placeOf}
 use Rattle.machine.proofs.Values.{offset-apart}
 use Rattle.machine.proofs.Invariant.{sender-low}
 use Rattle.machine.proofs.Kept.{Inv, swept, statusOf}
-use Rattle.network.specs.Apart.{Areas, replaced, senderAt, takerAt, marked, received, sentOff, arrived}
+use Rattle.network.specs.Apart.{AreasApart, replaced, senderAt, takerAt, marked, received, sentOff, arrived}
 use Rattle.network.specs.Packets.{Packet, packetAt}
 use Rattle.network.proofs.Letters.{Letter, letter-both, letter-none, letter-gone, replaced-same, replaced-other, words-there}
 use Rattle.network.proofs.Agrees.{Agrees, Nothing}
@@ -58,7 +58,7 @@ Only m k = k ≡ m
 none : ⊥ → ⊥
 none z = z
 
-module _ {Q : ℕ → Type 0} (p : Plan) (so : Sound p) (source : List ℕ) (s : State) (areas : Areas) (inv : Inv p source s)
+module _ {Q : ℕ → Type 0} (p : Plan) (so : Sound p) (source : List ℕ) (s : State) (areas : AreasApart) (inv : Inv p source s)
     (each : (c : ℕ) → c < p .processors → Agrees Q Nothing p s c (areas c)) (m : ℕ) (lo : m < count p) where
   pub sender-at : senderAt p m < p .processors
   sender-at = so .processor-low (senderOf p m) (sender-low p so m lo)

@@ -16,7 +16,7 @@ use Rattle.base.proofs.Select.{keep-few}
 use Rattle.base.proofs.Lists.{count-append}
 use Rattle.machine.specs.Machine.{State, Answered}
 use Rattle.machine.specs.Runs.{stateAfter, answersTo, deliveriesOf}
-use Rattle.network.specs.Apart.{Areas}
+use Rattle.network.specs.Apart.{AreasApart}
 use Rattle.network.specs.Packets.{Packet, packetAt, Network}
 use Rattle.network.specs.Brought.{BoardEvent, turnAt, postAt, broughtTo, BoardCalls, calledAt, actBoards, WasPosted, Carries}
 use Rattle.network.specs.OnBoards.{eventsAt, numbersAt, postsOf}
@@ -104,7 +104,7 @@ module _ (boards : ℕ) (calls : BoardCalls) where
   unfolding actBoards pick
   take-packets n b m ws = go (ltb b boards)
     where
-      go : (v : Bool) → pick v (calledAt n b (calls .takes b (n .areas b) m ws) (n .packets)) (record { number = 11; after = n }) .after .packets ≡ n .packets
+      go : (v : Bool) → pick v (calledAt n b (calls .accepts b (n .areas b) m ws) (n .packets)) (record { number = 11; after = n }) .after .packets ≡ n .packets
       go true = refl
       go false = refl
 

@@ -15,7 +15,7 @@ use Rattle.machine.proofs.Turns.{collect-gives}
 use Rattle.machine.proofs.RunLaws.{number-of, after-of, same-end, same-numbers}
 use Rattle.machine.proofs.Once.{collects-like}
 use Rattle.machine.proofs.Theorem.{named-next}
-use Rattle.network.specs.Apart.{Areas, startApart, replaced, turnApart, actApart, assembled, collectApart, joined, CarriedOutApart, stepsApart}
+use Rattle.network.specs.Apart.{AreasApart, startApart, replaced, turnApart, actApart, assembled, collectApart, joined, CarriedOutApart, stepsApart}
 use Rattle.network.specs.Apart.{Demand3Apart, MachineApart}
 use Rattle.network.proofs.Agrees.{Nothing, goes-same}
 use Rattle.network.proofs.Together.{Together, start-together, turn-here, turn-nowhere, event-number, event-together, run-together, run-answers}
@@ -29,22 +29,22 @@ both-are x {l} e f = number-is (x .number) e ∙ ap (λ (k : List ℕ). record {
     number-is i q = rw q
 
 -- ---- calls that answer as the processors do, beside shared ones that answer as the machine does
-module _ (p : Plan) (so : Sound p) (source : List ℕ) (acts : Areas → Event → Answered Areas)
-    (same : (s : State) (areas : Areas) → Together Nothing p source s areas → (e : Event) → acts areas e ≡ actApart p source areas e)
-    (start : Areas) (begins : Together Nothing p source (fresh p) start)
+module _ (p : Plan) (so : Sound p) (source : List ℕ) (acts : AreasApart → Event → Answered AreasApart)
+    (same : (s : State) (areas : AreasApart) → Together Nothing p source s areas → (e : Event) → acts areas e ≡ actApart p source areas e)
+    (start : AreasApart) (begins : Together Nothing p source (fresh p) start)
     (shared : State → Event → Answered State) (collects : State → List ℕ → Answered (List ℕ)) (like : SharedLike p source shared collects) where
   -- some shared areas are beside these
-  abbrev Good : Areas → Type 0
+  abbrev Good : AreasApart → Type 0
   Good areas = (s : State) × Together Nothing p source s areas
 
-  good-next : (areas : Areas) → Good areas → (e : Event) → Good (actApart p source areas e .after)
+  good-next : (areas : AreasApart) → Good areas → (e : Event) → Good (actApart p source areas e .after)
   good-next areas g e = (act p source (g .0) e .after, event-together p so source (g .0) areas (g .1) e)
 
   module _ (es : List Event) where
     abbrev s : State
     s = stateAfter shared (fresh p) es
 
-    abbrev areas : Areas
+    abbrev areas : AreasApart
     areas = stateAfter acts start es
 
     areas-are : areas ≡ stateAfter (actApart p source) start es
@@ -103,7 +103,7 @@ module _ (p : Plan) (so : Sound p) (source : List ℕ) (acts : Areas → Event �
     abbrev S : State
     S = stateAfter shared (fresh p) events
 
-    abbrev A : Areas
+    abbrev A : AreasApart
     A = stateAfter acts start events
 
     all : Together Nothing p source S A

@@ -14,13 +14,13 @@ use Rattle.machine.specs.Runs.{Event, turnOf, deliveryOf, act, stateAfter, answ
 use Rattle.machine.proofs.Kept.{Inv, inv-fit}
 use Rattle.machine.proofs.Fresh.{inv-fresh, status-fresh}
 use Rattle.machine.proofs.Along.{next-inv}
-use Rattle.network.specs.Apart.{Areas, startApart, replaced, turnApart, actApart}
+use Rattle.network.specs.Apart.{AreasApart, startApart, replaced, turnApart, actApart}
 use Rattle.network.proofs.Letters.{letter-both, replaced-same, replaced-other}
 use Rattle.network.proofs.Agrees.{Agrees, Nothing, number-same}
 use Rattle.network.proofs.Turn.{own-turn, away-turn}
 use Rattle.network.proofs.Carry.{carry-number, carry-agrees}
 
-pub record Together (Q : ℕ → Type 0) (p : Plan) (source : List ℕ) (s : State) (areas : Areas) : Type 0 where
+pub record Together (Q : ℕ → Type 0) (p : Plan) (source : List ℕ) (s : State) (areas : AreasApart) : Type 0 where
   pub inv : Inv p source s
   pub each : (b : ℕ) → b < p .processors → Agrees Q Nothing p s b (areas b)
 
@@ -41,7 +41,7 @@ start-together p source no-one =
     }
 
 -- a turn by an existing processor, and by none
-module _ (p : Plan) (source : List ℕ) (areas : Areas) (b : ℕ) where
+module _ (p : Plan) (source : List ℕ) (areas : AreasApart) (b : ℕ) where
   pub turn-here : b < p .processors
       → turnApart p source areas b ≡ record { number = turn p source (areas b) b .number; after = replaced areas b (turn p source (areas b) b .after) }
   unfolding turnApart
@@ -51,7 +51,7 @@ module _ (p : Plan) (source : List ℕ) (areas : Areas) (b : ℕ) where
   unfolding turnApart
   turn-nowhere h = pick-false _ _ _ (le-ltb b (p .processors) h)
 
-module _ {Q : ℕ → Type 0} (p : Plan) (so : Sound p) (source : List ℕ) (s : State) (areas : Areas) (to : Together Q p source s areas) where
+module _ {Q : ℕ → Type 0} (p : Plan) (so : Sound p) (source : List ℕ) (s : State) (areas : AreasApart) (to : Together Q p source s areas) where
   refused-stays : (b : ℕ) → turn p source s b .number ≢ 0 → turn p source s b .after ≡ s
   unfolding turn
   refused-stays b n = pick-false _ _ _ (ne-eqb _ 0 n)
@@ -68,8 +68,8 @@ module _ {Q : ℕ → Type 0} (p : Plan) (so : Sound p) (source : List ℕ) (s :
   turn-number b = go (decLt b (p .processors))
     where
       go : Dec (b < p .processors) → turnApart p source areas b .number ≡ turn p source s b .number
-      go (yes h) = ap (λ (x : Answered Areas). x .number) (turn-here p source areas b h) ∙ number-same p source s b (areas b) (to .inv) (to .each b h)
-      go (no n) = ap (λ (x : Answered Areas). x .number) (turn-nowhere p source areas b (omega arith)) ∙ sym (too-high b (omega arith))
+      go (yes h) = ap (λ (x : Answered AreasApart). x .number) (turn-here p source areas b h) ∙ number-same p source s b (areas b) (to .inv) (to .each b h)
+      go (no n) = ap (λ (x : Answered AreasApart). x .number) (turn-nowhere p source areas b (omega arith)) ∙ sym (too-high b (omega arith))
 
   pub turn-agrees : (b c : ℕ) → c < p .processors → Agrees Q Nothing p (turn p source s b .after) c (turnApart p source areas b .after c)
   turn-agrees b c low = go (decLt b (p .processors)) (ℕ-discrete c b)
@@ -83,7 +83,7 @@ module _ {Q : ℕ → Type 0} (p : Plan) (so : Sound p) (source : List ℕ) (s :
           (away-turn p so source s b (to .inv) c (areas c) n (to .each c low))
       go (no n) d = rw (turn-nowhere p source areas b (omega arith), stays-high b (omega arith)) (to .each c low)
 
-module _ (p : Plan) (so : Sound p) (source : List ℕ) (s : State) (areas : Areas) (to : Together Nothing p source s areas) where
+module _ (p : Plan) (so : Sound p) (source : List ℕ) (s : State) (areas : AreasApart) (to : Together Nothing p source s areas) where
   -- any event
   pub event-number : (e : Event) → actApart p source areas e .number ≡ act p source s e .number
   unfolding actApart act
@@ -100,13 +100,13 @@ module _ (p : Plan) (so : Sound p) (source : List ℕ) (s : State) (areas : Area
 
 -- any list of events
 module _ (p : Plan) (so : Sound p) (source : List ℕ) where
-  pub run-together : (es : List Event) (s : State) (areas : Areas) → Together Nothing p source s areas
+  pub run-together : (es : List Event) (s : State) (areas : AreasApart) → Together Nothing p source s areas
       → Together Nothing p source (stateAfter (act p source) s es) (stateAfter (actApart p source) areas es)
   unfolding stateAfter
   run-together [] s areas to = to
   run-together (e ∷ es) s areas to = run-together es _ _ (event-together p so source s areas to e)
 
-  pub run-answers : (es : List Event) (s : State) (areas : Areas) → Together Nothing p source s areas → answersTo (actApart p source) areas es
+  pub run-answers : (es : List Event) (s : State) (areas : AreasApart) → Together Nothing p source s areas → answersTo (actApart p source) areas es
       ≡ answersTo (act p source) s es
   unfolding answersTo
   run-answers [] s areas to = refl

@@ -20,7 +20,7 @@ use Rattle.machine.proofs.Values.{offset-apart}
 use Rattle.machine.proofs.Turns.{can-deliver}
 use Rattle.machine.proofs.Progress.{Shape}
 use Rattle.machine.proofs.Kept.{statusOf}
-use Rattle.network.specs.Apart.{Areas, startApart, replaced, senderAt, takerAt, marked, received, sentOff, arrived, carried, deliverApart, actApart}
+use Rattle.network.specs.Apart.{AreasApart, startApart, replaced, senderAt, takerAt, marked, received, sentOff, arrived, carried, deliverApart, actApart}
 use Rattle.network.specs.Apart.{lastApart, lastShared}
 use Rattle.network.specs.Transport.{copied, ByCalls}
 use Rattle.network.proofs.Letters.{replaced-same, replaced-other}
@@ -78,7 +78,7 @@ module _ (p : Plan) (r : State) (m : ℕ) (ws : List ℕ) (lo : m < count p) (sh
   copied-both = both-parts (deliver p (copied p r m ws) m) (received p r m ws) copied-goes copied-leaves
 
 -- who has what once message m is carried
-module _ (p : Plan) (areas : Areas) (m : ℕ) where
+module _ (p : Plan) (areas : AreasApart) (m : ℕ) where
   pub carried-home : senderAt p m ≡ takerAt p m → length (areas (senderAt p m) .buffer) ≡ words p → m < count p → carried p areas m (senderAt p m)
       ≡ marked (areas (senderAt p m)) m
   unfolding carried arrived sentOff
@@ -121,7 +121,7 @@ module _ (p : Plan) (areas : Areas) (m : ℕ) where
   same-number f = first-false 10 _ _ (not-true f)
 
 module _ (p : Plan) (so : Sound p) (source : List ℕ) (events : List Event) (m : ℕ) (lo : m < count p) where
-  abbrev areas : Areas
+  abbrev areas : AreasApart
   areas = lastApart p source events
 
   to : Together Nothing p source (lastShared p source events) areas
@@ -142,7 +142,7 @@ module _ (p : Plan) (so : Sound p) (source : List ℕ) (events : List Event) (m 
       (rw (sender-agrees .shape .buffer) (offset-apart (p .messages) m (count p) lo lo))
 
   by-sender : deliverApart p areas m .number ≡ 0 → deliverApart p areas m .after (senderAt p m) ≡ deliver p (areas (senderAt p m)) m .after
-  by-sender z = ap (λ (x : Areas). x (senderAt p m)) (deliver-after p areas m z) ∙ go (ℕ-discrete (senderAt p m) (takerAt p m))
+  by-sender z = ap (λ (x : AreasApart). x (senderAt p m)) (deliver-after p areas m z) ∙ go (ℕ-discrete (senderAt p m) (takerAt p m))
       ∙ sym (deliver-goes p (areas (senderAt p m)) m (ask ∙ z))
     where
       go : Dec (senderAt p m ≡ takerAt p m) → carried p areas m (senderAt p m) ≡ marked (areas (senderAt p m)) m
@@ -155,14 +155,14 @@ module _ (p : Plan) (so : Sound p) (source : List ℕ) (events : List Event) (m 
   by-taker z n =
       copied-both p (areas (takerAt p m)) m (placeOf p (areas (senderAt p m) .buffer) m) lo (taker-agrees .shape) (taker-agrees .high) length-words
       ∙ ap (λ (x : State). record { number = 0; after = x })
-      (sym (ap (λ (x : Areas). x (takerAt p m)) (deliver-after p areas m z) ∙ carried-taker p areas m n))
+      (sym (ap (λ (x : AreasApart). x (takerAt p m)) (deliver-after p areas m z) ∙ carried-taker p areas m n))
 
   by-others : (c : ℕ) → c ≢ senderAt p m → c ≢ takerAt p m → deliverApart p areas m .after c ≡ areas c
   by-others c n k = go (ℕ-discrete (deliverApart p areas m .number) 0)
     where
       go : Dec (deliverApart p areas m .number ≡ 0) → deliverApart p areas m .after c ≡ areas c
-      go (yes z) = ap (λ (x : Areas). x c) (deliver-after p areas m z) ∙ carried-third p areas m c n k
-      go (no z) = ap (λ (x : Areas). x c) (deliver-stays p areas m z)
+      go (yes z) = ap (λ (x : AreasApart). x c) (deliver-after p areas m z) ∙ carried-third p areas m c n k
+      go (no z) = ap (λ (x : AreasApart). x c) (deliver-stays p areas m z)
 
   pub by-calls : ByCalls p source events m
   unfolding actApart

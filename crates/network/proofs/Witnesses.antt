@@ -9,7 +9,7 @@ use Rattle.base.specs.Tests.{_and_, pick, every, keep, those}
 use Rattle.machine.specs.Plan.{offset}
 use Rattle.machine.specs.Machine.{State, stateOf, tilesLeft, fitRecord, fit, turn}
 use Rattle.machine.specs.Words.{wordAt}
-use Rattle.network.specs.Locality.{Lent, Keeps, SameTo, SameSource, Likewise}
+use Rattle.network.specs.Locality.{PlanLengths, Keeps, SameTo, SameSource, Likewise}
 use Rattle.network.proofs.Computed.{line3, source3}
 use Rattle.network.proofs.Example.{is-local}
 
@@ -24,11 +24,11 @@ unfoldable other : State
 other = stateOf (0 ∷ 0 ∷ 8 ∷ 7 ∷ 7 ∷ 7 ∷ []) (0 ∷ 0 ∷ []) (0 ∷ 1 ∷ 0 ∷ 1 ∷ 0 ∷ 0 ∷ []) (0 ∷ 0 ∷ [])
 
 -- Locality.Lent
-lent : Lent line3 source3 before
+lent : PlanLengths line3 source3 before
 unfolding line3 source3 before offset
 lent = record { source = refl; memories = refl; buffer = refl; progress = refl; status = refl }
 
-lent′ : Lent line3 source other
+lent′ : PlanLengths line3 source other
 unfolding line3 source other offset
 lent′ = record { source = refl; memories = refl; buffer = refl; progress = refl; status = refl }
 

@@ -17,15 +17,15 @@ use Rattle.machine.specs.Runs.{Event, turnOf, deliveryOf, act, total, program, 
 -- ---- the system
 
 -- each processor's own four areas, all of the plan's lengths; no two have a word in common
-abbrev pub Areas : Type 0
-Areas = ℕ → State
+abbrev pub AreasApart : Type 0
+AreasApart = ℕ → State
 
 -- each made its own fresh start
-unfoldable pub startApart : Plan → Areas
+unfoldable pub startApart : Plan → AreasApart
 startApart p b = fresh p
 
 -- processor b's areas are now s, the others' are as they were
-unfoldable pub replaced : Areas → ℕ → State → Areas
+unfoldable pub replaced : AreasApart → ℕ → State → AreasApart
 replaced areas b s c = pick (eqb c b) s (areas c)
 
 -- the processors between which message m goes
@@ -36,7 +36,7 @@ abbrev pub takerAt : Plan → ℕ → ℕ
 takerAt p m = p .processorOf (takerOf p m)
 
 -- a turn of processor b: the machine's turn on b's own areas
-unfoldable pub turnApart : Plan → List ℕ → Areas → ℕ → Answered Areas
+unfoldable pub turnApart : Plan → List ℕ → AreasApart → ℕ → Answered AreasApart
 turnApart p source areas b =
     pick (ltb b (p .processors))
     (record { number = turn p source (areas b) b .number; after = replaced areas b (turn p source (areas b) b .after) })
@@ -51,58 +51,58 @@ abbrev pub received : Plan → State → ℕ → List ℕ → State
 received p s m ws = stateOf (s .memories) (put (s .buffer) (offset (p .messages) m) ws) (s .progress) (set (s .status) m 2)
 
 -- the sender's side of carrying message m, and the taker's side, given the words
-unfoldable pub sentOff : Plan → Areas → ℕ → Areas
+unfoldable pub sentOff : Plan → AreasApart → ℕ → AreasApart
 sentOff p areas m = replaced areas (senderAt p m) (marked (areas (senderAt p m)) m)
 
-unfoldable pub arrived : Plan → Areas → ℕ → List ℕ → Areas
+unfoldable pub arrived : Plan → AreasApart → ℕ → List ℕ → AreasApart
 arrived p areas m ws = replaced areas (takerAt p m) (received p (areas (takerAt p m)) m ws)
 
 -- message m is carried: what lies in its place at the sender's is put into the same place at the taker's
-unfoldable pub carried : Plan → Areas → ℕ → Areas
+unfoldable pub carried : Plan → AreasApart → ℕ → AreasApart
 carried p areas m = arrived p (sentOff p areas m) m (placeOf p (areas (senderAt p m) .buffer) m)
 
 -- it is carried where it is in flight at its sender's
-abbrev pub carryLines : Plan → Areas → ℕ → List Line
+abbrev pub carryLines : Plan → AreasApart → ℕ → List Line
 carryLines p areas m = line 11 (not (ltb m (count p))) ∷ line 14 (not (eqb (getD (areas (senderAt p m) .status) m 0) 1)) ∷ []
 
-unfoldable pub deliverApart : Plan → Areas → ℕ → Answered Areas
+unfoldable pub deliverApart : Plan → AreasApart → ℕ → Answered AreasApart
 deliverApart p areas m = answered (firstOf (carryLines p areas m)) (carried p areas m) areas
 
 -- ---- runs of it, by the events of the machine's runs
 
-unfoldable pub actApart : Plan → List ℕ → Areas → Event → Answered Areas
+unfoldable pub actApart : Plan → List ℕ → AreasApart → Event → Answered AreasApart
 actApart p source areas (turnOf b) = turnApart p source areas b
 actApart p source areas (deliveryOf m) = deliverApart p areas m
 
 -- collecting: each cell from the processor of its tile, out of that processor's own part of its own memories,
 -- once no processor says of itself that it has tiles left
-unfoldable pub assembled : Plan → Areas → List ℕ
+unfoldable pub assembled : Plan → AreasApart → List ℕ
 assembled p areas =
     tabulate (λ c. pick (p .inside c) (getD (memoryOf p (areas (p .processorOf (p .tileOf c))) (p .processorOf (p .tileOf c))) c 0) (p .boundary))
     (p .cells)
 
-unfoldable pub collectApart : Plan → Areas → List ℕ → Answered (List ℕ)
+unfoldable pub collectApart : Plan → AreasApart → List ℕ → Answered (List ℕ)
 collectApart p areas grid = answered (firstOf (line 15 (some (λ b. tilesLeft p (areas b) b) (p .processors)) ∷ [])) (assembled p areas) grid
 
 -- areas joined from the parts: into a fresh start go each processor's own part of its memories and its record
-unfoldable pub joinTo : Plan → Areas → ℕ → State
+unfoldable pub joinTo : Plan → AreasApart → ℕ → State
 joinTo p areas zero = fresh p
 joinTo p areas (suc b) =
     stateOf (put (joinTo p areas b .memories) (b * p .cells) (memoryOf p (areas b) b)) (joinTo p areas b .buffer)
     (setProgress (joinTo p areas b .progress) b (finishedOf (areas b) b) (stageOf (areas b) b) (sentOf (areas b) b)) (joinTo p areas b .status)
 
-abbrev pub joined : Plan → Areas → State
+abbrev pub joined : Plan → AreasApart → State
 joined p areas = joinTo p areas (p .processors)
 
 -- ---- the claim, for `acts` on the processors' own areas beside `shared` on shared ones: the machine's, or any calls that answer alike
 
 -- a turn of processor b that gave 0, after k such turns of b: the action named, carried out by the machine's rule on b's own areas, the others' untouched
-pub record CarriedOutApart (p : Plan) (source : List ℕ) (acts : Areas → Event → Answered Areas) (areas : Areas) (b k : ℕ) : Type 0 where
+pub record CarriedOutApart (p : Plan) (source : List ℕ) (acts : AreasApart → Event → Answered AreasApart) (areas : AreasApart) (b k : ℕ) : Type 0 where
   pub named : k < length (program p b)
   pub by-rule : acts areas (turnOf b) .after ≡ replaced areas b (carryOut p source (areas b) b (getD (program p b) k (gather 0)))
 
-module _ (acts : Areas → Event → Answered Areas) (start : Areas) (events : List Event) where
-  abbrev pub areasAfter : Areas
+module _ (acts : AreasApart → Event → Answered AreasApart) (start : AreasApart) (events : List Event) where
+  abbrev pub areasAfter : AreasApart
   areasAfter = last acts start events
 
   abbrev pub answersApart : List ℕ
@@ -137,7 +137,7 @@ module _ (acts : Areas → Event → Answered Areas) (start : Areas) (events : L
 
 -- ---- of the machine
 
-abbrev pub lastApart : Plan → List ℕ → List Event → Areas
+abbrev pub lastApart : Plan → List ℕ → List Event → AreasApart
 lastApart p source events = areasAfter (actApart p source) (startApart p) events
 
 -- the same events on shared areas

@@ -27,7 +27,7 @@ pub record BoardCalls : Type 0 where
   pub turns : ℕ → State → Answered State
   pub posts : ℕ → State → ℕ → Answered State
   pub reads : ℕ → State → ℕ → List ℕ  -- the words that lie there for message m, which the transport reads when its post gave 0
-  pub takes : ℕ → State → ℕ → List ℕ → Answered State
+  pub accepts : ℕ → State → ℕ → List ℕ → Answered State
 
 -- board b's areas as its call left them, every other board's as they were
 abbrev pub calledAt : Network → ℕ → Answered State → List Packet → Answered Network
@@ -43,7 +43,7 @@ actBoards boards calls n (postAt b m) =
     (n .packets ++ pick (eqb (calls .posts b (n .areas b) m .number) 0) (record { message = m; words = calls .reads b (n .areas b) m } ∷ []) []))
     (record { number = 11; after = n })
 actBoards boards calls n (broughtTo b m ws) =
-    pick (ltb b boards) (calledAt n b (calls .takes b (n .areas b) m ws) (n .packets)) (record { number = 11; after = n })
+    pick (ltb b boards) (calledAt n b (calls .accepts b (n .areas b) m ws) (n .packets)) (record { number = 11; after = n })
 
 -- ---- the machine's: its turn, its delivery, and taking a message in
 
@@ -69,7 +69,7 @@ machineCalls p source =
       turns = λ b s. turn p source s b;
       posts = λ b s m. deliver p s m;
       reads = λ b s m. placeOf p (s .buffer) m;
-      takes = λ b s m ws. takeIn p s b m ws;
+      accepts = λ b s m ws. takeIn p s b m ws;
     }
 
 abbrev pub machineBoards : Plan → List ℕ → Network → BoardEvent → Answered Network

@@ -3,6 +3,6 @@ pub mod Transport
 pub mod Packets
 pub mod Locality
 pub mod Own
-pub mod OwnRuns
+pub mod PartRuns
 pub mod Brought
 pub mod OnBoards

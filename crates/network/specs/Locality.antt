@@ -13,7 +13,7 @@ use Rattle.machine.specs.Words.{wordAt, Outside}
 use Rattle.network.specs.Apart.{senderAt, takerAt}
 
 -- source and areas have their lengths
-pub record Lent (p : Plan) (input : List ℕ) (s : State) : Type 0 where
+pub record PlanLengths (p : Plan) (input : List ℕ) (s : State) : Type 0 where
   pub source : length input ≡ p .cells
   pub memories : length (s .memories) ≡ p .processors * p .cells
   pub buffer : length (s .buffer) ≡ words p
@@ -63,22 +63,22 @@ SameSource p b source source′ = (t c : ℕ) → t < p .tiles → p .processorO
 
 -- two calls of processor b's turn that are: the numbers are the same if both states are fit, or neither is
 pub record Likewise (p : Plan) (source source′ : List ℕ) (s s′ : State) (b : ℕ) : Type 0 where
-  pub lent : Lent p source s
-  pub lent′ : Lent p source′ s′
+  pub lent : PlanLengths p source s
+  pub lent′ : PlanLengths p source′ s′
   pub both-fit : fit p s ≡ fit p s′
   pub same-source : SameSource p b source source′
   pub same-areas : SameTo p b s s′
 
 -- ---- the claim, for anything that takes turns
 pub record Local (p : Plan) (turns : List ℕ → State → ℕ → Answered State) : Type 0 where
-  pub writes : (source : List ℕ) (s : State) (b : ℕ) → Lent p source s → WritesOwn p s (turns source s b .after) b
+  pub writes : (source : List ℕ) (s : State) (b : ℕ) → PlanLengths p source s → WritesOwn p s (turns source s b .after) b
   -- the same number, and the same changes of what is processor b's
   pub same-number : (source source′ : List ℕ) (s s′ : State) (b : ℕ) → Likewise p source source′ s s′ b
       → turns source s b .number ≡ turns source′ s′ b .number
   pub same-changes : (source source′ : List ℕ) (s s′ : State) (b : ℕ) → Likewise p source source′ s s′ b
       → SameTo p b (turns source s b .after) (turns source′ s′ b .after)
   -- a source that has the words of b's own cells alone does as well, all areas alike
-  pub own-source : (source source′ : List ℕ) (s : State) (b : ℕ) → Lent p source s → Lent p source′ s → SameSource p b source source′
+  pub own-source : (source source′ : List ℕ) (s : State) (b : ℕ) → PlanLengths p source s → PlanLengths p source′ s → SameSource p b source source′
       → turns source s b ≡ turns source′ s b
 
 -- a plan whose values read of the source the word of their own cell

@@ -13,7 +13,7 @@ use Rattle.machine.specs.Plan.{Plan, count, heldBy}
 use Rattle.machine.specs.Machine.{State, Answered, gather, memoryOf, tilesLeft, carryOut, sweep}
 use Rattle.machine.specs.Runs.{Event, turnOf, deliveryOf, stateAfter, answersTo, total, program, turnsOf, deliveriesOf, last, answers, steps, stepsIn}
 use Rattle.machine.specs.Runs.{Once, Collects}
-use Rattle.network.specs.Apart.{Areas, replaced, senderAt, takerAt, joined}
+use Rattle.network.specs.Apart.{AreasApart, replaced, senderAt, takerAt, joined}
 use Rattle.network.specs.Packets.{Packet, packetAt, Network}
 use Rattle.network.specs.Brought.{BoardEvent, turnAt, postAt, broughtTo, Carries}
 

@@ -12,7 +12,7 @@ use Rattle.base.specs.Lists.{put, member, unpack, pack}
 use Rattle.machine.specs.Plan.{Plan, count, heldBy, offset}
 use Rattle.machine.specs.Machine.{State, stateOf, finishedOf, stageOf, sentOf, setProgress, memoryOf, placeOf, fit, Answered, fresh}
 use Rattle.network.specs.Apart.{senderAt, takerAt}
-use Rattle.network.specs.Locality.{Lent}
+use Rattle.network.specs.Locality.{PlanLengths}
 
 -- ---- what is processor b's, as Locality has it, each in index order
 
@@ -89,6 +89,6 @@ turnOwn p turns ws b o =
 
 -- the claim: in every fit state a turn, seen from the processor's part, is the turn on that part
 pub record OwnPart (p : Plan) (turns : List ℕ → State → ℕ → Answered State) : Type 0 where
-  pub same-turn : (source : List ℕ) (s : State) (b : ℕ) → b < p .processors → Lent p source s → fit p s ≡ true
+  pub same-turn : (source : List ℕ) (s : State) (b : ℕ) → b < p .processors → PlanLengths p source s → fit p s ≡ true
       → turnOwn p turns (pack source (ownCells p b)) b (narrowed p b s)
       ≡ record { number = turns source s b .number; after = narrowed p b (turns source s b .after) }

@@ -12,7 +12,7 @@ use Rattle.base.specs.Numbers.{Line, line, firstOf}
 use Rattle.machine.specs.Plan.{Plan, count, heldBy}
 use Rattle.machine.specs.Machine.{State, finishedOf, stageOf, sentOf, memoryOf, placeOf, Answered, answered, collect, fresh, sweep}
 use Rattle.machine.specs.Runs.{Event, turnOf, deliveryOf, act, total, steps, last, Collects, Demand3}
-use Rattle.network.specs.Apart.{Areas, startApart, senderAt, takerAt, turnApart, sentOff, arrived, joined, collectApart}
+use Rattle.network.specs.Apart.{AreasApart, startApart, senderAt, takerAt, turnApart, sentOff, arrived, joined, collectApart}
 
 -- a message's number and its words as they were when it was posted
 pub record Packet : Type 0 where
@@ -21,16 +21,16 @@ pub record Packet : Type 0 where
 
 -- the processors' own areas, and every packet ever posted: none is removed, so each may arrive at any time, more than once, or never
 pub record Network : Type 0 where
-  pub areas : Areas
+  pub areas : AreasApart
   pub packets : List Packet
 
-abbrev pub networkOf : Areas → List Packet → Network
+abbrev pub networkOf : AreasApart → List Packet → Network
 networkOf areas packets = record { areas = areas; packets = packets }
 
 abbrev pub packetAt : List Packet → ℕ → Packet
 packetAt packets k = getD packets k (record { message = 0; words = [] })
 
-abbrev pub statusAt : Areas → ℕ → ℕ → ℕ
+abbrev pub statusAt : AreasApart → ℕ → ℕ → ℕ
 statusAt areas b m = getD (areas b .status) m 0
 
 -- a turn of a processor, the posting of a message, the arrival of the k-th packet
@@ -38,7 +38,7 @@ pub data NetworkEvent : Type 0 where
   turnBy postOf arrivalOf : ℕ → NetworkEvent
 
 -- what is posted of message m: nothing where its taker is its sender's own processor
-unfoldable pub posted : Plan → Areas → ℕ → List Packet
+unfoldable pub posted : Plan → AreasApart → ℕ → List Packet
 posted p areas m = pick (eqb (senderAt p m) (takerAt p m)) [] (record { message = m; words = placeOf p (areas (senderAt p m) .buffer) m } ∷ [])
 
 -- it is posted where it is in flight at its sender's, and is delivered from then on as far as the sender knows

@@ -10,7 +10,7 @@ use Rattle.base.specs.Lists.{put}
 use Rattle.machine.specs.Plan.{Plan, offset}
 use Rattle.machine.specs.Machine.{State, stateOf, placeOf, Answered, deliver}
 use Rattle.machine.specs.Runs.{Event, deliveryOf}
-use Rattle.network.specs.Apart.{Areas, senderAt, takerAt, actApart, lastApart}
+use Rattle.network.specs.Apart.{AreasApart, senderAt, takerAt, actApart, lastApart}
 
 -- these words are copied into the place of message m, and its status is 1, in flight
 abbrev pub copied : Plan → State → ℕ → List ℕ → State
@@ -18,7 +18,7 @@ copied p s m ws = stateOf (s .memories) (put (s .buffer) (offset (p .messages) m
 
 module _ (p : Plan) (source : List ℕ) (events : List Event) (m : ℕ) where
   -- the delivery of message m after these events
-  abbrev pub delivery : Answered Areas
+  abbrev pub delivery : Answered AreasApart
   delivery = actApart p source (lastApart p source events) (deliveryOf m)
 
   abbrev pub atSender : State

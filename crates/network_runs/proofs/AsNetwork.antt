@@ -27,14 +27,14 @@ use Rattle.nest.specs.declared.Nest.{Nest}
 use Rattle.nest.specs.Reader.{nestOf}
 use Rattle.plan.specs.Geometry.{value}
 use Rattle.plan.specs.Shaped.{shapedValue, planOf}
-use Rattle.layout.specs.Sizes.{routeOf}
+use Rattle.layout.specs.RouteWords.{routeOf}
 use Rattle.recipe.specs.Routes.{linesFor}
 use Rattle.recipe.proofs.Laws.{numbered-for}
-use Rattle.network.specs.Apart.{Areas, replaced, senderAt, takerAt, marked, received, sentOff, arrived, carried, turnApart, deliverApart, actApart}
+use Rattle.network.specs.Apart.{AreasApart, replaced, senderAt, takerAt, marked, received, sentOff, arrived, carried, turnApart, deliverApart, actApart}
 use Rattle.network.specs.Transport.{copied}
 use Rattle.network.specs.Packets.{Packet, Network, networkOf, packetAt, NetworkEvent, turnBy, postOf, arrivalOf, posted, post, arrivalLines, arrive}
 use Rattle.network.specs.Packets.{turnNetwork, actNetwork}
-use Rattle.network.specs.Locality.{Lent, SameSource, ReadsOwnWord}
+use Rattle.network.specs.Locality.{PlanLengths, SameSource, ReadsOwnWord}
 use Rattle.network.proofs.Letters.{replaced-same, replaced-other, replaced-own, words-fit}
 use Rattle.network.proofs.Transport.{both-parts, copied-both, carried-home, carried-third, deliver-goes, deliver-after, deliver-stays, same-number}
 use Rattle.network.proofs.Network.{some-answer, post-zero, post-some, arrive-zero, arrive-some, arrive-asks}
@@ -65,13 +65,13 @@ answer-is {A} x k r e f = number-part (x .number) e ∙ ap (λ (y : A). record {
     number-part : (i : ℕ) → i ≡ k → _≡_ {A = Answered A} (record { number = i; after = x .after }) (record { number = k; after = x .after })
     number-part i q = rw q
 
-sent-other : (p : Plan) (a : Areas) (m c : ℕ) → c ≢ senderAt p m → sentOff p a m c ≡ a c
+sent-other : (p : Plan) (a : AreasApart) (m c : ℕ) → c ≢ senderAt p m → sentOff p a m c ≡ a c
 unfolding sentOff
 sent-other p a m c n = replaced-other a (senderAt p m) _ c n
 
 -- ---- numbers that are no message's
 module _ (p : Plan) where
-  none-apart : (a : Areas) (m : ℕ) → count p ≤ m → deliverApart p a m ≡ record { number = 11; after = a }
+  none-apart : (a : AreasApart) (m : ℕ) → count p ≤ m → deliverApart p a m ≡ record { number = 11; after = a }
   unfolding deliverApart
   none-apart a m h =
       ap (λ (k : ℕ). answered k (carried p a m) a) (first-true 11 _ _ (not-false (le-ltb m (count p) h))) ∙ some-answer 11 _ _ (λ z. omega arith)
@@ -84,7 +84,7 @@ module _ (p : Plan) where
       ∙ some-answer 11 _ _ (λ z. omega arith)
 
 module _ (bytes : List ℕ) (route : ℕ) (sources : Sources) where
-  none-here : (a : Areas) (m : ℕ) → count (recipe bytes route) ≤ m → deliverByCalls bytes route sources a m ≡ record { number = 11; after = a }
+  none-here : (a : AreasApart) (m : ℕ) → count (recipe bytes route) ≤ m → deliverByCalls bytes route sources a m ≡ record { number = 11; after = a }
   unfolding deliverByCalls
   none-here a m h = pick-false _ _ _ (le-ltb m (count (recipe bytes route)) h)
 
@@ -92,7 +92,8 @@ module _ (bytes : List ℕ) (route : ℕ) (sources : Sources) where
   unfolding postByCall
   none-post n m h = pick-false _ _ _ (le-ltb m (count (recipe bytes route)) h)
 
-pub lent-areas : (bytes : List ℕ) (route : ℕ) (source : List ℕ) (s : State) → Lent (recipe bytes route) source s → areas (recipe bytes route) source s ≡ true
+pub lent-areas : (bytes : List ℕ) (route : ℕ) (source : List ℕ) (s : State) → PlanLengths (recipe bytes route) source s → areas (recipe bytes route) source s ≡
+    true
 unfolding areas
 lent-areas bytes route source s le =
     and-true (eq-eqb _ _ (le .source))
@@ -156,7 +157,7 @@ module _ (bytes : List ℕ) (route : ℕ) (ok : firstOf (linesFor (routeOf route
   -- ---- the processors' own: each source has its processor's words of the whole one
   module _ (source : List ℕ) (sources : Sources) (long : (b : ℕ) → b < p .processors → length (sources b) ≡ p .cells)
       (own : (b : ℕ) → b < p .processors → SameSource p b (sources b) source) where
-    module _ (a : Areas) (fine : Fine p a) where
+    module _ (a : AreasApart) (fine : Fine p a) where
       -- ---- a turn
       pub turn-as : (b : ℕ) → b < p .processors → turnCall bytes route (sources b) (a b) b ≡ turn p source (a b) b
       turn-as b h =
@@ -212,13 +213,13 @@ module _ (bytes : List ℕ) (route : ℕ) (ok : firstOf (linesFor (routeOf route
             (rw (fine .shape from from-low .buffer) (offset-apart (p .messages) m (count p) lo lo))
 
     -- ---- delivery as one event
-    module _ (a : Areas) (fine : Fine p a) where
+    module _ (a : AreasApart) (fine : Fine p a) where
       module _ (m : ℕ) (lo : m < count p) where
         abbrev ws : List ℕ
         ws = placeOf p (a (senderAt p m) .buffer) m
 
         -- what the two calls leave, by the first one's answer
-        unfoldable left : Answered State → Answered Areas
+        unfoldable left : Answered State → Answered AreasApart
         left x =
             record {
               number = x .number;
@@ -261,7 +262,7 @@ module _ (bytes : List ℕ) (route : ℕ) (ok : firstOf (linesFor (routeOf route
         unfolding left _and_ sentOff
         zero-as z =
             ap left (gone a fine m lo z)
-            ∙ ap (λ (x : Areas). record { number = 0; after = x }) (go (ℕ-discrete (senderAt p m) (takerAt p m)))
+            ∙ ap (λ (x : AreasApart). record { number = 0; after = x }) (go (ℕ-discrete (senderAt p m) (takerAt p m)))
           where
             go : Dec (senderAt p m ≡ takerAt p m)
                 → pick (not (eqb (senderAt p m) (takerAt p m))) (takenIn bytes route sources (sentOff p a m) m ws) (sentOff p a m) ≡ carried p a m
@@ -273,7 +274,7 @@ module _ (bytes : List ℕ) (route : ℕ) (ok : firstOf (linesFor (routeOf route
         unfolding left
         some-as n =
             ap left (deliver-refused p (a (senderAt p m)) m n)
-            ∙ ap (λ (x : Areas). record { number = deliver p (a (senderAt p m)) m .number; after = x })
+            ∙ ap (λ (x : AreasApart). record { number = deliver p (a (senderAt p m)) m .number; after = x })
             (pick-false _ _ _ (and-false _ _ (ne-eqb _ 0 n)) ∙ replaced-own a (senderAt p m))
 
         low-same : deliverByCalls bytes route sources a m ≡ deliverApart p a m
@@ -329,7 +330,7 @@ module _ (bytes : List ℕ) (route : ℕ) (ok : firstOf (linesFor (routeOf route
             ∙ same-parts (deliver p (n .areas (senderAt p m)) m .number) (replaced-own (n .areas) (senderAt p m))
             (ap (λ (l : List Packet). n .packets ++ l) (pick-false _ _ _ (ne-eqb _ 0 k)) ∙ append-nil (n .packets))
           where
-            same-parts : (x : ℕ) {a b : Areas} {k l : List Packet} → a ≡ b → k ≡ l
+            same-parts : (x : ℕ) {a b : AreasApart} {k l : List Packet} → a ≡ b → k ≡ l
                 → _≡_ {A = Answered Network} (record { number = x; after = networkOf a k }) (record { number = x; after = networkOf b l })
             same-parts x e f = rw (e, f)
 
@@ -382,6 +383,6 @@ module _ (bytes : List ℕ) (route : ℕ) (ok : firstOf (linesFor (routeOf route
       pub network-same : (e : NetworkEvent) → callsNetwork bytes route sources n e ≡ actNetwork p source n e
       unfolding callsNetwork actNetwork turnNetwork
       network-same (turnBy b) =
-          ap (λ (x : Answered Areas). record { number = x .number; after = networkOf (x .after) (n .packets) }) (turn-same (n .areas) (fo .areas) b)
+          ap (λ (x : Answered AreasApart). record { number = x .number; after = networkOf (x .after) (n .packets) }) (turn-same (n .areas) (fo .areas) b)
       network-same (postOf m) = post-same m
       network-same (arrivalOf k) = arrive-same k

@@ -16,13 +16,13 @@ use Rattle.machine.specs.Machine.{State, memoryOf, fit, answered, sweep, tilesL
 use Rattle.machine.proofs.Values.{table-is, sweep-outside}
 use Rattle.nest.specs.Reader.{nestOf}
 use Rattle.plan.proofs.ShapedSound.{sound}
-use Rattle.layout.specs.Sizes.{routeOf}
+use Rattle.layout.specs.RouteWords.{routeOf}
 use Rattle.recipe.specs.Routes.{linesFor}
 use Rattle.recipe.proofs.Laws.{numbered-for}
 use Rattle.engine.specs.Calls.{recipe, areas, collectCall}
 use Rattle.engine.specs.Demands.{calls}
 use Rattle.engine.proofs.AsSteps.{deliver-is}
-use Rattle.network.specs.Apart.{Areas, startApart, assembled, received}
+use Rattle.network.specs.Apart.{AreasApart, startApart, assembled, received}
 use Rattle.network.specs.Packets.{Network, startNetwork}
 use Rattle.network.specs.Locality.{ReadsOwnWord}
 use Rattle.network.specs.Own.{handles}
@@ -31,15 +31,15 @@ use Rattle.network.specs.OnBoards.{whole, boardsAfter, OnBoards, OnWholeAreas}
 use Rattle.network.proofs.Network.{Follows}
 use Rattle.network.proofs.Brought.{Away}
 use Rattle.network.proofs.Fine.{follows-fine, fine-fit}
-use Rattle.network.proofs.OwnRuns.{lent-here, fit-here}
+use Rattle.network.proofs.PartRuns.{lent-here, fit-here}
 use Rattle.network.proofs.OnBoards.{Seen, Answers, on-boards, on-whole-areas, follows-there, machine-there, seen-there, at-the-end, none-left, part-right}
 use Rattle.network.proofs.Collected.{in-any-order}
 use Rattle.transport.specs.Calls.{takeInCall}
 use Rattle.transport.specs.Holds.{comesTo, Comes}
-use Rattle.part_calls.specs.front.Calls.{narrow}
+use Rattle.part_calls.specs.front.Calls.{toPart}
 use Rattle.network_runs.specs.Calls.{Sources, startCalls, startNetworkCalls}
 use Rattle.network_runs.specs.Demands.{Begun}
-use Rattle.network_runs.specs.part.Runs.{OwnSources, ownStart}
+use Rattle.network_runs.specs.part.Runs.{PartSources, partStart}
 use Rattle.network_runs.specs.part.Demands.{BegunApart}
 use Rattle.network_runs.specs.Boards.{wholeCalls, wholeBoards, partCalls, partBoards, partsAfter, partSteps, OnParts, BoardDemands}
 use Rattle.network_runs.proofs.AsNetwork.{own-word, shape-areas, turn-as, shared-like}
@@ -61,7 +61,7 @@ take-is bytes route source s ok a b m ws =
     (and-left _ (asLong (recipe bytes route) m ws) a))
 
 -- ---- whole areas
-module _ (bytes : List ℕ) (route : ℕ) (source : List ℕ) (sources : Sources) (lent : Areas) (bg : Begun bytes route source sources lent) where
+module _ (bytes : List ℕ) (route : ℕ) (source : List ℕ) (sources : Sources) (lent : AreasApart) (bg : Begun bytes route source sources lent) where
   abbrev p : Plan
   p = recipe bytes route
 
@@ -80,7 +80,7 @@ module _ (bytes : List ℕ) (route : ℕ) (source : List ℕ) (sources : Sources
             deliver-is bytes route (sources b) (n .areas b) (bg .accepted)
             (shape-areas bytes route (bg .accepted) so (sources b) (n .areas b) (long b h) (fine .shape b h)) m;
         reads = λ b m h lo e. refl;
-        takes = λ b m ws h.
+        accepts = λ b m ws h.
             take-is bytes route (sources b) (n .areas b) (bg .accepted)
             (shape-areas bytes route (bg .accepted) so (sources b) (n .areas b) (long b h) (fine .shape b h)) b m ws;
       }
@@ -123,7 +123,7 @@ module _ (bytes : List ℕ) (route : ℕ) (source : List ℕ) (sources : Sources
         }
 
 -- ---- own parts
-module _ (bytes : List ℕ) (route : ℕ) (source : List ℕ) (sources : OwnSources) (lent : Areas) (bg : BegunApart bytes route source sources lent) where
+module _ (bytes : List ℕ) (route : ℕ) (source : List ℕ) (sources : PartSources) (lent : AreasApart) (bg : BegunApart bytes route source sources lent) where
   abbrev plan : Plan
   plan = recipe bytes route
 
@@ -133,7 +133,7 @@ module _ (bytes : List ℕ) (route : ℕ) (source : List ℕ) (sources : OwnSour
   pub reads-own : ReadsOwnWord plan
   reads-own = own-word (routeOf route) (nestOf bytes)
 
-  pub part-alike : (s : State) (n : Network) → Follows plan source s n → Answers plan source (narrow plan) (partCalls bytes route sources) (n .areas)
+  pub part-alike : (s : State) (n : Network) → Follows plan source s n → Answers plan source (toPart plan) (partCalls bytes route sources) (n .areas)
   unfolding handles
   part-alike s n fo =
       let le = lent-here plan sound-plan reads-own source (bg .whole) s n fo in
@@ -144,42 +144,42 @@ module _ (bytes : List ℕ) (route : ℕ) (source : List ℕ) (sources : OwnSour
             post-any bytes route (bg .accepted) b h source (n .areas b) (le b h) (f b h) m
             (λ lo q. fo .to .each b h .letters m lo (λ z. z) .only-own q);
         reads = λ b m h lo e. words-in plan b h source (n .areas b) (le b h) m lo (or-left _ (eq-eqb _ _ e));
-        takes = λ b m ws h. arrive-any bytes route (bg .accepted) b h source (n .areas b) (le b h) (f b h) m ws;
+        accepts = λ b m ws h. arrive-any bytes route (bg .accepted) b h source (n .areas b) (le b h) (f b h) m ws;
       }
 
-  pub part-begins : Seen plan (narrow plan) (startApart plan) (ownStart bytes route lent .areas)
-  unfolding ownStart startApart
+  pub part-begins : Seen plan (toPart plan) (startApart plan) (partStart bytes route lent .areas)
+  unfolding partStart startApart
   part-begins b h = fresh-leaves bytes route (bg .accepted) b h (lent b) (bg .gave b h)
 
-  pub no-packets : ownStart bytes route lent .packets ≡ []
-  unfolding ownStart
+  pub no-packets : partStart bytes route lent .packets ≡ []
+  unfolding partStart
   no-packets = refl
 
-  module _ (events : List BoardEvent) (k : Carries (partBoards bytes route sources) (ownStart bytes route lent) events) where
+  module _ (events : List BoardEvent) (k : Carries (partBoards bytes route sources) (partStart bytes route lent) events) where
     abbrev away : Away plan
     away = whole-run.away bytes route (bg .small) (bg .accepted)
 
-    on-all-parts : OnBoards (partBoards bytes route sources) (ownStart bytes route lent) events plan source
+    on-all-parts : OnBoards (partBoards bytes route sources) (partStart bytes route lent) events plan source
     on-all-parts =
-        on-boards plan sound-plan away source (narrow plan) (partCalls bytes route sources) part-alike (ownStart bytes route lent) no-packets part-begins
+        on-boards plan sound-plan away source (toPart plan) (partCalls bytes route sources) part-alike (partStart bytes route lent) no-packets part-begins
         events k
 
-    abbrev there : Areas
+    abbrev there : AreasApart
     there = boardsAfter (machineBoards plan source) (startNetwork plan) events .areas
 
     fo : (t : State) × Follows plan source t (boardsAfter (machineBoards plan source) (startNetwork plan) events)
     fo =
-        machine-there plan sound-plan away source (narrow plan) (partCalls bytes route sources) part-alike (ownStart bytes route lent) no-packets part-begins
+        machine-there plan sound-plan away source (toPart plan) (partCalls bytes route sources) part-alike (partStart bytes route lent) no-packets part-begins
         events k
 
-    same : Seen plan (narrow plan) there (partsAfter bytes route source sources lent events .areas)
+    same : Seen plan (toPart plan) there (partsAfter bytes route source sources lent events .areas)
     same =
-        seen-there plan sound-plan away source (narrow plan) (partCalls bytes route sources) part-alike (ownStart bytes route lent) no-packets part-begins
+        seen-there plan sound-plan away source (toPart plan) (partCalls bytes route sources) part-alike (partStart bytes route lent) no-packets part-begins
         events k
 
     finished : partSteps bytes route source sources lent events ≡ whole plan → (b : ℕ) → b < plan .processors → tilesLeft plan (there b) b ≡ false
     finished =
-        none-left plan sound-plan away source (narrow plan) (partCalls bytes route sources) part-alike (ownStart bytes route lent) no-packets part-begins
+        none-left plan sound-plan away source (toPart plan) (partCalls bytes route sources) part-alike (partStart bytes route lent) no-packets part-begins
         events k
 
     -- whole areas put together are the sweep
@@ -207,7 +207,7 @@ module _ (bytes : List ℕ) (route : ℕ) (source : List ℕ) (sources : OwnSour
               rw (same b h)
               (collecting.collected-right bytes route (bg .accepted) sound-plan reads-own source (bg .whole) (fo .0) _ (fo .1) b h old (rw (same b h) at z));
           then-all = λ f.
-              at-the-end plan sound-plan away source (narrow plan) (partCalls bytes route sources) part-alike (ownStart bytes route lent) no-packets
+              at-the-end plan sound-plan away source (toPart plan) (partCalls bytes route sources) part-alike (partStart bytes route lent) no-packets
               part-begins events k
               (λ b h. collecting.none-left bytes route (bg .accepted) sound-plan reads-own source (bg .whole) (fo .0) _ (fo .1) b h (f b h .0)
               (rw (same b h) at (f b h .1)));

@@ -20,13 +20,13 @@ use Rattle.plan.specs.declared.Route.{Route}
 use Rattle.plan.specs.declared.Route.the-variants.{Indirect}
 use Rattle.plan.specs.Shaped.{planOf}
 use Rattle.plan.proofs.ShapedSound.{sound}
-use Rattle.layout.specs.Sizes.{routeOf}
+use Rattle.layout.specs.RouteWords.{routeOf}
 use Rattle.recipe.specs.Routes.{linesFor}
 use Rattle.recipe.proofs.Laws.{reads-for, numbered-for}
-use Rattle.network.specs.Apart.{Areas, startApart, senderAt, takerAt, Demand3Apart}
+use Rattle.network.specs.Apart.{AreasApart, startApart, senderAt, takerAt, Demand3Apart}
 use Rattle.network.specs.Packets.{NetworkEvent, ByPackets}
-use Rattle.network.specs.Locality.{Lent, Local}
-use Rattle.network.specs.OwnRuns.{OwnRun}
+use Rattle.network.specs.Locality.{PlanLengths, Local}
+use Rattle.network.specs.PartRuns.{PartRun}
 use Rattle.network.proofs.Agrees.{Nothing}
 use Rattle.network.proofs.Together.{Together, start-together}
 use Rattle.network.proofs.Theorem.{demand3-apart}
@@ -35,7 +35,7 @@ use Rattle.network.proofs.PacketTheorem.{by-packets}
 use Rattle.network.proofs.Locality.{local, local-as, refusing-local}
 use Rattle.network.proofs.Fine.{together-fine, follows-fine}
 use Rattle.network.proofs.Own.{own-part}
-use Rattle.network.proofs.OwnRuns.{own-run}
+use Rattle.network.proofs.PartRuns.{own-run}
 use Rattle.engine.specs.Calls.{recipe, areaLines, freshCall, turnCall, collectCall}
 use Rattle.engine.specs.Demands.{calls}
 use Rattle.engine.proofs.Lines.{areas-are}
@@ -50,7 +50,7 @@ use Rattle.network_runs.proofs.AsNetwork.{own-word, lent-areas, shared-
 nest-of : (bytes : List ℕ) (route : ℕ) → Bytes bytes → firstOf (linesFor (routeOf route) bytes) ≡ 0 → Accepted (nestOf bytes)
 nest-of bytes route small z = accepted bytes small (reads-for (routeOf route) bytes z)
 
-module _ (bytes : List ℕ) (route : ℕ) (source : List ℕ) (sources : Sources) (lent : Areas) (bg : Begun bytes route source sources lent) where
+module _ (bytes : List ℕ) (route : ℕ) (source : List ℕ) (sources : Sources) (lent : AreasApart) (bg : Begun bytes route source sources lent) where
   abbrev p : Plan
   p = recipe bytes route
 
@@ -94,7 +94,7 @@ module _ (bytes : List ℕ) (route : ℕ) (source : List ℕ) (sources : Sources
       (shared-like bytes route (bg .accepted) so source (bg .whole))
 
   parts : (events : List NetworkEvent)
-      → OwnRun p (callsNetwork bytes route sources) (startNetworkCalls bytes route sources lent) events
+      → PartRun p (callsNetwork bytes route sources) (startNetworkCalls bytes route sources lent) events
   parts =
       own-run p so (own-word (routeOf route) (nestOf bytes)) source (bg .whole) (callsNetwork bytes route sources)
       (network-same bytes route (bg .accepted) so source sources long (bg .own)) (startNetworkCalls bytes route sources lent) follows
@@ -135,7 +135,7 @@ module _ (bytes : List ℕ) (route : ℕ) where
 -- ---- a fresh start in areas of their lengths gives 0
 module _ (bytes : List ℕ) (route : ℕ) (source : List ℕ) (small : Bytes bytes) (z : firstOf (linesFor (routeOf route) bytes) ≡ 0)
     (long : length source ≡ recipe bytes route .cells) where
-  fresh-lent : Lent (recipe bytes route) source (fresh (recipe bytes route))
+  fresh-lent : PlanLengths (recipe bytes route) source (fresh (recipe bytes route))
   fresh-lent =
       let sh = inv-fresh (recipe bytes route) source .shape in
       record { source = long; memories = sh .memories; buffer = sh .buffer; progress = sh .progress; status = sh .status }

@@ -25,7 +25,7 @@ use Rattle.plan.specs.declared.Route.the-variants.{Direct, Indirect}
 use Rattle.plan.specs.Shaped.{planOf}
 use Rattle.plan.proofs.ShapedBox.{planOf-box}
 use Rattle.plan.proofs.ShapedSound.{sound}
-use Rattle.layout.specs.Sizes.{routeOf}
+use Rattle.layout.specs.RouteWords.{routeOf}
 use Rattle.recipe.specs.Routes.{linesFor}
 use Rattle.recipe.proofs.Laws.{indirect-box}
 use Rattle.engine.specs.Calls.{answer, recipe}

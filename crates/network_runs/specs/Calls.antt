@@ -10,7 +10,7 @@ use Rattle.base.specs.Numbers.{firstOf}
 use Rattle.machine.specs.Plan.{count}
 use Rattle.machine.specs.Machine.{State, placeOf, Answered}
 use Rattle.machine.specs.Runs.{Event, turnOf, deliveryOf}
-use Rattle.network.specs.Apart.{Areas, replaced, senderAt, takerAt}
+use Rattle.network.specs.Apart.{AreasApart, replaced, senderAt, takerAt}
 use Rattle.network.specs.Transport.{copied}
 use Rattle.network.specs.Packets.{Network, networkOf, packetAt, NetworkEvent, turnBy, postOf, arrivalOf, posted, arrivalLines}
 use Rattle.engine.specs.Calls.{recipe, freshCall, turnCall, deliverCall}
@@ -20,11 +20,11 @@ abbrev pub Sources : Type 0
 Sources = ℕ → List ℕ
 
 -- each processor's fresh start, in the areas that it is lent
-unfoldable pub startCalls : List ℕ → ℕ → Sources → Areas → Areas
+unfoldable pub startCalls : List ℕ → ℕ → Sources → AreasApart → AreasApart
 startCalls bytes route sources lent b = freshCall bytes route (sources b) (lent b) .after
 
 -- a turn of processor b is the call on its own areas
-unfoldable pub turnByCall : List ℕ → ℕ → Sources → Areas → ℕ → Answered Areas
+unfoldable pub turnByCall : List ℕ → ℕ → Sources → AreasApart → ℕ → Answered AreasApart
 turnByCall bytes route sources areas b =
     pick (ltb b (recipe bytes route .processors))
     (record {
@@ -36,24 +36,24 @@ turnByCall bytes route sources areas b =
 -- ---- message m
 
 -- at its sender's: the delivery call
-abbrev pub handsOver : List ℕ → ℕ → Sources → Areas → ℕ → Answered State
+abbrev pub handsOver : List ℕ → ℕ → Sources → AreasApart → ℕ → Answered State
 handsOver bytes route sources areas m =
     deliverCall bytes route (sources (senderAt (recipe bytes route) m)) (areas (senderAt (recipe bytes route) m)) m
 
-abbrev pub handedOver : List ℕ → ℕ → Sources → Areas → ℕ → Areas
+abbrev pub handedOver : List ℕ → ℕ → Sources → AreasApart → ℕ → AreasApart
 handedOver bytes route sources areas m = replaced areas (senderAt (recipe bytes route) m) (handsOver bytes route sources areas m .after)
 
 -- at its taker's: words and status 1 are copied there, then the same call
-abbrev pub takesIn : List ℕ → ℕ → Sources → Areas → ℕ → List ℕ → Answered State
+abbrev pub takesIn : List ℕ → ℕ → Sources → AreasApart → ℕ → List ℕ → Answered State
 takesIn bytes route sources areas m ws =
     deliverCall bytes route (sources (takerAt (recipe bytes route) m))
     (copied (recipe bytes route) (areas (takerAt (recipe bytes route) m)) m ws) m
 
-abbrev pub takenIn : List ℕ → ℕ → Sources → Areas → ℕ → List ℕ → Areas
+abbrev pub takenIn : List ℕ → ℕ → Sources → AreasApart → ℕ → List ℕ → AreasApart
 takenIn bytes route sources areas m ws = replaced areas (takerAt (recipe bytes route) m) (takesIn bytes route sources areas m ws .after)
 
 -- ---- delivery as one event: the sender's call, and where it gave 0 and the taker is another processor, the taker's on the words in the sender's place
-unfoldable pub deliverByCalls : List ℕ → ℕ → Sources → Areas → ℕ → Answered Areas
+unfoldable pub deliverByCalls : List ℕ → ℕ → Sources → AreasApart → ℕ → Answered AreasApart
 deliverByCalls bytes route sources areas m =
     pick (ltb m (count (recipe bytes route)))
     (record {
@@ -65,7 +65,7 @@ deliverByCalls bytes route sources areas m =
     })
     (record { number = 11; after = areas })
 
-unfoldable pub callsApart : List ℕ → ℕ → Sources → Areas → Event → Answered Areas
+unfoldable pub callsApart : List ℕ → ℕ → Sources → AreasApart → Event → Answered AreasApart
 callsApart bytes route sources areas (turnOf b) = turnByCall bytes route sources areas b
 callsApart bytes route sources areas (deliveryOf m) = deliverByCalls bytes route sources areas m
 
@@ -99,5 +99,5 @@ callsNetwork bytes route sources n (turnBy b) =
 callsNetwork bytes route sources n (postOf m) = postByCall bytes route sources n m
 callsNetwork bytes route sources n (arrivalOf k) = arriveByCall bytes route sources n k
 
-abbrev pub startNetworkCalls : List ℕ → ℕ → Sources → Areas → Network
+abbrev pub startNetworkCalls : List ℕ → ℕ → Sources → AreasApart → Network
 startNetworkCalls bytes route sources lent = networkOf (startCalls bytes route sources lent) []

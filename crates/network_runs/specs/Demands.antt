@@ -13,20 +13,20 @@ use Rattle.machine.specs.Machine.{fresh}
 use Rattle.machine.specs.Runs.{Event}
 use Rattle.nest.specs.Reader.{nestOf}
 use Rattle.plan.specs.declared.Route.the-variants.{Indirect}
-use Rattle.layout.specs.Sizes.{routeOf}
+use Rattle.layout.specs.RouteWords.{routeOf}
 use Rattle.recipe.specs.Routes.{linesFor}
-use Rattle.network.specs.Apart.{Areas, senderAt, takerAt, Demand3Apart}
+use Rattle.network.specs.Apart.{AreasApart, senderAt, takerAt, Demand3Apart}
 use Rattle.network.specs.Packets.{NetworkEvent, mailed, ByPackets}
 use Rattle.network.specs.Locality.{SameSource, Local}
 use Rattle.network.specs.Own.{OwnPart}
-use Rattle.network.specs.OwnRuns.{OwnRun}
+use Rattle.network.specs.PartRuns.{PartRun}
 use Rattle.engine.specs.Calls.{recipe, freshCall, turnCall, collectCall}
 use Rattle.engine.specs.Demands.{calls}
 use Rattle.network_runs.specs.Calls.{Sources, startCalls, callsApart, callsNetwork, startNetworkCalls}
 use Rattle.network_runs.specs.Neighbours.{NextAlong}
 
 -- one recipe and one route for all; each processor's own source has the words of its own cells, as the whole source has them, and its fresh start gave 0
-pub record Begun (bytes : List ℕ) (route : ℕ) (source : List ℕ) (sources : Sources) (lent : Areas) : Type 0 where
+pub record Begun (bytes : List ℕ) (route : ℕ) (source : List ℕ) (sources : Sources) (lent : AreasApart) : Type 0 where
   pub small : Bytes bytes
   pub accepted : firstOf (linesFor (routeOf route) bytes) ≡ 0
   pub whole : length source ≡ recipe bytes route .cells
@@ -39,11 +39,11 @@ pub record ApartDemands : Type 0 where
       → length source ≡ recipe bytes route .cells → Begun bytes route source (λ b. source) (λ b. fresh (recipe bytes route))
   -- delivery as one event, and as two: beside the same calls on shared areas, which are lent the whole source; collecting is given areas joined
   -- from the processors' parts
-  pub by-deliveries : (bytes : List ℕ) (route : ℕ) (source : List ℕ) (sources : Sources) (lent : Areas) → Begun bytes route source sources lent
+  pub by-deliveries : (bytes : List ℕ) (route : ℕ) (source : List ℕ) (sources : Sources) (lent : AreasApart) → Begun bytes route source sources lent
       → (events : List Event)
       → Demand3Apart (callsApart bytes route sources) (startCalls bytes route sources lent) events (recipe bytes route) source
       (calls bytes route source) (collectCall bytes route source)
-  pub by-packets : (bytes : List ℕ) (route : ℕ) (source : List ℕ) (sources : Sources) (lent : Areas) → Begun bytes route source sources lent
+  pub by-packets : (bytes : List ℕ) (route : ℕ) (source : List ℕ) (sources : Sources) (lent : AreasApart) → Begun bytes route source sources lent
       → (events : List NetworkEvent)
       → ByPackets (callsNetwork bytes route sources) (startNetworkCalls bytes route sources lent) events (recipe bytes route)
       (calls bytes route source) source (collectCall bytes route source)
@@ -62,6 +62,6 @@ pub record ApartDemands : Type 0 where
   pub own-part : (bytes : List ℕ) (route : ℕ) → Bytes bytes → firstOf (linesFor (routeOf route) bytes) ≡ 0
       → OwnPart (recipe bytes route) (turnCall bytes route)
   -- and so do whole runs of processors that each have that part alone: the answers, the packets and the collected grid of by-packets
-  pub by-parts : (bytes : List ℕ) (route : ℕ) (source : List ℕ) (sources : Sources) (lent : Areas) → Begun bytes route source sources lent
+  pub by-parts : (bytes : List ℕ) (route : ℕ) (source : List ℕ) (sources : Sources) (lent : AreasApart) → Begun bytes route source sources lent
       → (events : List NetworkEvent)
-      → OwnRun (recipe bytes route) (callsNetwork bytes route sources) (startNetworkCalls bytes route sources lent) events
+      → PartRun (recipe bytes route) (callsNetwork bytes route sources) (startNetworkCalls bytes route sources lent) events

@@ -11,7 +11,7 @@ use lib.Dec.{eqb}
 use Rattle.base.specs.Tests.{keep}
 use Rattle.base.specs.Lists.{Bytes, In, pack}
 use Rattle.base.specs.Numbers.{firstOf}
-use Rattle.layout.specs.Sizes.{routeOf}
+use Rattle.layout.specs.RouteWords.{routeOf}
 use Rattle.recipe.specs.Routes.{linesFor}
 use Rattle.engine.specs.Calls.{answer, recipe}
 use Rattle.network.specs.Own.{ownCells, keptCells}

@@ -15,7 +15,7 @@ use lib.Dec.{eqb, ltb}
 use lib.Pow.{pow-pos, pow-lt, pow-add, shl-shr}
 use lib.Bits.{bitOr, or-shr, or-mod, or-zero-r}
 use Rattle.base.specs.Tests.{_and_, not, pick, every}
-use Rattle.base.specs.Lists.{part, put}
+use Rattle.base.specs.Lists.{sublist, put}
 use Rattle.base.specs.Numbers.{Line, line, firstOf}
 use Rattle.base.proofs.Tests.{both, and-true, not-true, true-not, never-both, every-at, every-all}
 use Rattle.base.proofs.Lists.{length-put}
@@ -78,8 +78,8 @@ there-stays m k j e = go (ℕ-discrete j k)
 
 -- ---- lengths
 
-pub cut-length : (ws : List ℕ) (k : ℕ) → length (part ws (k * 285) 285) ≡ chunkLength (length ws) k
-unfolding part
+pub cut-length : (ws : List ℕ) (k : ℕ) → length (sublist ws (k * 285) 285) ≡ chunkLength (length ws) k
+unfolding sublist
 cut-length ws k = length-take 285 (drop (k * 285) ws) ∙ ap (min 285) (length-drop (k * 285) ws)
 
 pub begins : (n k : ℕ) → k < chunksOf n → k * 285 ≤ n
@@ -106,7 +106,7 @@ record Held (ws : List ℕ) (a : Assembly) : Type 0 where
 
 module _ (ws : List ℕ) (k : ℕ) (a : Assembly) (held : Held ws a) (below : k < chunksOf (length ws)) where
   abbrev words : List ℕ
-  words = part ws (k * 285) 285
+  words = sublist ws (k * 285) 285
 
   fit : k * 285 + length words ≤ length (a .area)
   fit = omega (arith, ends (length ws) k below, cut-length ws k, held .long)
@@ -168,7 +168,7 @@ fits-cut : (ws : List ℕ) (k : ℕ) → k < chunksOf (length ws) → fits (leng
 unfolding fits cut
 fits-cut ws k h =
     and-true (eq-eqb (chunksOf (length ws)) (chunksOf (length ws)) refl)
-    (and-true (lt-ltb k (chunksOf (length ws)) h) (eq-eqb (length (part ws (k * 285) 285)) (chunkLength (length ws) k) (cut-length ws k)))
+    (and-true (lt-ltb k (chunksOf (length ws)) h) (eq-eqb (length (sublist ws (k * 285) 285)) (chunkLength (length ws) k) (cut-length ws k)))
 
 pub no-line : (c : Chunk) (n : ℕ) → firstOf (takeLines c n) ≡ 0 → fits n c ≡ true
 no-line c n z =
@@ -211,7 +211,7 @@ unfolding takeChunkCall cut
 take-there ws k a h e b =
     ap (λ (n : ℕ). there (takingBy n (cut ws k) a .after .mask) k)
     (ap (λ (n : ℕ). firstOf (takeLines (cut ws k) n)) e ∙ no-lines (cut ws k) (length ws) h (fits-cut ws k b))
-    ∙ placed-there k (part ws (k * 285) 285) a
+    ∙ placed-there k (sublist ws (k * 285) 285) a
 
 pub refused : (c : Chunk) (a : Assembly) → (takeChunkCall c a .number ≡ 0 → ⊥) → takeChunkCall c a .after ≡ a
 unfolding takeChunkCall

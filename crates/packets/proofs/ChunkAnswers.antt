@@ -14,7 +14,7 @@ use lib.Dec.{eqb, ltb}
 use lib.Pow.{pow-lt}
 use lib.Bits.{bitOr}
 use Rattle.base.specs.Tests.{_and_, not, pick, one, every}
-use Rattle.base.specs.Lists.{part, put}
+use Rattle.base.specs.Lists.{sublist, put}
 use Rattle.base.specs.Numbers.{Line, line, firstOf}
 use Rattle.base.proofs.Tests.{both, and-true, and-false, and-no, not-false, every-more, every-not}
 use Rattle.base.proofs.Numbers.{first-true, first-false, none-first}
@@ -105,9 +105,9 @@ fitting c n z =
 pub placed-same : (k : ℕ) (ws area : List ℕ) (mask : ℕ) → there mask k ≡ true → assembly area mask ≡ placed k ws (assembly area mask)
 placed-same k ws area mask e = sym (placed-again k ws (assembly area mask) e)
 
-pub placed-new : (k a : ℕ) (ws area out : List ℕ) (mask r : ℕ) → there mask k ≡ false → a ≡ k → out ≡ put area (a * 285) (part ws 0 (length ws))
+pub placed-new : (k a : ℕ) (ws area out : List ℕ) (mask r : ℕ) → there mask k ≡ false → a ≡ k → out ≡ put area (a * 285) (sublist ws 0 (length ws))
     → r ≡ bitOr mask (2 ^ k) → assembly out r ≡ placed k ws (assembly area mask)
-unfolding placed pick part
+unfolding placed pick sublist
 placed-new k a ws area out mask r e ea eo er =
     ap₂ assembly (eo ∙ ap₂ (λ (x : ℕ) (l : List ℕ). put area (x * 285) l) ea (take-length ws)) er
     ∙ sym (ap (λ (t : Bool). pick t (assembly area mask) (assembly (put area (k * 285) ws) (bitOr mask (2 ^ k)))) e)

@@ -6,7 +6,7 @@ pub mod Words
 pub mod RoundTrip
 pub mod Bursts
 pub mod Laws
-pub mod Rows
+pub mod Examples
 pub mod Assembling
 pub mod ChunkAnswers
-pub mod CutRows
+pub mod CutExamples

@@ -11,7 +11,7 @@ use lib.ListN.{length}
 use lib.Dec.{eqb, ltb}
 use lib.Bits.{bitOr}
 use Rattle.base.specs.Tests.{_and_, not, pick, one, every}
-use Rattle.base.specs.Lists.{part, put}
+use Rattle.base.specs.Lists.{sublist, put}
 use Rattle.base.specs.Numbers.{Line, line, firstOf}
 use Rattle.packets.specs.Packet.{mostWords}
 use Rattle.packets.specs.declared.chunks.Taken.{Taken}
@@ -35,7 +35,7 @@ chunkOf k n ws = record { chunk = k; chunks = n; words = ws }
 
 -- chunk k of a message: 285 words, or those that are left
 unfoldable pub cut : List ℕ → ℕ → Chunk
-cut ws k = chunkOf k (chunksOf (length ws)) (part ws (k * mostWords) mostWords)
+cut ws k = chunkOf k (chunksOf (length ws)) (sublist ws (k * mostWords) mostWords)
 
 -- ---- what is there
 

@@ -4,6 +4,6 @@ pub mod Packet
 pub mod Bits
 pub mod Calls
 pub mod Laws
-pub mod Rows
+pub mod Examples
 pub mod Cut
-pub mod CutRows
+pub mod CutExamples

@@ -9,6 +9,7 @@ ghost use Rattle.packets.specs.Cut.{chunksOf, chunkLength, chunkOf, asse
 use crate::MOST_WORDS;
 use base::copy_part;
 use base::least;
+use base::refusals;
 use base::word_index;
 
 // What became of a chunk: a number, 1 where the message is whole now, and the mask of chunks that are there. At a refusal the mask is as it was.
@@ -82,21 +83,21 @@ pub fn number_of(chunk: u32, chunks: u32, words: &[u32], area: usize) -> u32
     ensures { λ r. ⌜ r ≡ firstOf (takeLines (chunkOf chunk chunks (now (words .entry))) area) ⌝ }
 {
     if MOST_AREA < area {
-        return 9;
+        return refusals::AREA;
     }
     if word_index(chunks) != chunks_of(area) {
-        return 11;
+        return refusals::NO_SUCH;
     }
     if chunks <= chunk {
-        return 11;
+        return refusals::NO_SUCH;
     }
     if words.len() != chunk_length(area, chunk) {
-        return 11;
+        return refusals::NO_SUCH;
     }
     0
 }
 
-fn place(chunk: u32, words: &[u32], area: &mut [u32], mask: u64) -> u64
+fn put_chunk(chunk: u32, words: &[u32], area: &mut [u32], mask: u64) -> u64
     requires { ⌜ (chunk < 64) × (chunk * 285 + length (now words) ≤ length (now area)) ⌝ }
     ensures { λ r. ⌜ assembly (now (area .exit)) r ≡ placed chunk (now (words .entry)) (assembly (now (area .entry)) mask) ⌝ }
 {
@@ -120,7 +121,7 @@ pub fn take_chunk(chunk: u32, chunks: u32, words: &[u32], area: &mut [u32], mask
             mask,
         };
     }
-    let now = place(chunk, words, area, mask);
+    let now = put_chunk(chunk, words, area, mask);
     let whole = flag(is_complete(now, chunks));
     Taken {
         number: 0,

@@ -13,8 +13,9 @@ ghost use Rattle.packets.specs.Calls.{Put, noHeader, writtenOf, writeCal
 
 pub mod chunks; // chunks.rt: a message in several packets
 pub mod hash; // hash.rt: FNV-1a
-pub mod table; // table.rt: CRC-32's register after bytes, by table
+pub mod crc_table; // crc_table.rt: CRC-32's register after bytes, by table
 
+use base::refusals;
 use base::word_at;
 use base::word_index;
 use base::word_wide;
@@ -54,7 +55,7 @@ const COUNT_AT: usize = 52;
 pub fn crc(bytes: &[u8]) -> u32
     ensures { λ r. ⌜ r ≡ crc32 (now (bytes .entry)) ⌝ }
 {
-    table::fed(0xFFFF_FFFF, bytes) ^ 0xFFFF_FFFF
+    crc_table::fed(0xFFFF_FFFF, bytes) ^ 0xFFFF_FFFF
 }
 
 // Of a recipe's bytes on a route.
@@ -63,7 +64,7 @@ pub fn fingerprint(recipe: &[u8], route: u32) -> u64
 {
     let mut last = [0u8; 4];
     put_word(&mut last, 0, route);
-    let check = table::fed(table::fed(0xFFFF_FFFF, recipe), &last) ^ 0xFFFF_FFFF;
+    let check = crc_table::fed(crc_table::fed(0xFFFF_FFFF, recipe), &last) ^ 0xFFFF_FFFF;
     let mix = hash::mixed(hash::mixed(0x811C_9DC5, recipe), &last);
     double(check, mix)
 }
@@ -149,7 +150,7 @@ pub fn write(header: Header, words: &[u32], space: &mut [u8]) -> u32
 {
     let count = words.len();
     if is_unfit(count, space.len()) {
-        return 9;
+        return refusals::AREA;
     }
     put_header(space, header, count as u32);
     put_words(space, WORDS_AT, words);
@@ -221,14 +222,14 @@ fn number_of(fingerprint: u64, run: u64, packet: &[u8], room: usize) -> u32
     ensures { λ r. ⌜ r ≡ firstOf (readLines fingerprint run (now (packet .entry)) room) ⌝ }
 {
     if is_damaged(packet) {
-        return 26;
+        return refusals::DAMAGED;
     }
     if is_stale(packet, fingerprint, run) {
-        return 27;
+        return refusals::STALE;
     }
     let count = word_index(word_at(packet, COUNT_AT));
     if room < count {
-        return 9;
+        return refusals::AREA;
     }
     0
 }

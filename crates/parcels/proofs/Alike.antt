@@ -11,7 +11,7 @@ use lib.ListN.{length, getD, take}
 use lib.Dec.{ltb}
 use borrow.Author.Tests.{lt-ltb, le-ltb, le-leb, lt-leb}
 use Rattle.base.specs.Tests.{_and_, pick, tabulate}
-use Rattle.base.specs.Lists.{part, pack, unpack}
+use Rattle.base.specs.Lists.{sublist, pack, unpack}
 use Rattle.base.proofs.Tests.{pick-true, pick-false, and-true, and-false, and-no}
 use Rattle.nest.specs.declared.Nest.{Nest}
 use Rattle.nest.specs.Accepted.{Accepted}
@@ -27,7 +27,7 @@ use Rattle.parcels.specs.declared.Window.{Window}
 use Rattle.parcels.specs.declared.Sending.{Sending}
 use Rattle.parcels.specs.declared.Row.{Row}
 use Rattle.parcels.specs.Windows.{last, beside, windowOf, DistanceEnds, Leading, carries, Unchanged, Alike, RowPacked}
-use Rattle.parcels.specs.Sendings.{Shaped, found, RowEnds, RowAt, placeIn, cellIn}
+use Rattle.parcels.specs.Sendings.{BoxOfRows, found, RowEnds, RowAt, placeIn, cellIn}
 use Rattle.parcels.proofs.Walks.{Measuring, Unpacking}
 use Rattle.parcels.proofs.Packing.{PackedTo, packed-row}
 use Rattle.parcels.proofs.Windows.{run-all, measure-run, unpack-run}
@@ -146,7 +146,7 @@ module _ (x : Nest) (w : Region) (i k : ℕ → ℕ)
 
 -- ---- what is found of a row
 
-module _ (x : Nest) (ok : Accepted x) (z : Sending) (p : Shaped x z) (r : ℕ) (h : r < z .rows)
+module _ (x : Nest) (ok : Accepted x) (z : Sending) (p : BoxOfRows x z) (r : ℕ) (h : r < z .rows)
     (at : List ℕ) (g : Placed (z .block .lengths) (z .block .corner) r (last x) at) (m : ℕ) (f : Alike x (z .window) (z .block) at m) where
   room-at : (y : ℕ) → y < m → getD at (beside x) 0 + y < getD (z .block .corner) (beside x) 0 + getD (z .block .lengths) (beside x) 0
   room-at y k = omega (arith, f .room)
@@ -258,7 +258,7 @@ module _ (x : Nest) (z : Sending) (r : ℕ) (q : Row) (f : RowAt x z r q) where
 
     pub unpacked-next : (memory₀ words memory memory′ : List ℕ) (count : ℕ) → Unpacking x z memory₀ words memory count (r * z .width)
         → count ≤ length words
-        → memory′ ≡ unpack memory (rowOf m (q .run)) (part words count (q .run))
+        → memory′ ≡ unpack memory (rowOf m (q .run)) (sublist words count (q .run))
         → Unpacking x z memory₀ words memory′ (count + q .run) ((r + 1) * z .width)
     unpacked-next memory₀ words memory memory′ count u l e =
         rw (row-next (z .width) r 0) (unpack-run x z (r * z .width) m (q .component) (z .width) (q .ends) g (q .run)

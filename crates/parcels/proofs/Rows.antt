@@ -23,7 +23,7 @@ use Rattle.layout.proofs.CellRows.{row-before, row-last, row-low, row-start, ro
 use Rattle.parcels.specs.declared.Block.{Block}
 use Rattle.parcels.specs.declared.Sending.{Sending}
 use Rattle.parcels.specs.Windows.{last, beside, windowOf, DistanceEnds, InBlock}
-use Rattle.parcels.specs.Sendings.{boxOf, Shaped, RowEnds, placeIn, cellIn}
+use Rattle.parcels.specs.Sendings.{boxOf, BoxOfRows, RowEnds, placeIn, cellIn}
 
 -- ---- numbers and places
 
@@ -54,7 +54,7 @@ block-countable x ok b least inside =
       few = omega (arith, product-most (nth (b .lengths)) (lengthOf x) (x .dimensions) (λ j h. omega (arith, inside j h)), ok .cells-most);
     }
 
-module _ (x : Nest) (ok : Accepted x) (z : Sending) (p : Shaped x z) where
+module _ (x : Nest) (ok : Accepted x) (z : Sending) (p : BoxOfRows x z) where
   deep : 2 ≤ x .dimensions
   deep = ok .dimensions-least
 
@@ -220,7 +220,7 @@ module _ (x : Nest) (ok : Accepted x) (z : Sending) (p : Shaped x z) where
 
 -- a row's first cell by its place
 module _ (x : Nest) (z : Sending) (r : ℕ) (at : List ℕ) (g : Has at (placeIn x z (r * z .width)) (x .dimensions)) where
-  pub row-ranked : (ok : Accepted x) → Shaped x z → Ranked (x .lengths) at (x .dimensions)
+  pub row-ranked : (ok : Accepted x) → BoxOfRows x z → Ranked (x .lengths) at (x .dimensions)
   row-ranked ok p = record {
     counts = lengths-countable x ok;
     at-most = λ j h. omega

@@ -13,7 +13,7 @@ use lib.Seq.{getD-set-same, getD-set-other, take-add, length-take-le}
 use lib.Dec.{ltb}
 use borrow.Author.Tests.{lt-ltb, le-ltb, ltb-true, le-leb}
 use Rattle.base.specs.Tests.{_and_, _or_, every, some}
-use Rattle.base.specs.Lists.{part, unpack}
+use Rattle.base.specs.Lists.{sublist, unpack}
 use Rattle.base.proofs.Tests.{and-left, and-no, or-left, never-both, same-test, every-at, every-all, every-not, length-tabulate}
 use Rattle.nest.specs.declared.Nest.{Nest}
 use Rattle.nest.specs.Accepted.{Accepted}
@@ -192,8 +192,8 @@ module _ (x : Nest) (z : Sending) (first c a w : ℕ) (ends : List ℕ) (f : Row
 
     pub unpack-run : (memory₀ words memory memory′ : List ℕ) (count : ℕ) → Unpacking x z memory₀ words memory count first
         → count ≤ length words
-        → memory′ ≡ unpack memory (rowOf c n) (part words count n) → Unpacking x z memory₀ words memory′ (count + n) (first + w)
-    unfolding part
+        → memory′ ≡ unpack memory (rowOf c n) (sublist words count n) → Unpacking x z memory₀ words memory′ (count + n) (first + w)
+    unfolding sublist
     unpack-run memory₀ words memory memory′ count u l e =
         record {
           low = f .room;

@@ -75,7 +75,7 @@ abbrev pub cellIn : Nest → Sending → ℕ → ℕ
 cellIn x z = regionCell x (boxOf (z .block))
 
 -- it has a cell, lies inside the nest and is so many rows of this width; the window is open at the start of a row
-pub record Shaped (x : Nest) (z : Sending) : Type 0 where
+pub record BoxOfRows (x : Nest) (z : Sending) : Type 0 where
   pub least : (j : ℕ) → j < x .dimensions → 1 ≤ getD (z .block .lengths) j 0
   pub inside : (j : ℕ) → j < x .dimensions → getD (z .block .corner) j 0 + getD (z .block .lengths) j 0 ≤ lengthOf x j
   pub opens : getD (z .window .low) (last x) 0 ≡ 0
@@ -88,7 +88,7 @@ found x z n = map (cellIn x z) (keep (λ q. comesInto x (windowOf (z .window)) (
 
 -- they are slot s's, whose box and window it has
 pub record Sends (r : Route) (x : Nest) (s : ℕ) (z : Sending) : Type 0 where
-  pub shape : Shaped x z
+  pub shape : BoxOfRows x z
   pub box : Boxed x (slotBox r x s) (z .block)
   pub window : Windowed x (slotWindow r x s) (z .window)
   pub cells : slotCells r x s ≡ found x z (z .rows * z .width)

@@ -13,7 +13,7 @@ ghost use Rattle.layout.specs.Places.{nth};
 ghost use Rattle.layout.specs.CellRows.{Given};
 ghost use Rattle.parcels.specs.Twins.{twoBefore};
 ghost use Rattle.parcels.specs.Windows.{windowOf, RowEnd, DistanceEnds, Leading, carries, Unchanged, InBlock, Alike, RowRoom, RowPacked};
-ghost use Rattle.parcels.specs.Sendings.{earlier, later, boxAt, windowAt, Boxed, Windowed, Headed, Idle, Shaped, Sends, RowAt};
+ghost use Rattle.parcels.specs.Sendings.{earlier, later, boxAt, windowAt, Boxed, Windowed, Headed, Idle, BoxOfRows, Sends, RowAt};
 use layout::Sizes;
 use nest::Nest;
 use plan::Route;
@@ -269,7 +269,7 @@ fn rows_alike(
 }
 
 // Whether a way leads beyond the last tile in a spread dimension: nothing is bound there.
-pub fn outside(across: [usize; 4], at: [usize; 4], ahead: [usize; 4], n: usize) -> bool
+pub fn beyond_last(across: [usize; 4], at: [usize; 4], ahead: [usize; 4], n: usize) -> bool
     requires { ⌜ (n ≤ 4) × ((j : ℕ) → j < n → getD at j 0 + getD ahead j 0 ≤ 1024) ⌝ }
     ensures { λ r. ⌜ r ≡ some (λ j. leb (getD across j 0) (getD at j 0 + getD ahead j 0)) n ⌝ }
 {
@@ -311,7 +311,7 @@ fn idle(nest: Nest, sizes: Sizes, slot: usize, at: [usize; 4], ahead: [usize; 4]
 {
     let across = sizes.across;
     let counts = nest.counts;
-    if outside(across, at, ahead, nest.spread) {
+    if beyond_last(across, at, ahead, nest.spread) {
         return true;
     }
     !leaves(counts, ahead, nest.spread)
@@ -346,7 +346,7 @@ pub fn sending_of(
 
 // Row r of the box.
 pub fn row_at(nest: Nest, components: &[usize; 32], sending: Sending, r: usize) -> Row
-    requires { ⌜ Accepted nest × (Given nest (now components) × (Shaped nest sending × (r < sending .rows))) ⌝ }
+    requires { ⌜ Accepted nest × (Given nest (now components) × (BoxOfRows nest sending × (r < sending .rows))) ⌝ }
     ensures { λ q. ⌜ RowAt nest sending r q ⌝ }
 {
     let last = nest.dimensions - 1;

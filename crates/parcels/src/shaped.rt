@@ -15,7 +15,7 @@ ghost use Rattle.layout.specs.Sizes.{Sized};
 ghost use Rattle.layout.specs.Places.{nth, Has};
 ghost use Rattle.layout.specs.CellRows.{Given};
 ghost use Rattle.parcels.specs.Windows.{windowOf, RowEnd};
-ghost use Rattle.parcels.specs.Sendings.{Shaped};
+ghost use Rattle.parcels.specs.Sendings.{BoxOfRows};
 ghost use Rattle.parcels.specs.shaped.Runs.{RunIs, reachesPlace, comesShaped, RunsAre};
 ghost use Rattle.parcels.specs.shaped.Parcels.{Farthest, Near, Rows, RowRuns};
 use crate::Block;
@@ -124,7 +124,7 @@ fn runs_of(
 
 // Row r of a slot's rows.
 pub fn row_of(nest: Nest, components: &[usize; 32], rows: Sending, r: usize) -> Reached
-    requires { ⌜ Accepted nest × (Given nest (now components) × (Shaped nest rows × (r < rows .rows))) ⌝ }
+    requires { ⌜ Accepted nest × (Given nest (now components) × (BoxOfRows nest rows × (r < rows .rows))) ⌝ }
     requires { ⌜ getD (rows .window .high) (last nest) 0 ≤ lengthOf nest (last nest) ⌝ }
     ensures { λ q. ⌜ RowRuns nest rows r (q .place) (q .runs) (q .starts) (q .ends) ⌝ }
 {
@@ -153,7 +153,7 @@ pub fn farthest(nest: Nest) -> [usize; 4]
 
 // The box without the rows that no distance takes to the window, being too far before it; one row at least is left.
 fn near(nest: Nest, sending: Sending, most: [usize; 4]) -> Sending
-    requires { ⌜ Accepted nest × (Shaped nest sending × Farthest nest most) ⌝ }
+    requires { ⌜ Accepted nest × (BoxOfRows nest sending × Farthest nest most) ⌝ }
     ensures { λ r. ⌜ Near nest sending r ⌝ }
 {
     let window = sending.window;

@@ -41,7 +41,7 @@ use Rattle.stages.proofs.Parts.{back, mid-length}
 use Rattle.layout.specs.declared.Sizes.{Sizes}
 use Rattle.layout.specs.Sizes.{Sized, along}
 use Rattle.layout.specs.Places.{Has}
-use Rattle.tables.specs.declared.scans.Place.{Place}
+use Rattle.tables.specs.declared.scans.MessageSlot.{MessageSlot}
 use Rattle.tables.specs.Tables.{Routed, FoundIn}
 use Rattle.network.specs.Apart.{senderAt, takerAt}
 use Rattle.part.specs.Marking.{aheadOf, sideOf, Sided, Repeated}
@@ -81,12 +81,12 @@ module _ (x : Nest) (ok : Accepted x) where
         (λ j l. shapedTaker-column x ok (slotBox x s) (slotDirection x s) c (h .0) (h .1) j l)
 
   -- the two processors of the message found at a place
-  abbrev Ends : Route → ℕ → Place → Type 0
+  abbrev Ends : Route → ℕ → MessageSlot → Type 0
   Ends r m p =
       (senderAt (planOf r x) m ≡ processorOf x (boxTile x (p .slot / ways r x)))
       × (takerAt (planOf r x) m ≡ aheadOf r x (boxTile x (p .slot / ways r x)) (p .slot % ways r x))
 
-  module _ (r : Route) (m : ℕ) (p : Place) (f : FoundIn r x m p) where
+  module _ (r : Route) (m : ℕ) (p : MessageSlot) (f : FoundIn r x m p) where
     box-ends : x .bounds ≡ 0 → Ends r m p
     box-ends e =
         let q = f .box e in
@@ -101,7 +101,7 @@ module _ (x : Nest) (ok : Accepted x) where
               ∙ ap (λ (t : ℕ). aheadOf r x t (p .slot % ways r x)) (sym tile),
         )
 
-  shape-ends : (m : ℕ) (p : Place) → FoundIn Direct x m p → x .bounds ≢ 0 → Ends Direct m p
+  shape-ends : (m : ℕ) (p : MessageSlot) → FoundIn Direct x m p → x .bounds ≢ 0 → Ends Direct m p
   shape-ends m p f n =
       let q = f .shape n in
       let held : heldBy (planOf Direct x) m ≡ shapedSlotParcel x (p .slot) = ap (λ (y : Message). y .cells) (q .1) in
@@ -110,7 +110,7 @@ module _ (x : Nest) (ok : Accepted x) where
         ap (λ (y : Message). processorOf x (boxTile x (y .taker))) (q .1) ∙ shape-taker (p .slot) (full .0) (full .1),
       )
 
-pub ends : (x : Nest) (z : Sizes) → Accepted x → Routed x z → (m : ℕ) (p : Place) → FoundIn (z .route) x m p
+pub ends : (x : Nest) (z : Sizes) → Accepted x → Routed x z → (m : ℕ) (p : MessageSlot) → FoundIn (z .route) x m p
     → (senderAt (planOf (z .route) x) m ≡ processorOf x (boxTile x (p .slot / ways (z .route) x)))
     × (takerAt (planOf (z .route) x) m ≡ aheadOf (z .route) x (boxTile x (p .slot / ways (z .route) x)) (p .slot % ways (z .route) x))
 ends x z ok routed m p f = go (ℕ-discrete (x .bounds) 0)

@@ -74,47 +74,47 @@ module _ (p : Plan) (b m v : ℕ) (e : v ≡ one (handles p b m)) where
 -- ---- the two tables
 
 -- the first m of each are told, and k and w are those of message m
-pub record Ranked (p : Plan) (b : ℕ) (ranks places : List ℕ) (m o k w : ℕ) : Type 0 where
-  pub long : length ranks ≡ 7169
-  pub long-places : length places ≡ 7169
+pub record Ranked (p : Plan) (b : ℕ) (ordinals starts : List ℕ) (m o k w : ℕ) : Type 0 where
+  pub long : length ordinals ≡ 7169
+  pub long-places : length starts ≡ 7169
   pub rank : k ≡ rankOf p b m
   pub at : w ≡ mailAt p b m
   pub small : w ≤ o
-  pub each : (j : ℕ) → j < m → (getD ranks j 0 ≡ rankOf p b j) × (getD places j 0 ≡ mailAt p b j)
+  pub each : (j : ℕ) → j < m → (getD ordinals j 0 ≡ rankOf p b j) × (getD starts j 0 ≡ mailAt p b j)
 
 module _ (p : Plan) (b : ℕ) where
-  pub rank-start : (ranks places : List ℕ) → length ranks ≡ 7169 → length places ≡ 7169 → Ranked p b ranks places 0 0 0 0
+  pub rank-start : (ordinals starts : List ℕ) → length ordinals ≡ 7169 → length starts ≡ 7169 → Ranked p b ordinals starts 0 0 0 0
   unfolding keep wordsOf
-  rank-start ranks places h k =
+  rank-start ordinals starts h k =
       record { long = h; long-places = k; rank = refl; at = refl; small = omega arith; each = λ j l. absurd (omega arith) }
 
-  module _ (ranks places : List ℕ) (m o k w : ℕ) (g : Ranked p b ranks places m o k w) where
+  module _ (ordinals starts : List ℕ) (m o k w : ℕ) (g : Ranked p b ordinals starts m o k w) where
     pub few : k ≤ m
     few = omega (arith, g .rank, keep-few (handles p b) m)
 
     -- those of message m stored
-    pub told : m ≤ 7168 → (j : ℕ) → j ≤ m → (getD (set ranks m k) j 0 ≡ rankOf p b j) × (getD (set places m w) j 0 ≡ mailAt p b j)
+    pub told : m ≤ 7168 → (j : ℕ) → j ≤ m → (getD (set ordinals m k) j 0 ≡ rankOf p b j) × (getD (set starts m w) j 0 ≡ mailAt p b j)
     told low j h = go (eq-or-lt-of-le h)
       where
-        go : (j ≡ m) ⊎ (j < m) → (getD (set ranks m k) j 0 ≡ rankOf p b j) × (getD (set places m w) j 0 ≡ mailAt p b j)
+        go : (j ≡ m) ⊎ (j < m) → (getD (set ordinals m k) j 0 ≡ rankOf p b j) × (getD (set starts m w) j 0 ≡ mailAt p b j)
         go (inl e) =
-            rw e (getD-set-same ranks m k 0 (omega (arith, g .long)) ∙ g .rank, getD-set-same places m w 0 (omega (arith, g .long-places)) ∙ g .at)
+            rw e (getD-set-same ordinals m k 0 (omega (arith, g .long)) ∙ g .rank, getD-set-same starts m w 0 (omega (arith, g .long-places)) ∙ g .at)
         go (inr l) = (
-          getD-set-other ranks m j k 0 (λ e. omega arith) ∙ g .each j l .0,
-          getD-set-other places m j w 0 (λ e. omega arith) ∙ g .each j l .1,
+          getD-set-other ordinals m j k 0 (λ e. omega arith) ∙ g .each j l .0,
+          getD-set-other starts m j w 0 (λ e. omega arith) ∙ g .each j l .1,
         )
 
     -- a slot with a message, v saying whether it is handled; or an empty one
     pub rank-turn : (n m′ k′ w′ : ℕ) → m ≤ 7168
         → ((v : ℕ) × (v ≡ one (handles p b m)) × (n ≡ length (heldBy p m)) × (m′ ≡ m + 1) × (k′ ≡ k + v) × (w′ ≡ w + v * n))
         ⊎ ((m′ ≡ m) × (k′ ≡ k) × (w′ ≡ w))
-        → Ranked p b (set ranks m k) (set places m w) m′ (o + n) k′ w′
+        → Ranked p b (set ordinals m k) (set starts m w) m′ (o + n) k′ w′
     rank-turn n m′ k′ w′ low (inl q) =
         let v = q .0 in
         let is = q .1 in
         rw (q .3, q .4, q .5) (record {
-          long = length-set ranks m k ∙ g .long;
-          long-places = length-set places m w ∙ g .long-places;
+          long = length-set ordinals m k ∙ g .long;
+          long-places = length-set starts m w ∙ g .long-places;
           rank = rank-next p b m v is k (g .rank);
           at = mail-next p b m v is w n (g .at) (q .2);
           small = omega (arith, g .small, at-most-words (handles p b m) v n is);
@@ -122,8 +122,8 @@ module _ (p : Plan) (b : ℕ) where
         })
     rank-turn n m′ k′ w′ low (inr q) =
         rw (q .0, q .1, q .2) (record {
-          long = length-set ranks m k ∙ g .long;
-          long-places = length-set places m w ∙ g .long-places;
+          long = length-set ordinals m k ∙ g .long;
+          long-places = length-set starts m w ∙ g .long-places;
           rank = g .rank;
           at = g .at;
           small = omega (arith, g .small);

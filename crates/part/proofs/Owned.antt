@@ -36,7 +36,7 @@ use Rattle.layout.specs.declared.Sizes.{Sizes}
 use Rattle.layout.specs.Sizes.{Sized}
 use Rattle.tables.specs.Tables.{Routed}
 use Rattle.network.specs.Own.{owns}
-use Rattle.part.specs.Marking.{wide, Shown, Alike}
+use Rattle.part.specs.Marking.{rowCells, Shown, Alike}
 use Rattle.part.proofs.Rows.{wide-some}
 
 -- ---- the test
@@ -112,51 +112,51 @@ module _ (x : Nest) (z : Sizes) (s : Sized x z) (routed : Routed x z) (b : ℕ) 
   abbrev p : Plan
   p = planOf (z .route) x
 
-  some-wide : 1 ≤ wide x
+  some-wide : 1 ≤ rowCells x
   some-wide = wide-some x ok
 
-  module _ (q n : ℕ) (alike : Alike x q n) (t v : ℕ) (tile : t ≡ boxTileOf x (q * wide x)) (own : v ≡ processorOf x t) where
+  module _ (q n : ℕ) (alike : Alike x q n) (t v : ℕ) (tile : t ≡ boxTileOf x (q * rowCells x)) (own : v ≡ processorOf x t) where
     -- a cell of these rows
-    row-of : (c : ℕ) → q * wide x ≤ c → c < (q + n) * wide x → (y : ℕ) × (y < n) × (c ≡ (q + y) * wide x + c % wide x)
+    row-of : (c : ℕ) → q * rowCells x ≤ c → c < (q + n) * rowCells x → (y : ℕ) × (y < n) × (c ≡ (q + y) * rowCells x + c % rowCells x)
     row-of c h l =
-        let up : q ≤ c / wide x = at-least (decLt (c / wide x) q) in
-        let k : c / wide x < q + n = div-lt-iff-lt-mul {k = wide x} some-wide .1 l in
-        let e : q + (c / wide x - q) ≡ c / wide x = omega arith in
-        (c / wide x - q, omega arith, rw e (sym (div-add-mod' c (wide x))))
+        let up : q ≤ c / rowCells x = at-least (decLt (c / rowCells x) q) in
+        let k : c / rowCells x < q + n = div-lt-iff-lt-mul {k = rowCells x} some-wide .1 l in
+        let e : q + (c / rowCells x - q) ≡ c / rowCells x = omega arith in
+        (c / rowCells x - q, omega arith, rw e (sym (div-add-mod' c (rowCells x))))
       where
-        at-least : Dec (c / wide x < q) → q ≤ c / wide x
-        at-least (yes k) = let l = div-lt-iff-lt-mul {k = wide x} some-wide .0 k in omega (arith, l, h)
+        at-least : Dec (c / rowCells x < q) → q ≤ c / rowCells x
+        at-least (yes k) = let l = div-lt-iff-lt-mul {k = rowCells x} some-wide .0 k in omega (arith, l, h)
         at-least (no k) = omega arith
 
-    one-processor : (c : ℕ) → q * wide x ≤ c → c < (q + n) * wide x → processorOf x (boxTileOf x c) ≡ v
+    one-processor : (c : ℕ) → q * rowCells x ≤ c → c < (q + n) * rowCells x → processorOf x (boxTileOf x c) ≡ v
     one-processor c h l =
         let r = row-of c h l in
         ap (λ (i : ℕ). processorOf x (boxTileOf x i)) (r .2)
-        ∙ processorOf-same x ok (boxTileOf x ((q + r .0) * wide x + c % wide x)) (boxTileOf x (q * wide x))
+        ∙ processorOf-same x ok (boxTileOf x ((q + r .0) * rowCells x + c % rowCells x)) (boxTileOf x (q * rowCells x))
         (λ j k.
         let d : j < x .dimensions = omega (arith, ok .spread-low) in
-        tilePlace-boxTileOf x ok ((q + r .0) * wide x + c % wide x) j d
+        tilePlace-boxTileOf x ok ((q + r .0) * rowCells x + c % rowCells x) j d
         ∙ ap (λ (a : ℕ). a / tileLength x j)
-        (cellPlace-row x (framed x ok) (q + r .0) (c % wide x) j (mod-lt c some-wide) d
+        (cellPlace-row x (framed x ok) (q + r .0) (c % rowCells x) j (mod-lt c some-wide) d
         ∙ pick-false _ _ _ (ne-eqb j (last x) (λ e. omega (arith, ok .spread-low))))
-        ∙ alike .same (r .0) j (r .1) k ∙ sym (tilePlace-boxTileOf x ok (q * wide x) j d))
+        ∙ alike .same (r .0) j (r .1) k ∙ sym (tilePlace-boxTileOf x ok (q * rowCells x) j d))
         ∙ ap (processorOf x) (sym tile) ∙ sym own
 
-    module _ (marks : List ℕ) (g : OwnTo p b marks (q * wide x)) (room : (q + n) * wide x ≤ cells x) where
+    module _ (marks : List ℕ) (g : OwnTo p b marks (q * rowCells x)) (room : (q + n) * rowCells x ≤ cells x) where
       -- marked where the processor is this one, or left
       pub own-next : (marks′ : List ℕ)
-          → ((v ≡ b) × Shown x (q * wide x) ((q + n) * wide x) marks marks′) ⊎ ((v ≢ b) × (marks′ ≡ marks)) → OwnTo p b marks′ ((q + n) * wide x)
+          → ((v ≡ b) × Shown x (q * rowCells x) ((q + n) * rowCells x) marks marks′) ⊎ ((v ≢ b) × (marks′ ≡ marks)) → OwnTo p b marks′ ((q + n) * rowCells x)
       own-next marks′ (inl (e, sh)) =
           record {
             long = sh .long ∙ g .long;
-            told = λ j l. go j l (decLt j (q * wide x)) (inShape x j) refl;
+            told = λ j l. go j l (decLt j (q * rowCells x)) (inShape x j) refl;
             rest = λ j h l. sh .others j (inr h) ∙ g .rest j (omega (arith, h, up)) l;
           }
         where
-          up : q * wide x ≤ (q + n) * wide x
-          up = mul-le-mul-right (wide x) (omega arith)
+          up : q * rowCells x ≤ (q + n) * rowCells x
+          up = mul-le-mul-right (rowCells x) (omega arith)
 
-          go : (j : ℕ) → j < (q + n) * wide x → Dec (j < q * wide x) → (i : Bool) → inShape x j ≡ i → getD marks′ j 0 ≡ one (owns p b j)
+          go : (j : ℕ) → j < (q + n) * rowCells x → Dec (j < q * rowCells x) → (i : Bool) → inShape x j ≡ i → getD marks′ j 0 ≡ one (owns p b j)
           go j l (yes k) i f = sh .others j (inl k) ∙ g .told j k
           go j l (no k) true f =
               sh .each j (omega arith) l ∙ pick-true _ _ _ f
@@ -167,14 +167,14 @@ module _ (x : Nest) (z : Sizes) (s : Sized x z) (routed : Routed x z) (b : ℕ) 
       own-next marks′ (inr (ne, e)) =
           rw e (record {
             long = g .long;
-            told = λ j l. go j l (decLt j (q * wide x)) (inShape x j) refl;
+            told = λ j l. go j l (decLt j (q * rowCells x)) (inShape x j) refl;
             rest = λ j h l. g .rest j (omega (arith, h, up)) l;
           })
         where
-          up : q * wide x ≤ (q + n) * wide x
-          up = mul-le-mul-right (wide x) (omega arith)
+          up : q * rowCells x ≤ (q + n) * rowCells x
+          up = mul-le-mul-right (rowCells x) (omega arith)
 
-          go : (j : ℕ) → j < (q + n) * wide x → Dec (j < q * wide x) → (i : Bool) → inShape x j ≡ i → getD marks j 0 ≡ one (owns p b j)
+          go : (j : ℕ) → j < (q + n) * rowCells x → Dec (j < q * rowCells x) → (i : Bool) → inShape x j ≡ i → getD marks j 0 ≡ one (owns p b j)
           go j l (yes k) i f = g .told j k
           go j l (no k) true f =
               g .rest j (omega arith) (omega (arith, l, room))
@@ -182,11 +182,11 @@ module _ (x : Nest) (z : Sizes) (s : Sized x z) (routed : Routed x z) (b : ℕ) 
           go j l (no k) false f =
               g .rest j (omega arith) (omega (arith, l, room)) ∙ sym (one-false (owned-none x z s routed b j (omega (arith, l, room)) f))
 
-  pub own-done : (rows q : ℕ) (marks : List ℕ) → rows * wide x ≡ cells x → q ≤ rows → rows ≤ q → OwnTo p b marks (q * wide x)
+  pub own-done : (rows q : ℕ) (marks : List ℕ) → rows * rowCells x ≡ cells x → q ≤ rows → rows ≤ q → OwnTo p b marks (q * rowCells x)
       → marks ≡ tabulate (λ c. one (owns p b c)) (cells x)
   own-done rows q marks all h k g =
       let e : q ≡ rows = omega arith in
-      let m : q * wide x ≡ cells x = ap (λ (a : ℕ). a * wide x) e ∙ all in
+      let m : q * rowCells x ≡ cells x = ap (λ (a : ℕ). a * rowCells x) e ∙ all in
       ext-getD 0 marks (tabulate (λ c. one (owns p b c)) (cells x)) (g .long ∙ sym (length-tabulate (λ c. one (owns p b c)) (cells x)))
       (λ j l.
       g .told j (omega (arith, l, m, g .long))

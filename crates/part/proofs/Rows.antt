@@ -20,20 +20,20 @@ use Rattle.nest.specs.Shape.{inShape}
 use Rattle.nest.specs.Spans.{last, within, Spans, Row, Marked}
 use Rattle.nest.proofs.Shapes.{framed, span-row, place-row}
 use Rattle.layout.proofs.CellRows.{row-before, row-last, row-next}
-use Rattle.part.specs.Marking.{wide, Shown, Alike}
+use Rattle.part.specs.Marking.{rowCells, Shown, Alike}
 
 -- ---- a row
 
 module _ (x : Nest) (ok : Accepted x) (q : ℕ) (at : List ℕ) (r : Row x q at) (s : Interval) (sp : Spans x at s) (before : List ℕ) where
   abbrev c₀ : ℕ
-  c₀ = q * wide x
+  c₀ = q * rowCells x
 
-  in-row : (c : ℕ) → c₀ ≤ c → c < c₀ + wide x → inShape x c ≡ within s (c - c₀)
+  in-row : (c : ℕ) → c₀ ≤ c → c < c₀ + rowCells x → inShape x c ≡ within s (c - c₀)
   in-row c h l =
       let e : c ≡ c₀ + (c - c₀) = omega arith in
       ap (inShape x) e ∙ span-row x (framed x ok) q at s r sp (c - c₀) (omega arith)
 
-  pub row-shown : (after : List ℕ) → Marked before (c₀ + s .from) (c₀ + s .to) after → Shown x c₀ (c₀ + wide x) before after
+  pub row-shown : (after : List ℕ) → Marked before (c₀ + s .from) (c₀ + s .to) after → Shown x c₀ (c₀ + rowCells x) before after
   row-shown after m =
       record {
         long = m .long;
@@ -41,7 +41,7 @@ module _ (x : Nest) (ok : Accepted x) (q : ℕ) (at : List ℕ) (r : Row x q at)
         others = λ c o. outside c o;
       }
     where
-      go : (c : ℕ) → c₀ ≤ c → c < c₀ + wide x → Dec (c < c₀ + s .from) → Dec (c < c₀ + s .to) → getD after c 0 ≡ pick (inShape x c) 1 (getD before c 0)
+      go : (c : ℕ) → c₀ ≤ c → c < c₀ + rowCells x → Dec (c < c₀ + s .from) → Dec (c < c₀ + s .to) → getD after c 0 ≡ pick (inShape x c) 1 (getD before c 0)
       go c h l (yes a) d =
           m .others c (inl a) ∙ sym (pick-false _ _ _ (in-row c h l ∙ and-false _ _ (lt-leb (s .from) (c - c₀) (omega arith))))
       go c h l (no a) (yes d) =
@@ -50,12 +50,12 @@ module _ (x : Nest) (ok : Accepted x) (q : ℕ) (at : List ℕ) (r : Row x q at)
       go c h l (no a) (no d) =
           m .others c (inr (omega arith)) ∙ sym (pick-false _ _ _ (in-row c h l ∙ and-no _ _ (le-ltb (c - c₀) (s .to) (omega arith))))
 
-      outside : (c : ℕ) → (c < c₀) ⊎ (c₀ + wide x ≤ c) → getD after c 0 ≡ getD before c 0
+      outside : (c : ℕ) → (c < c₀) ⊎ (c₀ + rowCells x ≤ c) → getD after c 0 ≡ getD before c 0
       outside c (inl a) = m .others c (inl (omega arith))
       outside c (inr a) = m .others c (inr (omega (arith, a, sp .most)))
 
   -- no cell of it is in the shape
-  pub row-empty : s .to ≤ s .from → Shown x c₀ (c₀ + wide x) before before
+  pub row-empty : s .to ≤ s .from → Shown x c₀ (c₀ + rowCells x) before before
   row-empty k =
       record {
         long = refl;
@@ -63,7 +63,7 @@ module _ (x : Nest) (ok : Accepted x) (q : ℕ) (at : List ℕ) (r : Row x q at)
         others = λ c o. refl;
       }
     where
-      pick-same : (t : Bool) → t ≡ t → (c : ℕ) → c₀ ≤ c → c < c₀ + wide x → pick (inShape x c) 1 (getD before c 0) ≡ getD before c 0
+      pick-same : (t : Bool) → t ≡ t → (c : ℕ) → c₀ ≤ c → c < c₀ + rowCells x → pick (inShape x c) 1 (getD before c 0) ≡ getD before c 0
       pick-same t e c h l = pick-false _ _ _ (in-row c h l ∙ none (c - c₀) (decLt (c - c₀) (s .from)))
         where
           none : (a : ℕ) → Dec (a < s .from) → within s a ≡ false
@@ -73,10 +73,10 @@ module _ (x : Nest) (ok : Accepted x) (q : ℕ) (at : List ℕ) (r : Row x q at)
 -- ---- rows one after the other
 
 module _ (x : Nest) (ok : Accepted x) where
-  pub wide-some : 1 ≤ wide x
+  pub wide-some : 1 ≤ rowCells x
   wide-some = ok .long (last x) (omega (arith, ok .dimensions-least))
 
-  pub rows-few : (rows : ℕ) → rows * wide x ≤ cells x → rows ≤ 16384
+  pub rows-few : (rows : ℕ) → rows * rowCells x ≤ cells x → rows ≤ 16384
   rows-few rows e = omega (arith, ok .cells-most, mul-le-mul-left rows wide-some, e)
 
 pub shown-none : (x : Nest) (low : ℕ) (l : List ℕ) → Shown x low low l l
@@ -99,10 +99,10 @@ shown-join x low mid high old now new h k f g =
     outside c (inl a) = g .others c (inl (omega arith)) ∙ f .others c (inl a)
     outside c (inr a) = g .others c (inr a) ∙ f .others c (inr (omega arith))
 
-pub rows-next : (x : Nest) (from q : ℕ) (old now new : List ℕ) → from * wide x ≤ q * wide x → Shown x (from * wide x) (q * wide x) old now
-    → Shown x (q * wide x) (q * wide x + wide x) now new → Shown x (from * wide x) ((q + 1) * wide x) old new
+pub rows-next : (x : Nest) (from q : ℕ) (old now new : List ℕ) → from * rowCells x ≤ q * rowCells x → Shown x (from * rowCells x) (q * rowCells x) old now
+    → Shown x (q * rowCells x) (q * rowCells x + rowCells x) now new → Shown x (from * rowCells x) ((q + 1) * rowCells x) old new
 rows-next x from q old now new h f g =
-    rw (row-next (wide x) q q) (shown-join x (from * wide x) (q * wide x) (q * wide x + wide x) old now new h (omega arith) f g)
+    rw (row-next (rowCells x) q q) (shown-join x (from * rowCells x) (q * rowCells x) (q * rowCells x + rowCells x) old now new h (omega arith) f g)
 
 -- ---- rows in the same tiles
 
@@ -118,12 +118,12 @@ module _ (x : Nest) (ok : Accepted x) (q : ℕ) where
   abbrev N : ℕ → ℕ
   N = lengthOf x
 
-  place-first : (r j : ℕ) → j < d → cellPlace x (r * wide x) j ≡ place N d r j
+  place-first : (r j : ℕ) → j < d → cellPlace x (r * rowCells x) j ≡ place N d r j
   unfolding cellPlace
   place-first r j h =
       let e : x .dimensions ≡ suc d = omega (arith, ok .dimensions-least) in
-      let z : r * wide x ≡ r * wide x + 0 = omega arith in
-      ap (λ (m : ℕ). place N m (r * wide x) j) e ∙ (ap (λ (i : ℕ). place N (suc d) i j) z ∙ place-row N d r 0 j
+      let z : r * rowCells x ≡ r * rowCells x + 0 = omega arith in
+      ap (λ (m : ℕ). place N m (r * rowCells x) j) e ∙ (ap (λ (i : ℕ). place N (suc d) i j) z ∙ place-row N d r 0 j
       (ok .long d (omega (arith, ok .dimensions-least))) (omega arith)
       ∙ pick-false _ _ _ (ne-eqb j d (λ k. omega arith)))
 
@@ -145,7 +145,8 @@ module _ (x : Nest) (ok : Accepted x) (q : ℕ) where
       in-row : (y : ℕ) → y < n → place N d q (d - 1) + y < N (d - 1)
       in-row y l = omega (arith, l, h, a-is, ap (lengthOf x) e)
 
-      go : (y j : ℕ) → y < n → j < x .spread → Dec (j ≡ d - 1) → cellPlace x ((q + y) * wide x) j / tileLength x j ≡ cellPlace x (q * wide x) j / tileLength x j
+      go : (y j : ℕ) → y < n → j < x .spread → Dec (j ≡ d - 1) → cellPlace x ((q + y) * rowCells x) j / tileLength x j ≡ cellPlace x (q * rowCells x) j /
+          tileLength x j
       go y j l b (yes f) =
           ap (λ (i : ℕ). i / tileLength x j)
           (place-first (q + y) j (omega (arith, ok .spread-low)) ∙ ap (place N d (q + y)) f ∙ row-last N d q y (omega (arith, ok .dimensions-least))

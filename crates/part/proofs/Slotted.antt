@@ -16,7 +16,7 @@ use Rattle.plan.specs.Shaped.{shapedMessage, shapedSlots, planOf}
 use Rattle.plan.proofs.ShapedBox.{planOf-box}
 use Rattle.layout.specs.declared.Sizes.{Sizes}
 use Rattle.layout.specs.Sizes.{Sized}
-use Rattle.tables.specs.declared.scans.Place.{Place}
+use Rattle.tables.specs.declared.scans.MessageSlot.{MessageSlot}
 use Rattle.tables.specs.scans.Scans.{Sheet, Lengths, Found}
 use Rattle.tables.specs.boxes.Table.{FoundAt}
 use Rattle.tables.proofs.boxes.Scans as boxes
@@ -29,7 +29,7 @@ pub record Slotted (r : Route) (x : Nest) (lens : List ℕ) (n : ℕ) : Type 0 w
   pub sheet : Sheet lens n
   pub lengths : Lengths slot n lens
   pub counts : count (planOf r x) ≡ length (messagesOf slot n)
-  pub found : (m : ℕ) (p : Place) → ((f : ℕ → Message) → Lengths f n lens → Found f n m p) → FoundIn r x m p
+  pub found : (m : ℕ) (p : MessageSlot) → ((f : ℕ → Message) → Lengths f n lens → Found f n m p) → FoundIn r x m p
 
 module _ (x : Nest) (z : Sizes) (s : Sized x z) (lens : List ℕ) (t : Tabled x z lens) (k : ℕ) (is : k ≡ planOf (z .route) x .tiles) where
   module _ (e : x .bounds ≡ 0) where
@@ -39,7 +39,7 @@ module _ (x : Nest) (z : Sizes) (s : Sized x z) (lens : List ℕ) (t : Tabled x 
     slots-are : k * z .ways ≡ slots r x
     slots-are = rw (is ∙ ap (λ (p : Plan). p .tiles) (planOf-box r x (s .accepted) e), s .ways) refl
 
-    found-at : (m : ℕ) (p : Place) → Found (slotMessage r x) (slots r x) m p → FoundAt r x m p
+    found-at : (m : ℕ) (p : MessageSlot) → Found (slotMessage r x) (slots r x) m p → FoundAt r x m p
     unfolding messagesTo
     found-at m p f =
         record {

@@ -20,8 +20,8 @@ use Rattle.plan.specs.Shaped.{boxTile}
 use Rattle.layout.specs.Sizes.{along}
 
 -- how many cells a row has
-abbrev pub wide : Nest → ℕ
-wide x = lengthOf x (last x)
+abbrev pub rowCells : Nest → ℕ
+rowCells x = lengthOf x (last x)
 
 -- of the cells from one up to another those in the shape are marked, all others as before
 pub record Shown (x : Nest) (low high : ℕ) (before after : List ℕ) : Type 0 where
@@ -33,7 +33,7 @@ pub record Shown (x : Nest) (low high : ℕ) (before after : List ℕ) : Type 0 
 pub record Alike (x : Nest) (q n : ℕ) : Type 0 where
   pub full : 1 ≤ n
   pub same : (y j : ℕ) → y < n → j < x .spread
-      → cellPlace x ((q + y) * wide x) j / tileLength x j ≡ cellPlace x (q * wide x) j / tileLength x j
+      → cellPlace x ((q + y) * rowCells x) j / tileLength x j ≡ cellPlace x (q * rowCells x) j / tileLength x j
 
 -- the processor of the tile by way w from tile t of the box, as if there were one
 unfoldable pub aheadOf : Route → Nest → ℕ → ℕ → ℕ

@@ -18,27 +18,34 @@ ghost use Rattle.network.specs.Apart.{takerAt};
 ghost use Rattle.network.specs.Own.{owns, keeps, handles};
 ghost use Rattle.rank_index.specs.Ranks.{markedCells, rankAt, spreadOut, Counted};
 ghost use Rattle.part.specs.Part.{rankOf, mailAt, Listed};
-ghost use Rattle.part.specs.Marking.{wide, Shown, Alike, sideOf, Sided, Repeated};
-use crate::marks::takes;
+ghost use Rattle.part.specs.Marking.{rowCells, Shown, Alike, sideOf, Sided, Repeated};
+use crate::sides::is_taker;
 use base::half_index;
 use base::least;
 use base::zero_bytes;
 use layout::Sizes;
+use nest::MOST_CELLS;
+use nest::MOST_MESSAGES;
 use nest::Nest;
 use nest::division::place_along;
+use rank_index::BLOCKS;
 use rank_index::rank;
-use tables::held::cells_of;
-use tables::scans::Place;
+use tables::TABLE_WORDS;
+use tables::message_cells::cells_of;
+use tables::scans::MessageSlot;
 use tables::tiles_of;
 
-pub mod marks; // marks.rt: what one byte tells of a message: whose ends it has, and how far it is
+pub mod sides; // sides.rt: what one byte tells of a message: whose ends it has, and how far it is
+
+// One word for each message, 7,168 at most, and one for their end.
+pub const MESSAGE_ENDS: usize = 7169;
 
 // ---- cells
 
 // Marks the cells of a row that are in the shape.
 fn mark_row(nest: Nest, q: usize, marks: &mut [u8])
-    requires { ⌜ (Accepted nest × (length (now marks) ≡ cells nest)) × (q * wide nest + wide nest ≤ cells nest) ⌝ }
-    ensures { λ _. ⌜ Shown nest (q * wide nest) (q * wide nest + wide nest) (now (marks .entry)) (now (marks .exit)) ⌝ }
+    requires { ⌜ (Accepted nest × (length (now marks) ≡ cells nest)) × (q * rowCells nest + rowCells nest ≤ cells nest) ⌝ }
+    ensures { λ _. ⌜ Shown nest (q * rowCells nest) (q * rowCells nest + rowCells nest) (now (marks .entry)) (now (marks .exit)) ⌝ }
 {
     let at = nest::row_place(nest, q);
     let s = nest::span(nest, at);
@@ -50,8 +57,8 @@ fn mark_row(nest: Nest, q: usize, marks: &mut [u8])
 
 // The same of the rows from one up to another.
 fn mark_rows(nest: Nest, from: usize, to: usize, marks: &mut [u8])
-    requires { ⌜ (Accepted nest × (length (now marks) ≡ cells nest)) × ((from ≤ to) × (to * wide nest ≤ cells nest)) ⌝ }
-    ensures { λ _. ⌜ Shown nest (from * wide nest) (to * wide nest) (now (marks .entry)) (now (marks .exit)) ⌝ }
+    requires { ⌜ (Accepted nest × (length (now marks) ≡ cells nest)) × ((from ≤ to) × (to * rowCells nest ≤ cells nest)) ⌝ }
+    ensures { λ _. ⌜ Shown nest (from * rowCells nest) (to * rowCells nest) (now (marks .entry)) (now (marks .exit)) ⌝ }
 {
     for q in from..to {
         mark_row(nest, q, marks);
@@ -143,7 +150,7 @@ fn copy_sides(sides: &mut [u8], at: usize, n: usize)
 }
 
 // A tile's number in the box.
-pub fn box_tile(nest: Nest, sizes: Sizes, lens: &[u16; 9217], tile: usize) -> usize
+pub fn box_tile(nest: Nest, sizes: Sizes, lens: &[u16; TABLE_WORDS], tile: usize) -> usize
     requires { ⌜ (Sized nest sizes × Tabled nest sizes (now lens)) × (tile < planOf (sizes .route) nest .tiles) ⌝ }
     ensures { λ r. ⌜ (r ≡ boxTile nest tile) × (r < boxTiles nest) ⌝ }
 {
@@ -154,7 +161,7 @@ pub fn box_tile(nest: Nest, sizes: Sizes, lens: &[u16; 9217], tile: usize) -> us
 }
 
 // For each slot which of its ends are the processor's, looked up once a chain.
-fn fill_sides(nest: Nest, sizes: Sizes, lens: &[u16; 9217], b: usize, sides: &mut [u8])
+fn fill_sides(nest: Nest, sizes: Sizes, lens: &[u16; TABLE_WORDS], b: usize, sides: &mut [u8])
     requires { ⌜ (Sized nest sizes × Tabled nest sizes (now lens)) × (length (now sides) ≡ 7168) ⌝ }
     ensures { λ _. ⌜ Sided (sizes .route) nest b (planOf (sizes .route) nest .tiles * sizes .ways) (now (sides .exit)) ⌝ }
 {
@@ -197,8 +204,8 @@ fn mark_cells(marks: &mut [u8], cells: &[u16])
 fn mark_held(
     nest: Nest,
     sizes: Sizes,
-    lens: &[u16; 9217],
-    place: Place,
+    lens: &[u16; TABLE_WORDS],
+    place: MessageSlot,
     list: &mut [u16],
     marks: &mut [u8],
 )
@@ -214,8 +221,8 @@ fn mark_held(
 fn mark_brought(
     nest: Nest,
     sizes: Sizes,
-    lens: &[u16; 9217],
-    place: Place,
+    lens: &[u16; TABLE_WORDS],
+    place: MessageSlot,
     b: usize,
     side: u8,
     list: &mut [u16],
@@ -228,7 +235,7 @@ fn mark_brought(
         ≡ pick (eqb (takerAt (planOf (sizes .route) nest) (place .number)) b)
         (setAll (now (marks .entry)) (heldBy (planOf (sizes .route) nest) (place .number)) 1) (now (marks .entry)) ⌝ }
 {
-    if takes(side) {
+    if is_taker(side) {
         let words = place.words;
         mark_held(nest, sizes, lens, place, &mut list[0..words], marks);
     }
@@ -238,7 +245,7 @@ fn mark_brought(
 fn mark_messages(
     nest: Nest,
     sizes: Sizes,
-    lens: &[u16; 9217],
+    lens: &[u16; TABLE_WORDS],
     b: usize,
     sides: &[u8],
     list: &mut [u16],
@@ -256,7 +263,7 @@ fn mark_messages(
     while slot < slots {
         let words = half_index(lens[slot]);
         if words != 0 {
-            let place = Place {
+            let place = MessageSlot {
                 slot: slot,
                 number: number,
                 offset: offset,
@@ -271,21 +278,21 @@ fn mark_messages(
 }
 
 // Marks the cells that the processor keeps words of: these, and those that a message to one of its tiles brings.
-pub fn mark_kept(nest: Nest, sizes: Sizes, lens: &[u16; 9217], b: usize, marks: &mut [u8])
+pub fn mark_kept(nest: Nest, sizes: Sizes, lens: &[u16; TABLE_WORDS], b: usize, marks: &mut [u8])
     requires { ⌜ (Sized nest sizes × Tabled nest sizes (now lens)) × ((b < processors nest) × (length (now marks) ≡ cells nest)) ⌝ }
     ensures { λ _. ⌜ now (marks .exit) ≡ tabulate (λ c. one (keeps (planOf (sizes .route) nest) b c)) (cells nest) ⌝ }
 {
     mark_own(nest, sizes, b, marks);
-    let mut sides = [0u8; 7168];
+    let mut sides = [0u8; MOST_MESSAGES];
     fill_sides(nest, sizes, lens, b, &mut sides);
-    let mut list = [0u16; 16384];
+    let mut list = [0u16; MOST_CELLS];
     mark_messages(nest, sizes, lens, b, &sides, &mut list, marks);
 }
 
 // ---- words, where the marked cells' ranks say
 
 // How many cells are marked before this one, where the rank of another is known: cells of a list mostly lie side by side.
-fn rank_by(marks: &[u8], counts: &[u32; 257], known: usize, at: usize, c: usize) -> usize
+fn rank_by(marks: &[u8], counts: &[u32; BLOCKS], known: usize, at: usize, c: usize) -> usize
     requires { ⌜ Counted (now marks) (now counts) × ((c ≤ length (now marks)) × (length (now marks) ≤ 16384)) ⌝ }
     requires { ⌜ at ≡ rankAt (now marks) known ⌝ }
     ensures { λ r. ⌜ r ≡ rankAt (now (marks .entry)) c ⌝ }
@@ -297,7 +304,7 @@ fn rank_by(marks: &[u8], counts: &[u32; 257], known: usize, at: usize, c: usize)
 }
 
 // The words of these cells into the part.
-pub fn take(marks: &[u8], counts: &[u32; 257], cells: &[u16], memory: &mut [u32], words: &[u32])
+pub fn take(marks: &[u8], counts: &[u32; BLOCKS], cells: &[u16], memory: &mut [u32], words: &[u32])
     requires { ⌜ Listed (now marks) (now counts) (now cells) (now memory) (now words) ⌝ }
     ensures { λ _. ⌜ now (memory .exit)
         ≡ pack (unpack (spreadOut (now (marks .entry)) (now (memory .entry))) (now (cells .entry)) (now (words .entry)))
@@ -317,7 +324,7 @@ pub fn take(marks: &[u8], counts: &[u32; 257], cells: &[u16], memory: &mut [u32]
 }
 
 // And out of it.
-pub fn give(marks: &[u8], counts: &[u32; 257], cells: &[u16], memory: &[u32], words: &mut [u32])
+pub fn give(marks: &[u8], counts: &[u32; BLOCKS], cells: &[u16], memory: &[u32], words: &mut [u32])
     requires { ⌜ Listed (now marks) (now counts) (now cells) (now memory) (now words) ⌝ }
     ensures { λ _. ⌜ now (words .exit) ≡ pack (spreadOut (now (marks .entry)) (now (memory .entry))) (now (cells .entry)) ⌝ }
 {
@@ -337,7 +344,7 @@ pub fn give(marks: &[u8], counts: &[u32; 257], cells: &[u16], memory: &[u32], wo
 // ---- messages
 
 // Whether the processor sends or takes the message, as a word, by its slot's byte.
-fn handled_one(nest: Nest, sizes: Sizes, place: Place, b: usize, side: u8) -> u32
+fn handled_one(nest: Nest, sizes: Sizes, place: MessageSlot, b: usize, side: u8) -> u32
     requires { ⌜ (Sized nest sizes × Routed nest sizes) × FoundIn (sizes .route) nest (place .number) place ⌝ }
     requires { ⌜ side ≡ sideOf (sizes .route) nest b (boxTile nest (place .slot / ways (sizes .route) nest)) (place .slot % ways (sizes .route) nest) ⌝ }
     ensures { λ r. ⌜ r ≡ one (handles (planOf (sizes .route) nest) b (place .number)) ⌝ }
@@ -349,17 +356,17 @@ fn handled_one(nest: Nest, sizes: Sizes, place: Place, b: usize, side: u8) -> u3
 fn fill_ranks(
     nest: Nest,
     sizes: Sizes,
-    lens: &[u16; 9217],
+    lens: &[u16; TABLE_WORDS],
     b: usize,
     sides: &[u8],
-    ranks: &mut [u32; 7169],
-    places: &mut [u32; 7169],
+    ordinals: &mut [u32; MESSAGE_ENDS],
+    starts: &mut [u32; MESSAGE_ENDS],
 )
     requires { ⌜ (Sized nest sizes × Tabled nest sizes (now lens)) × ((length (now sides) ≡ 7168)
         × Sided (sizes .route) nest b (planOf (sizes .route) nest .tiles * sizes .ways) (now sides)) ⌝ }
-    requires { ⌜ (length (now ranks) ≡ 7169) × (length (now places) ≡ 7169) ⌝ }
-    ensures { λ _. ⌜ ((m : ℕ) → m ≤ count (planOf (sizes .route) nest) → (getD (now (ranks .exit)) m 0 ≡ rankOf (planOf (sizes .route) nest) b m)
-        × (getD (now (places .exit)) m 0 ≡ mailAt (planOf (sizes .route) nest) b m)) ⌝ }
+    requires { ⌜ (length (now ordinals) ≡ 7169) × (length (now starts) ≡ 7169) ⌝ }
+    ensures { λ _. ⌜ ((m : ℕ) → m ≤ count (planOf (sizes .route) nest) → (getD (now (ordinals .exit)) m 0 ≡ rankOf (planOf (sizes .route) nest) b m)
+        × (getD (now (starts .exit)) m 0 ≡ mailAt (planOf (sizes .route) nest) b m)) ⌝ }
 {
     let slots = tiles_of(nest, sizes, lens) * sizes.ways;
     let mut slot = 0;
@@ -369,10 +376,10 @@ fn fill_ranks(
     let mut at = 0;
     while slot < slots {
         let words = half_index(lens[slot]);
-        ranks[number] = rank;
-        places[number] = at;
+        ordinals[number] = rank;
+        starts[number] = at;
         if words != 0 {
-            let place = Place {
+            let place = MessageSlot {
                 slot: slot,
                 number: number,
                 offset: offset,
@@ -386,25 +393,25 @@ fn fill_ranks(
         offset += words;
         slot += 1;
     }
-    ranks[number] = rank;
-    places[number] = at;
+    ordinals[number] = rank;
+    starts[number] = at;
 }
 
 // The same of the table.
 pub fn fill_handled(
     nest: Nest,
     sizes: Sizes,
-    lens: &[u16; 9217],
+    lens: &[u16; TABLE_WORDS],
     b: usize,
-    ranks: &mut [u32; 7169],
-    places: &mut [u32; 7169],
+    ordinals: &mut [u32; MESSAGE_ENDS],
+    starts: &mut [u32; MESSAGE_ENDS],
 )
     requires { ⌜ (Sized nest sizes × Tabled nest sizes (now lens)) × (b < processors nest) ⌝ }
-    requires { ⌜ (length (now ranks) ≡ 7169) × (length (now places) ≡ 7169) ⌝ }
-    ensures { λ _. ⌜ ((m : ℕ) → m ≤ count (planOf (sizes .route) nest) → (getD (now (ranks .exit)) m 0 ≡ rankOf (planOf (sizes .route) nest) b m)
-        × (getD (now (places .exit)) m 0 ≡ mailAt (planOf (sizes .route) nest) b m)) ⌝ }
+    requires { ⌜ (length (now ordinals) ≡ 7169) × (length (now starts) ≡ 7169) ⌝ }
+    ensures { λ _. ⌜ ((m : ℕ) → m ≤ count (planOf (sizes .route) nest) → (getD (now (ordinals .exit)) m 0 ≡ rankOf (planOf (sizes .route) nest) b m)
+        × (getD (now (starts .exit)) m 0 ≡ mailAt (planOf (sizes .route) nest) b m)) ⌝ }
 {
-    let mut sides = [0u8; 7168];
+    let mut sides = [0u8; MOST_MESSAGES];
     fill_sides(nest, sizes, lens, b, &mut sides);
-    fill_ranks(nest, sizes, lens, b, &sides, ranks, places);
+    fill_ranks(nest, sizes, lens, b, &sides, ordinals, starts);
 }

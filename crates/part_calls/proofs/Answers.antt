@@ -26,7 +26,7 @@ use Rattle.engine.proofs.Lines.{and-right}
 use Rattle.engine.proofs.Reading.{zeros-after-no, zeros-after-yes, part-carries}
 use Rattle.engine.proofs.Turns.{answered-no, answered-yes}
 use Rattle.records.specs.declared.Flat.{Flat}
-use Rattle.records.specs.Records.{Carries}
+use Rattle.records.specs.Records.{Flattens}
 use Rattle.summary.specs.declared.MessageLine.{MessageLine}
 use Rattle.summary.specs.Summary.{lineOf}
 use Rattle.network.specs.Apart.{takerAt, marked, received}
@@ -34,9 +34,9 @@ use Rattle.network.specs.Own.{handles, keptCells, handled, mailOf}
 use Rattle.network.specs.Brought.{takenBy, asLong}
 use Rattle.transport.proofs.arrivals.Taking.{long-here}
 use Rattle.part.specs.Part.{wordsOf, rankOf, mailAt, partFits}
-use Rattle.part_calls.specs.front.Calls.{wide, narrow, lengthsOf, noLengths, lengthsIf, ownSizesCall, ownFreshCall, ownPostCall, ownArriveCall}
+use Rattle.part_calls.specs.front.Calls.{fromPart, toPart, lengthsOf, noLengths, lengthsIf, partSizesCall, partFreshCall, partPostCall, partArriveCall}
 use Rattle.part_calls.specs.declared.AreaLengths.{AreaLengths}
-use Rattle.part_calls.specs.front.Calls.{ownRows, ownMessagesCall, ownCollected, ownCollectCall}
+use Rattle.part_calls.specs.front.Calls.{partRows, partMessagesCall, partCollected, partCollectCall}
 use Rattle.recipe.specs.declared.Recipe.{Recipe}
 use Rattle.part_calls.specs.front.Given.{OpensFor, unfitLines}
 use Rattle.part_calls.specs.Given.{freshOr, postLines, postedOr, arriveLines, arrivesOr, markIn, handedOver, MayArrive, arrivedOr}
@@ -58,42 +58,42 @@ none-told (suc n) p b h = refl
 
 module _ (bytes : List ℕ) (route b : ℕ) (r : Recipe) (o : OpensFor bytes route b r) where
   -- how long the areas are
-  pub sizes-read : r .number ≢ 0 → noLengths (r .number) ≡ ownSizesCall bytes route b
-  unfolding ownSizesCall
+  pub sizes-read : r .number ≢ 0 → noLengths (r .number) ≡ partSizesCall bytes route b
+  unfolding partSizesCall
   sizes-read h = sym (none-told (r .number) (recipe bytes route) b h) ∙ ap (λ (n : ℕ). lengthsIf n (recipe bytes route) b) (o .number)
 
-  pub sizes-done : r .number ≡ 0 → (new : AreaLengths) → new ≡ lengthsOf (planOf (r .sizes .route) (r .nest)) b → new ≡ ownSizesCall bytes route b
-  unfolding ownSizesCall lengthsIf
+  pub sizes-done : r .number ≡ 0 → (new : AreaLengths) → new ≡ lengthsOf (planOf (r .sizes .route) (r .nest)) b → new ≡ partSizesCall bytes route b
+  unfolding partSizesCall lengthsIf
   sizes-done z new e =
       e ∙ ap (λ (p : Plan). lengthsOf p b) (o .plan z) ∙ ap (λ (n : ℕ). lengthsIf n (recipe bytes route) b) (sym z ∙ o .number)
 
   module _ (s : State) where
-    pub fresh-read : r .number ≢ 0 → answer (r .number) s ≡ ownFreshCall bytes route s b
-    unfolding ownFreshCall
-    fresh-read h = closed bytes route b r o (λ p. line 9 (not (partFits p b s)) ∷ []) (λ p. narrow p b (fresh p)) s h
+    pub fresh-read : r .number ≢ 0 → answer (r .number) s ≡ partFreshCall bytes route s b
+    unfolding partFreshCall
+    fresh-read h = closed bytes route b r o (λ p. line 9 (not (partFits p b s)) ∷ []) (λ p. toPart p b (fresh p)) s h
 
-    pub fresh-past : r .number ≡ 0 → (a : Answered State) → a ≡ freshOr (planOf (r .sizes .route) (r .nest)) b s → a ≡ ownFreshCall bytes route s b
-    unfolding ownFreshCall
-    fresh-past z a e = opened bytes route b r o (λ p. line 9 (not (partFits p b s)) ∷ []) (λ p. narrow p b (fresh p)) s z a e
+    pub fresh-past : r .number ≡ 0 → (a : Answered State) → a ≡ freshOr (planOf (r .sizes .route) (r .nest)) b s → a ≡ partFreshCall bytes route s b
+    unfolding partFreshCall
+    fresh-past z a e = opened bytes route b r o (λ p. line 9 (not (partFits p b s)) ∷ []) (λ p. toPart p b (fresh p)) s z a e
 
     module _ (m : ℕ) where
-      pub post-read : r .number ≢ 0 → answer (r .number) s ≡ ownPostCall bytes route s b m
-      unfolding ownPostCall
-      post-read h = closed bytes route b r o (λ p. postLines p b s m) (λ p. narrow p b (marked (wide p b s) m)) s h
+      pub post-read : r .number ≢ 0 → answer (r .number) s ≡ partPostCall bytes route s b m
+      unfolding partPostCall
+      post-read h = closed bytes route b r o (λ p. postLines p b s m) (λ p. toPart p b (marked (fromPart p b s) m)) s h
 
-      pub post-past : r .number ≡ 0 → (a : Answered State) → a ≡ postedOr (planOf (r .sizes .route) (r .nest)) b s m → a ≡ ownPostCall bytes route s b m
-      unfolding ownPostCall
-      post-past z a e = opened bytes route b r o (λ p. postLines p b s m) (λ p. narrow p b (marked (wide p b s) m)) s z a e
+      pub post-past : r .number ≡ 0 → (a : Answered State) → a ≡ postedOr (planOf (r .sizes .route) (r .nest)) b s m → a ≡ partPostCall bytes route s b m
+      unfolding partPostCall
+      post-past z a e = opened bytes route b r o (λ p. postLines p b s m) (λ p. toPart p b (marked (fromPart p b s) m)) s z a e
 
       module _ (ws : List ℕ) where
-        pub arrive-read : r .number ≢ 0 → answer (r .number) s ≡ ownArriveCall bytes route s b m ws
-        unfolding ownArriveCall
-        arrive-read h = closed bytes route b r o (λ p. arriveLines p b s m ws) (λ p. narrow p b (received p (wide p b s) m ws)) s h
+        pub arrive-read : r .number ≢ 0 → answer (r .number) s ≡ partArriveCall bytes route s b m ws
+        unfolding partArriveCall
+        arrive-read h = closed bytes route b r o (λ p. arriveLines p b s m ws) (λ p. toPart p b (received p (fromPart p b s) m ws)) s h
 
         pub arrive-past : r .number ≡ 0 → (a : Answered State) → a ≡ arrivesOr (planOf (r .sizes .route) (r .nest)) b s m ws
-            → a ≡ ownArriveCall bytes route s b m ws
-        unfolding ownArriveCall
-        arrive-past z a e = opened bytes route b r o (λ p. arriveLines p b s m ws) (λ p. narrow p b (received p (wide p b s) m ws)) s z a e
+            → a ≡ partArriveCall bytes route s b m ws
+        unfolding partArriveCall
+        arrive-past z a e = opened bytes route b r o (λ p. arriveLines p b s m ws) (λ p. toPart p b (received p (fromPart p b s) m ws)) s z a e
 
 -- ---- answers of the same number, and of the same words where that is 0
 
@@ -133,13 +133,13 @@ module _ (p : Plan) (b : ℕ) (low : b < p .processors) (m u l t : List ℕ) (r 
   pub fresh-nine : r ≡ false → answer 9 (stateOf m u (zerosAfter l 9) t) ≡ freshOr p b s
   fresh-nine h =
       ap (λ (k : List ℕ). answer 9 (stateOf m u k t)) (sym (zeros-after-no l 9 (λ q. omega arith)))
-      ∙ refuse 9 _ (narrow p b (fresh p)) s (λ q. omega arith) (sym (first-true 9 _ [] (not-false (sym is ∙ h))))
+      ∙ refuse 9 _ (toPart p b (fresh p)) s (λ q. omega arith) (sym (first-true 9 _ [] (not-false (sym is ∙ h))))
 
   module _ (yes : r ≡ true) where
     g : PartLengths p b s
     g = fits-are p b s (sym is ∙ yes)
 
-    fresh-is : narrow p b (fresh p) ≡ stateOf (replicate (length m) 0) (replicate (length u) 0) (replicate (length l) 0) (replicate (length t) 0)
+    fresh-is : toPart p b (fresh p) ≡ stateOf (replicate (length m) 0) (replicate (length u) 0) (replicate (length l) 0) (replicate (length t) 0)
     unfolding fresh
     fresh-is =
         narrow-is p b s low g (fresh p)
@@ -160,25 +160,26 @@ module _ (p : Plan) (b : ℕ) (low : b < p .processors) (m u l t : List ℕ) (r 
     unfolding firstOf
     fresh-done m′ u′ t′ x y z =
         ap (answer 0) (state-is x y (sym (zeros-after-yes l)) z ∙ sym fresh-is)
-        ∙ answered-yes _ (narrow p b (fresh p)) s (first-false 9 _ [] (not-true (sym is ∙ yes)))
+        ∙ answered-yes _ (toPart p b (fresh p)) s (first-false 9 _ [] (not-true (sym is ∙ yes)))
 
 -- ---- the part of areas whose mail and marks are changed
 
 module _ (p : Plan) (b : ℕ) (s : State) (low : b < p .processors) (g : PartLengths p b s) where
-  narrow-changed : (u t : List ℕ) → narrow p b (stateOf (wide p b s .memories) u (wide p b s .progress) t)
+  narrow-changed : (u t : List ℕ) → toPart p b (stateOf (fromPart p b s .memories) u (fromPart p b s .progress) t)
       ≡ stateOf (s .memories) (mailOf p u (handled p b)) (s .progress) (pack t (handled p b))
   narrow-changed u t =
-      narrow-is p b s low g (stateOf (wide p b s .memories) u (wide p b s .progress) t)
+      narrow-is p b s low g (stateOf (fromPart p b s .memories) u (fromPart p b s .progress) t)
       ∙ state-is (ap (λ (z : List ℕ). pack z (keptCells p b)) (wide-memory p b s low g) ∙ words-back p b s low g) refl
       ((let x = wide-finished p b s low g in let y = wide-stage p b s low g in let z = wide-sent p b s low g in
-      let w : finishedOf (wide p b s) b ∷ stageOf (wide p b s) b ∷ sentOf (wide p b s) b ∷ [] ≡ finishedOf s 0 ∷ stageOf s 0 ∷ sentOf s 0 ∷ [] = cc in w)
+      let w : finishedOf (fromPart p b s) b ∷ stageOf (fromPart p b s) b ∷ sentOf (fromPart p b s) b ∷ [] ≡ finishedOf s 0 ∷ stageOf s 0 ∷ sentOf s 0 ∷ [] = cc
+      in w)
       ∙ sym (three (s .progress) (g .progress))) refl
 
   -- the machine's mark is the part's
-  mark-is : (m : ℕ) → m < count p → getD (wide p b s .status) m 0 ≡ markIn p b (s .status) m
+  mark-is : (m : ℕ) → m < count p → getD (fromPart p b s .status) m 0 ≡ markIn p b (s .status) m
   mark-is m lo = go (handles p b m) refl
     where
-      go : (h : Bool) → handles p b m ≡ h → getD (wide p b s .status) m 0 ≡ markIn p b (s .status) m
+      go : (h : Bool) → handles p b m ≡ h → getD (fromPart p b s .status) m 0 ≡ markIn p b (s .status) m
       go true e = sym (mark-at p b s low g m lo e) ∙ sym (pick-true _ _ _ e)
       go false e = mark-none p b s low g m e ∙ sym (pick-false _ _ _ e)
 
@@ -191,16 +192,16 @@ module _ (p : Plan) (b : ℕ) (s : State) (low : b < p .processors) (g : PartLen
       go false q = absurd (n (sym e ∙ pick-false _ _ _ q))
 
   module _ (m : ℕ) (lo : m < count p) (h : handles p b m ≡ true) where
-    posted-is : narrow p b (marked (wide p b s) m) ≡ stateOf (s .memories) (s .buffer) (s .progress) (set (s .status) (rankOf p b m) 2)
+    posted-is : toPart p b (marked (fromPart p b s) m) ≡ stateOf (s .memories) (s .buffer) (s .progress) (set (s .status) (rankOf p b m) 2)
     posted-is =
-        narrow-changed (wide p b s .buffer) (set (wide p b s .status) m 2)
+        narrow-changed (fromPart p b s .buffer) (set (fromPart p b s .status) m 2)
         ∙ state-is refl (wide-mail p b s low g) refl (mark-set p b s low g m lo h 2)
 
     arrived-is : (ws : List ℕ) → length ws ≡ length (heldBy p m)
-        → narrow p b (received p (wide p b s) m ws)
+        → toPart p b (received p (fromPart p b s) m ws)
         ≡ stateOf (s .memories) (put (s .buffer) (mailAt p b m) ws) (s .progress) (set (s .status) (rankOf p b m) 2)
     arrived-is ws n =
-        narrow-changed (put (wide p b s .buffer) (offset (p .messages) m) ws) (set (wide p b s .status) m 2)
+        narrow-changed (put (fromPart p b s .buffer) (offset (p .messages) m) ws) (set (fromPart p b s .status) m 2)
         ∙ state-is refl (words-put p b s low g m lo h ws n) refl (mark-set p b s low g m lo h 2)
 
 -- ---- ranks tell what is handled
@@ -319,11 +320,11 @@ module _ (p : Plan) (b m from n : ℕ) (mail : List ℕ) (long : length mail ≡
 module _ (p : Plan) (b : ℕ) (low : b < p .processors) (s : State) (r : ℕ) (e : r ≡ firstOf (unfitLines p b s)) where
   module _ (m : ℕ) where
     abbrev lastLines : List Line
-    lastLines = line 11 (not (ltb m (count p))) ∷ line 14 (not (eqb (getD (wide p b s .status) m 0) 1)) ∷ []
+    lastLines = line 11 (not (ltb m (count p))) ∷ line 14 (not (eqb (getD (fromPart p b s .status) m 0) 1)) ∷ []
 
     pub post-unfit : r ≢ 0 → answer r s ≡ postedOr p b s m
     post-unfit h =
-        refuse r _ (narrow p b (marked (wide p b s) m)) s h (e ∙ sym (first-some (unfitLines p b s) lastLines (λ q. h (e ∙ q))))
+        refuse r _ (toPart p b (marked (fromPart p b s) m)) s h (e ∙ sym (first-some (unfitLines p b s) lastLines (λ q. h (e ∙ q))))
 
     module _ (z : r ≡ 0) where
       lent : PartLengths p b s
@@ -332,8 +333,8 @@ module _ (p : Plan) (b : ℕ) (low : b < p .processors) (s : State) (r : ℕ) (e
       past : firstOf (postLines p b s m) ≡ firstOf lastLines
       past =
           let q = unfit-none p b s r e z in
-          first-false 9 (not (partFits p b s)) (deliverLines p (wide p b s) m) (not-true (q .0))
-          ∙ first-false 10 (not (fit p (wide p b s))) lastLines (not-true (q .1))
+          first-false 9 (not (partFits p b s)) (deliverLines p (fromPart p b s) m) (not-true (q .0))
+          ∙ first-false 10 (not (fit p (fromPart p b s))) lastLines (not-true (q .1))
 
       same : Dec (m < count p) → firstOf (overLines p b s m) ≡ firstOf lastLines
       same (yes lo) =
@@ -343,7 +344,7 @@ module _ (p : Plan) (b : ℕ) (low : b < p .processors) (s : State) (r : ℕ) (e
 
       -- where no line is true it is handled
       same-words : firstOf (overLines p b s m) ≡ 0
-          → stateOf (s .memories) (s .buffer) (s .progress) (set (s .status) (rankOf p b m) 2) ≡ narrow p b (marked (wide p b s) m)
+          → stateOf (s .memories) (s .buffer) (s .progress) (set (s .status) (rankOf p b m) 2) ≡ toPart p b (marked (fromPart p b s) m)
       same-words q =
           let a = none-first 11 (not (ltb m (count p))) (line 14 (not (eqb (markIn p b (s .status) m) 1)) ∷ []) (λ y. omega arith) q in
           let c = none-first 14 (not (eqb (markIn p b (s .status) m) 1)) [] (λ y. omega arith) (a .1) in
@@ -351,24 +352,24 @@ module _ (p : Plan) (b : ℕ) (low : b < p .processors) (s : State) (r : ℕ) (e
           (handles-marked p b s low lent m 1 (λ y. omega arith) (eqb-true _ _ (true-not (c .0)))))
 
       pub post-over : (a : Answered State) → a ≡ handedOver p b s m → a ≡ postedOr p b s m
-      post-over a t = t ∙ answered-same _ _ (after p b s m) (narrow p b (marked (wide p b s) m)) s (same (decLt m (count p)) ∙ sym past) same-words
+      post-over a t = t ∙ answered-same _ _ (after p b s m) (toPart p b (marked (fromPart p b s) m)) s (same (decLt m (count p)) ∙ sym past) same-words
 
   module _ (m : ℕ) (ws : List ℕ) where
     abbrev laterLines : List Line
-    laterLines = line 11 (not (takenBy p b m)) ∷ line 14 (not (eqb (getD (wide p b s .status) m 0) 0)) ∷ []
+    laterLines = line 11 (not (takenBy p b m)) ∷ line 14 (not (eqb (getD (fromPart p b s .status) m 0) 0)) ∷ []
 
     pub arrive-length : asLong p m ws ≡ false → answer 9 s ≡ arrivesOr p b s m ws
     arrive-length h =
-        refuse 9 _ (narrow p b (received p (wide p b s) m ws)) s (λ q. omega arith) (sym (first-true 9 _ _ (not-false (and-no _ _ h))))
+        refuse 9 _ (toPart p b (received p (fromPart p b s) m ws)) s (λ q. omega arith) (sym (first-true 9 _ _ (not-false (and-no _ _ h))))
 
     module _ (long : asLong p m ws ≡ true) where
       same-lines : firstOf (arriveLines p b s m ws) ≡ firstOf (unfitLines p b s ++ laterLines)
       same-lines =
-          ap (λ (t : Bool). firstOf (line 9 (not t) ∷ line 10 (not (fit p (wide p b s))) ∷ laterLines)) (and-right (partFits p b s) (asLong p m ws) long)
+          ap (λ (t : Bool). firstOf (line 9 (not t) ∷ line 10 (not (fit p (fromPart p b s))) ∷ laterLines)) (and-right (partFits p b s) (asLong p m ws) long)
 
       pub arrive-unfit : r ≢ 0 → answer r s ≡ arrivesOr p b s m ws
       arrive-unfit h =
-          refuse r _ (narrow p b (received p (wide p b s) m ws)) s h
+          refuse r _ (toPart p b (received p (fromPart p b s) m ws)) s h
           (e ∙ sym (same-lines ∙ first-some (unfitLines p b s) laterLines (λ q. h (e ∙ q))))
 
       module _ (z : r ≡ 0) where
@@ -379,8 +380,8 @@ module _ (p : Plan) (b : ℕ) (low : b < p .processors) (s : State) (r : ℕ) (e
         behind-two =
             let q = unfit-none p b s r e z in
             same-lines
-            ∙ first-false 9 (not (partFits p b s)) (line 10 (not (fit p (wide p b s))) ∷ laterLines) (not-true (q .0))
-            ∙ first-false 10 (not (fit p (wide p b s))) laterLines (not-true (q .1))
+            ∙ first-false 9 (not (partFits p b s)) (line 10 (not (fit p (fromPart p b s))) ∷ laterLines) (not-true (q .0))
+            ∙ first-false 10 (not (fit p (fromPart p b s))) laterLines (not-true (q .1))
 
         arrive-same : (t : Bool) → takenBy p b m ≡ t → firstOf (comingLines p b s m ws) ≡ firstOf laterLines
         arrive-same true q =
@@ -388,7 +389,7 @@ module _ (p : Plan) (b : ℕ) (low : b < p .processors) (s : State) (r : ℕ) (e
             (sym (mark-is p b s low arrive-lent m (ltb-true m (count p) (both q .0))))
         arrive-same false q = first-true 11 _ _ (not-false q) ∙ sym (first-true 11 _ _ (not-false q))
 
-        arrive-words : firstOf (comingLines p b s m ws) ≡ 0 → came p b s m ws ≡ narrow p b (received p (wide p b s) m ws)
+        arrive-words : firstOf (comingLines p b s m ws) ≡ 0 → came p b s m ws ≡ toPart p b (received p (fromPart p b s) m ws)
         unfolding handles
         arrive-words q =
             let a = none-first 11 (not (takenBy p b m)) (line 14 (not (eqb (markIn p b (s .status) m) 0)) ∷ []) (λ y. omega arith) q in
@@ -399,12 +400,12 @@ module _ (p : Plan) (b : ℕ) (low : b < p .processors) (s : State) (r : ℕ) (e
         pub arrive-come : (a : Answered State) → a ≡ arrivedOr p b s m ws → a ≡ arrivesOr p b s m ws
         arrive-come a t =
             t
-            ∙ answered-same _ _ (came p b s m ws) (narrow p b (received p (wide p b s) m ws)) s (arrive-same (takenBy p b m) refl ∙ sym behind-two)
+            ∙ answered-same _ _ (came p b s m ws) (toPart p b (received p (fromPart p b s) m ws)) s (arrive-same (takenBy p b m) refl ∙ sym behind-two)
             arrive-words
 
 -- the lengths of areas that lines 9 and 10 let pass, by what the code knows of all records that the `Flat` carries
 module _ (p : Plan) (b : ℕ) (m u t : List ℕ) (f : Flat) (room : length (f .words) ≡ 192) (r : ℕ)
-    (e : ((l : List ℕ) → Carries f l → r ≡ firstOf (unfitLines p b (stateOf m u l t))) × (r ≡ 0 → f .count ≡ 3)) (z : r ≡ 0) where
+    (e : ((l : List ℕ) → Flattens f l → r ≡ firstOf (unfitLines p b (stateOf m u l t))) × (r ≡ 0 → f .count ≡ 3)) (z : r ≡ 0) where
   part-lent : PartLengths p b (stateOf m u (take (f .count - 0) (drop 0 (f .words))) t)
   part-lent =
       let l = take (f .count - 0) (drop 0 (f .words)) in
@@ -424,21 +425,21 @@ module _ (bytes : List ℕ) (route b : ℕ) (r : Recipe) (o : OpensFor bytes rou
     abbrev rowLines : Plan → List Line
     rowLines p = line 9 (not (eqb (length out) (7 * length (handled p b)))) ∷ []
 
-    pub messages-read : r .number ≢ 0 → answer (r .number) out ≡ ownMessagesCall bytes route b out
-    unfolding ownMessagesCall
-    messages-read h = closed bytes route b r o rowLines (λ p. ownRows p b (handled p b)) out h
+    pub messages-read : r .number ≢ 0 → answer (r .number) out ≡ partMessagesCall bytes route b out
+    unfolding partMessagesCall
+    messages-read h = closed bytes route b r o rowLines (λ p. partRows p b (handled p b)) out h
 
     pub messages-past : r .number ≡ 0 → (a : Answered (List ℕ)) → a ≡ rowsOr (planOf (r .sizes .route) (r .nest)) b out
-        → a ≡ ownMessagesCall bytes route b out
-    unfolding ownMessagesCall
-    messages-past z a e = opened bytes route b r o rowLines (λ p. ownRows p b (handled p b)) out z a e
+        → a ≡ partMessagesCall bytes route b out
+    unfolding partMessagesCall
+    messages-past z a e = opened bytes route b r o rowLines (λ p. partRows p b (handled p b)) out z a e
 
   module _ (s : State) (grid : List ℕ) where
-    pub collect-read : r .number ≢ 0 → answer (r .number) grid ≡ ownCollectCall bytes route s b grid
-    unfolding ownCollectCall
-    collect-read h = closed bytes route b r o (λ p. collectLines p b s grid) (λ p. ownCollected p b s grid) grid h
+    pub collect-read : r .number ≢ 0 → answer (r .number) grid ≡ partCollectCall bytes route s b grid
+    unfolding partCollectCall
+    collect-read h = closed bytes route b r o (λ p. collectLines p b s grid) (λ p. partCollected p b s grid) grid h
 
     pub collect-past : r .number ≡ 0 → (a : Answered (List ℕ)) → a ≡ collectedOr (planOf (r .sizes .route) (r .nest)) b s grid
-        → a ≡ ownCollectCall bytes route s b grid
-    unfolding ownCollectCall
-    collect-past z a e = opened bytes route b r o (λ p. collectLines p b s grid) (λ p. ownCollected p b s grid) grid z a e
+        → a ≡ partCollectCall bytes route s b grid
+    unfolding partCollectCall
+    collect-past z a e = opened bytes route b r o (λ p. collectLines p b s grid) (λ p. partCollected p b s grid) grid z a e

@@ -41,7 +41,7 @@ use Rattle.layout.specs.Sizes.{Sized}
 use Rattle.layout.proofs.CellRows.{row-next}
 use Rattle.tables.specs.Tables.{Routed}
 use Rattle.records.specs.declared.Flat.{Flat}
-use Rattle.records.specs.Records.{Carries}
+use Rattle.records.specs.Records.{Flattens}
 use Rattle.base.proofs.Stored.{Stored, store-start, store-next, stored-all}
 use Rattle.stages.proofs.Parts.{back, mid-is, mid-length}
 use Rattle.engine.specs.Calls.{answer}
@@ -51,7 +51,7 @@ use Rattle.rank_index.specs.Ranks.{markedAt, markedCells, rankAt, spreadOut}
 use Rattle.rank_index.proofs.Ranks.{rank-most, rank-low, spread-at, marks-long, mark-is, marked-are}
 use Rattle.part.specs.Part.{partOf, wordsOf}
 use Rattle.part.proofs.Words.{all-is}
-use Rattle.part_calls.specs.front.Calls.{wide, ownCollected, collectFits}
+use Rattle.part_calls.specs.front.Calls.{fromPart, partCollected, collectFits}
 use Rattle.part_calls.specs.front.Given.{PartLengths}
 use Rattle.part_calls.specs.Given.{outsideWord, gridWord, Within, collectLines, collectedOr}
 use Rattle.part_calls.proofs.front.Front.{carried-word}
@@ -207,24 +207,24 @@ module _ (p : Plan) (b : ℕ) (low : b < p .processors) (m l : List ℕ) (a : le
   g : PartLengths p b beside
   g = record { memory = a; mail = length-replicate (wordsOf p (handled p b)) 0; progress = c; marks = length-replicate (length (handled p b)) 0 }
 
-  pub lent-memory : memoryOf p (wide p b lent) b ≡ unpack (replicate (p .cells) 0) (keptCells p b) m
+  pub lent-memory : memoryOf p (fromPart p b lent) b ≡ unpack (replicate (p .cells) 0) (keptCells p b) m
   unfolding widened partOf
   lent-memory = wide-memory p b beside low g
 
-  pub lent-finished : finishedOf (wide p b lent) b ≡ getD l 0 0
+  pub lent-finished : finishedOf (fromPart p b lent) b ≡ getD l 0 0
   unfolding widened partOf
   lent-finished = wide-finished p b beside low g
 
-  pub lent-stage : stageOf (wide p b lent) b ≡ getD l 1 0
+  pub lent-stage : stageOf (fromPart p b lent) b ≡ getD l 1 0
   unfolding widened partOf
   lent-stage = wide-stage p b beside low g
 
-  pub lent-sent : sentOf (wide p b lent) b ≡ getD l 2 0
+  pub lent-sent : sentOf (fromPart p b lent) b ≡ getD l 2 0
   unfolding widened partOf
   lent-sent = wide-sent p b beside low g
 
 -- a memory whose record is of no matter
-pub any-record : (p : Plan) (b : ℕ) (m l k : List ℕ) → memoryOf p (wide p b (stateOf m [] l [])) b ≡ memoryOf p (wide p b (stateOf m [] k [])) b
+pub any-record : (p : Plan) (b : ℕ) (m l k : List ℕ) → memoryOf p (fromPart p b (stateOf m [] l [])) b ≡ memoryOf p (fromPart p b (stateOf m [] k [])) b
 unfolding widened partOf
 any-record p b m l k = refl
 
@@ -271,19 +271,20 @@ module _ (x : Nest) (z : Sizes) (b : ℕ) (g : Sized x z) (routed : Routed x z) 
 
     -- by the words of the code
     pub own-grid : (between new l : List ℕ) → between ≡ tabulate (outsideWord x grid) (cells x)
-        → new ≡ tabulate (gridWord owned kept memory between) (length between) → new ≡ ownCollected q b (stateOf memory [] l []) grid
-    unfolding ownCollected
+        → new ≡ tabulate (gridWord owned kept memory between) (length between) → new ≡ partCollected q b (stateOf memory [] l []) grid
+    unfolding partCollected
     own-grid between new l u e =
         e ∙ ap (tabulate (gridWord owned kept memory between)) (ap length u ∙ length-tabulate (outsideWord x grid) (cells x))
         ∙ tabulate-same (gridWord owned kept memory between)
-        (λ c. pick (q .inside c) (pick (owns q b c) (getD (memoryOf q (wide q b (stateOf memory [] l [])) b) c 0) (getD grid c 0)) (q .boundary)) (cells x) each
+        (λ c. pick (q .inside c) (pick (owns q b c) (getD (memoryOf q (fromPart q b (stateOf memory [] l [])) b) c 0) (getD grid c 0)) (q .boundary)) (cells x)
+        each
       where
-        same-memory : spreadOut kept memory ≡ memoryOf q (wide q b (stateOf memory [] l [])) b
+        same-memory : spreadOut kept memory ≡ memoryOf q (fromPart q b (stateOf memory [] l [])) b
         same-memory =
             all-is q b kept k memory ∙ sym (lent-memory q b low memory (0 ∷ 0 ∷ 0 ∷ []) a refl) ∙ any-record q b memory (0 ∷ 0 ∷ 0 ∷ []) l
 
         go : (c : ℕ) → c < cells x → (t : Bool) → owns q b c ≡ t → gridWord owned kept memory between c
-            ≡ pick (q .inside c) (pick (owns q b c) (getD (memoryOf q (wide q b (stateOf memory [] l [])) b) c 0) (getD grid c 0)) (q .boundary)
+            ≡ pick (q .inside c) (pick (owns q b c) (getD (memoryOf q (fromPart q b (stateOf memory [] l [])) b) c 0) (getD grid c 0)) (q .boundary)
         go c h true i =
             pick-true _ _ _ (mark-is owned (owns q b) (cells x) o c h ∙ i)
             ∙ sym (spread-at kept memory all-kept c (omega (arith, h, marks-long kept (keeps q b) (cells x) k))
@@ -296,7 +297,7 @@ module _ (x : Nest) (z : Sizes) (b : ℕ) (g : Sized x z) (routed : Routed x z) 
             ∙ ap (λ (w : ℕ). pick (q .inside c) w (x .boundary)) (sym (pick-false _ _ _ i))
 
         each : (c : ℕ) → c < cells x → gridWord owned kept memory between c
-            ≡ pick (q .inside c) (pick (owns q b c) (getD (memoryOf q (wide q b (stateOf memory [] l [])) b) c 0) (getD grid c 0)) (q .boundary)
+            ≡ pick (q .inside c) (pick (owns q b c) (getD (memoryOf q (fromPart q b (stateOf memory [] l [])) b) c 0) (getD grid c 0)) (q .boundary)
         each c h = go c h (owns q b c) refl
 
 -- ---- the lines before
@@ -320,47 +321,47 @@ module _ (p : Plan) (b : ℕ) (low : b < p .processors) (m l grid : List ℕ) wh
   unfolding collectFits
   no-grid h = nine (and-no _ _ (and-no _ _ (ne-eqb _ _ h)))
 
-  module _ (a : length m ≡ length (keptCells p b)) (c : length l ≡ 3) (d : length grid ≡ p .cells) (f : Flat) (k : Carries f l) (v : Bool)
+  module _ (a : length m ≡ length (keptCells p b)) (c : length l ≡ 3) (d : length grid ≡ p .cells) (f : Flat) (k : Flattens f l) (v : Bool)
       (says : (w : State) → getD (f .words) 0 0 ≡ finishedOf w b → getD (f .words) 1 0 ≡ stageOf w b → getD (f .words) 2 0 ≡ sentOf w b
       → v ≡ fitRecord p w b) where
     fits : collectFits p b s grid ≡ true
     unfolding collectFits
     fits = and-true (eq-eqb _ _ a) (and-true (eq-eqb _ _ c) (eq-eqb _ _ d))
 
-    first : getD (f .words) 0 0 ≡ finishedOf (wide p b s) b
+    first : getD (f .words) 0 0 ≡ finishedOf (fromPart p b s) b
     first = carried-word f l k c 0 (omega arith) ∙ sym (lent-finished p b low m l a c)
 
-    test : v ≡ fitRecord p (wide p b s) b
+    test : v ≡ fitRecord p (fromPart p b s) b
     test =
-        says (wide p b s) first (carried-word f l k c 1 (omega arith) ∙ sym (lent-stage p b low m l a c))
+        says (fromPart p b s) first (carried-word f l k c 1 (omega arith) ∙ sym (lent-stage p b low m l a c))
         (carried-word f l k c 2 (omega arith) ∙ sym (lent-sent p b low m l a c))
 
     pub unfit : v ≡ false → 10 ≡ firstOf (collectLines p b s grid)
     unfit h =
-        sym (first-false 9 (not (collectFits p b s grid)) _ (not-true fits) ∙ first-true 10 (not (fitRecord p (wide p b s) b)) _ (not-false (sym test ∙ h)))
+        sym (first-false 9 (not (collectFits p b s grid)) _ (not-true fits) ∙ first-true 10 (not (fitRecord p (fromPart p b s) b)) _ (not-false (sym test ∙ h)))
 
     module _ (yes : v ≡ true) (i n : ℕ) (e : i ≡ getD (f .words) 0 0) (o : n ≡ length (tilesOf p b)) where
-      past : firstOf (collectLines p b s grid) ≡ firstOf (line 15 (tilesLeft p (wide p b s) b) ∷ [])
+      past : firstOf (collectLines p b s grid) ≡ firstOf (line 15 (tilesLeft p (fromPart p b s) b) ∷ [])
       past =
           first-false 9 (not (collectFits p b s grid)) _ (not-true fits)
-          ∙ first-false 10 (not (fitRecord p (wide p b s) b)) (line 15 (tilesLeft p (wide p b s) b) ∷ []) (not-true (sym test ∙ yes))
+          ∙ first-false 10 (not (fitRecord p (fromPart p b s) b)) (line 15 (tilesLeft p (fromPart p b s) b) ∷ []) (not-true (sym test ∙ yes))
 
       pub left : i < n → 15 ≡ firstOf (collectLines p b s grid)
       unfolding tilesLeft
       left h =
-          sym (past ∙ first-true 15 _ _ (lt-ltb (finishedOf (wide p b s) b) (length (tilesOf p b)) (omega (arith, h, e ∙ first, o))))
+          sym (past ∙ first-true 15 _ _ (lt-ltb (finishedOf (fromPart p b s) b) (length (tilesOf p b)) (omega (arith, h, e ∙ first, o))))
 
       pub none : n ≤ i → 0 ≡ firstOf (collectLines p b s grid)
       unfolding tilesLeft firstOf
       none h =
-          sym (past ∙ first-false 15 (ltb (finishedOf (wide p b s) b) (length (tilesOf p b))) []
-          (le-ltb (finishedOf (wide p b s) b) (length (tilesOf p b)) (omega (arith, h, e ∙ first, o))))
+          sym (past ∙ first-false 15 (ltb (finishedOf (fromPart p b s) b) (length (tilesOf p b))) []
+          (le-ltb (finishedOf (fromPart p b s) b) (length (tilesOf p b)) (omega (arith, h, e ∙ first, o))))
 
 -- ---- the call, past the first lines
 
 module _ (p : Plan) (b : ℕ) (s : State) (grid : List ℕ) (r : ℕ) (e : r ≡ firstOf (collectLines p b s grid)) where
   pub collect-refused : r ≢ 0 → answer r grid ≡ collectedOr p b s grid
-  collect-refused h = answered-no r (ownCollected p b s grid) grid h ∙ ap (λ (n : ℕ). answered n (ownCollected p b s grid) grid) e
+  collect-refused h = answered-no r (partCollected p b s grid) grid h ∙ ap (λ (n : ℕ). answered n (partCollected p b s grid) grid) e
 
-  pub collect-done : r ≡ 0 → (new : List ℕ) → new ≡ ownCollected p b s grid → answer 0 new ≡ collectedOr p b s grid
-  collect-done z new q = ap (answer 0) q ∙ answered-yes _ (ownCollected p b s grid) grid (sym e ∙ z)
+  pub collect-done : r ≡ 0 → (new : List ℕ) → new ≡ partCollected p b s grid → answer 0 new ≡ collectedOr p b s grid
+  collect-done z new q = ap (answer 0) q ∙ answered-yes _ (partCollected p b s grid) grid (sym e ∙ z)

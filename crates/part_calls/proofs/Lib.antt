@@ -1,5 +1,5 @@
 pub mod Answers
-pub mod OwnRows
-pub mod PartRows
+pub mod PartExamples
+pub mod PartNumbers
 pub mod Collecting
 pub mod Rows

@@ -26,7 +26,7 @@ use Rattle.summary.specs.declared.MessageLine.{MessageLine}
 use Rattle.summary.specs.Summary.{lineOf}
 use Rattle.network.specs.Own.{handles, handled}
 use Rattle.part.specs.Part.{rankOf, mailAt}
-use Rattle.part_calls.specs.front.Calls.{ownRow, ownRows}
+use Rattle.part_calls.specs.front.Calls.{partRow, partRows}
 use Rattle.part_calls.specs.Given.{rowsOr}
 
 -- seven words stored one after the other
@@ -43,14 +43,14 @@ seven-set (_ ∷ _ ∷ _ ∷ _ ∷ _ ∷ _ ∷ _ ∷ []) a b c d e f g n = refl
 seven-set (_ ∷ _ ∷ _ ∷ _ ∷ _ ∷ _ ∷ _ ∷ _ ∷ l) a b c d e f g n = absurd (omega (arith, n))
 
 module _ (p : Plan) (b : ℕ) where
-  row-long : (m : ℕ) → length (ownRow p b m) ≡ 7
-  unfolding ownRow
+  row-long : (m : ℕ) → length (partRow p b m) ≡ 7
+  unfolding partRow
   row-long m = refl
 
-  rows-more : (ms : List ℕ) (m : ℕ) → ownRows p b (ms ++ (m ∷ [])) ≡ ownRows p b ms ++ ownRow p b m
-  unfolding ownRows ownRow
+  rows-more : (ms : List ℕ) (m : ℕ) → partRows p b (ms ++ (m ∷ [])) ≡ partRows p b ms ++ partRow p b m
+  unfolding partRows partRow
   rows-more [] m = refl
-  rows-more (k ∷ ms) m = ap (λ (z : List ℕ). ownRow p b k ++ z) (rows-more ms m) ∙ sym (append-assoc (ownRow p b k) (ownRows p b ms) (ownRow p b m))
+  rows-more (k ∷ ms) m = ap (λ (z : List ℕ). partRow p b k ++ z) (rows-more ms m) ∙ sym (append-assoc (partRow p b k) (partRows p b ms) (partRow p b m))
 
   -- ranks are small
   pub rank-few : (m rank : ℕ) → rank ≡ rankOf p b m → rank ≤ m
@@ -59,7 +59,7 @@ module _ (p : Plan) (b : ℕ) where
   -- ---- one row
 
   module _ (m : ℕ) (lo : m < count p) (out : List ℕ) (long : length out ≡ 7 * length (handled p b)) where
-    pub passed : handles p b m ≡ false → out ≡ pick (handles p b m) (put out (7 * rankOf p b m) (ownRow p b m)) out
+    pub passed : handles p b m ≡ false → out ≡ pick (handles p b m) (put out (7 * rankOf p b m) (partRow p b m)) out
     passed h = sym (pick-false _ _ _ h)
 
     module _ (h : handles p b m ≡ true) (rank : ℕ) (at : rank ≡ rankOf p b m) where
@@ -73,25 +73,25 @@ module _ (p : Plan) (b : ℕ) where
       pub stored : (r : MessageLine) → r ≡ lineOf p m → (n place : ℕ) → n ≡ m → place ≡ mailAt p b m → (row : List ℕ)
           → length row ≡ length (take (7 * rank + 7 - 7 * rank) (drop (7 * rank) out))
           → row ≡ n ∷ r .sender ∷ r .taker ∷ r .from ∷ r .to ∷ r .words ∷ place ∷ []
-          → putMid (7 * rank) (7 * rank + 7 - 7 * rank) out row ≡ pick (handles p b m) (put out (7 * rankOf p b m) (ownRow p b m)) out
-      unfolding ownRow
+          → putMid (7 * rank) (7 * rank + 7 - 7 * rank) out row ≡ pick (handles p b m) (put out (7 * rankOf p b m) (partRow p b m)) out
+      unfolding partRow
       stored r e n place q w row k is =
-          let same : row ≡ ownRow p b m =
+          let same : row ≡ partRow p b m =
           is ∙ ap (λ (x : MessageLine). n ∷ x .sender ∷ x .taker ∷ x .from ∷ x .to ∷ x .words ∷ place ∷ []) e
           ∙ ap (λ (i : ℕ). i ∷ lineOf p m .sender ∷ lineOf p m .taker ∷ lineOf p m .from ∷ lineOf p m .to ∷ lineOf p m .words ∷ place ∷ []) q
           ∙ ap (λ (i : ℕ). m ∷ lineOf p m .sender ∷ lineOf p m .taker ∷ lineOf p m .from ∷ lineOf p m .to ∷ lineOf p m .words ∷ i ∷ []) w in
-          back out row (λ _. ownRow p b m) (7 * rank) 7 room k same
-          ∙ ap (λ (i : ℕ). put out (7 * i) (ownRow p b m)) at ∙ sym (pick-true _ _ _ h)
+          back out row (λ _. partRow p b m) (7 * rank) 7 room k same
+          ∙ ap (λ (i : ℕ). put out (7 * i) (partRow p b m)) at ∙ sym (pick-true _ _ _ h)
 
   -- ---- the rows of the messages passed
 
   pub record Rowed (old new : List ℕ) (m : ℕ) : Type 0 where
     pub long : length new ≡ length old
     pub low : m ≤ count p
-    pub rows : take (7 * rankOf p b m) new ≡ ownRows p b (keep (handles p b) m)
+    pub rows : take (7 * rankOf p b m) new ≡ partRows p b (keep (handles p b) m)
 
   pub rows-start : (old : List ℕ) → Rowed old old 0
-  unfolding keep ownRows
+  unfolding keep partRows
   rows-start old = record { long = refl; low = omega arith; rows = refl }
 
   module _ (old new : List ℕ) (m : ℕ) (g : Rowed old new m) (lo : m < count p) (all : length old ≡ 7 * length (handled p b)) where
@@ -99,14 +99,14 @@ module _ (p : Plan) (b : ℕ) where
     rank-low = omega (arith, g .long, all, keep-mono (handles p b) (count p) m (g .low))
 
     -- a row put behind them
-    front : handles p b m ≡ true → take (7 * rankOf p b (suc m)) (put new (7 * rankOf p b m) (ownRow p b m)) ≡ ownRows p b (keep (handles p b) (suc m))
+    front : handles p b m ≡ true → take (7 * rankOf p b (suc m)) (put new (7 * rankOf p b m) (partRow p b m)) ≡ partRows p b (keep (handles p b) (suc m))
     unfolding put
     front h =
         let f = 7 * rankOf p b m in
         let a : List ℕ = take (7 * rankOf p b m) new in
-        let z : List ℕ = drop (length (ownRow p b m)) (drop (7 * rankOf p b m) new) in
-        let n : length (take (7 * rankOf p b m) new ++ ownRow p b m) ≡ 7 * rankOf p b (suc m) =
-        length-append (take (7 * rankOf p b m) new) (ownRow p b m)
+        let z : List ℕ = drop (length (partRow p b m)) (drop (7 * rankOf p b m) new) in
+        let n : length (take (7 * rankOf p b m) new ++ partRow p b m) ≡ 7 * rankOf p b (suc m) =
+        length-append (take (7 * rankOf p b m) new) (partRow p b m)
         ∙ omega (
           arith,
           length-take-le (7 * rankOf p b m) new rank-low,
@@ -114,18 +114,18 @@ module _ (p : Plan) (b : ℕ) where
           ap length (keep-hit (handles p b) m h),
           length-append (keep (handles p b) m) (m ∷ []),
         ) in
-        ap (take (7 * rankOf p b (suc m))) (sym (append-assoc (take (7 * rankOf p b m) new) (ownRow p b m) z))
-        ∙ take-at (take (7 * rankOf p b m) new ++ ownRow p b m) z (7 * rankOf p b (suc m)) n
-        ∙ ap (λ (l : List ℕ). l ++ ownRow p b m) (g .rows) ∙ sym (rows-more (keep (handles p b) m) m) ∙ ap (ownRows p b) (sym (keep-hit (handles p b) m h))
+        ap (take (7 * rankOf p b (suc m))) (sym (append-assoc (take (7 * rankOf p b m) new) (partRow p b m) z))
+        ∙ take-at (take (7 * rankOf p b m) new ++ partRow p b m) z (7 * rankOf p b (suc m)) n
+        ∙ ap (λ (l : List ℕ). l ++ partRow p b m) (g .rows) ∙ sym (rows-more (keep (handles p b) m) m) ∙ ap (partRows p b) (sym (keep-hit (handles p b) m h))
 
-    pub rows-next : (out : List ℕ) → out ≡ pick (handles p b m) (put new (7 * rankOf p b m) (ownRow p b m)) new → Rowed old out (m + 1)
+    pub rows-next : (out : List ℕ) → out ≡ pick (handles p b m) (put new (7 * rankOf p b m) (partRow p b m)) new → Rowed old out (m + 1)
     rows-next out e = rw (add-one m) (go (handles p b m) refl)
       where
         go : (h : Bool) → handles p b m ≡ h → Rowed old out (suc m)
         go true h =
-            let q : out ≡ put new (7 * rankOf p b m) (ownRow p b m) = e ∙ pick-true _ _ _ h in
+            let q : out ≡ put new (7 * rankOf p b m) (partRow p b m) = e ∙ pick-true _ _ _ h in
             record {
-              long = ap length q ∙ length-put new (7 * rankOf p b m) (ownRow p b m)
+              long = ap length q ∙ length-put new (7 * rankOf p b m) (partRow p b m)
                   (omega (arith, row-long m, g .long, all, keep-lt (handles p b) (count p) m lo h)) ∙ g .long;
               low = omega (arith, lo);
               rows = ap (take (7 * rankOf p b (suc m))) q ∙ front h;
@@ -136,13 +136,13 @@ module _ (p : Plan) (b : ℕ) where
               long = ap length q ∙ g .long;
               low = omega (arith, lo);
               rows = ap (take (7 * rankOf p b (suc m))) q ∙ ap (λ (ms : List ℕ). take (7 * length ms) new) (keep-none (handles p b) m h) ∙ g .rows
-                  ∙ ap (ownRows p b) (sym (keep-none (handles p b) m h));
+                  ∙ ap (partRows p b) (sym (keep-none (handles p b) m h));
             }
 
-  pub rows-all : (old new : List ℕ) (m : ℕ) → Rowed old new m → length old ≡ 7 * length (handled p b) → count p ≤ m → new ≡ ownRows p b (handled p b)
+  pub rows-all : (old new : List ℕ) (m : ℕ) → Rowed old new m → length old ≡ 7 * length (handled p b) → count p ≤ m → new ≡ partRows p b (handled p b)
   rows-all old new m g all h =
       let e : m ≡ count p = omega (arith, g .low, h) in
-      sym (take-all (7 * rankOf p b m) new (omega (arith, g .long, all, ap (rankOf p b) e))) ∙ g .rows ∙ ap (λ (n : ℕ). ownRows p b (keep (handles p b) n)) e
+      sym (take-all (7 * rankOf p b m) new (omega (arith, g .long, all, ap (rankOf p b) e))) ∙ g .rows ∙ ap (λ (n : ℕ). partRows p b (keep (handles p b) n)) e
     where
       take-all : (n : ℕ) (l : List ℕ) → length l ≡ n → take n l ≡ l
       take-all n l e = ap (λ (k : ℕ). take k l) (sym e) ∙ whole l
@@ -156,13 +156,13 @@ module _ (p : Plan) (b : ℕ) where
   module _ (out : List ℕ) (n : ℕ) (e : n ≡ length (handled p b)) where
     pub rows-nine : length out ≢ 7 * n → answer 9 out ≡ rowsOr p b out
     rows-nine h =
-        answered-no 9 (ownRows p b (handled p b)) out (λ q. omega arith)
-        ∙ ap (λ (k : ℕ). answered k (ownRows p b (handled p b)) out)
+        answered-no 9 (partRows p b (handled p b)) out (λ q. omega arith)
+        ∙ ap (λ (k : ℕ). answered k (partRows p b (handled p b)) out)
         (sym (first-true 9 _ [] (not-false (ne-eqb (length out) (7 * length (handled p b)) (λ q. h (q ∙ ap (λ (i : ℕ). 7 * i) (sym e)))))))
 
-    pub rows-done : length out ≡ 7 * n → (new : List ℕ) → new ≡ ownRows p b (handled p b) → answer 0 new ≡ rowsOr p b out
+    pub rows-done : length out ≡ 7 * n → (new : List ℕ) → new ≡ partRows p b (handled p b) → answer 0 new ≡ rowsOr p b out
     unfolding firstOf
     rows-done h new q =
         ap (answer 0) q
-        ∙ answered-yes _ (ownRows p b (handled p b)) out
+        ∙ answered-yes _ (partRows p b (handled p b)) out
         (first-false 9 _ [] (not-true (eq-eqb (length out) (7 * length (handled p b)) (h ∙ ap (λ (i : ℕ). 7 * i) e))))

@@ -19,28 +19,28 @@ use Rattle.network.specs.Own.{handles, handled}
 use Rattle.network.specs.Brought.{takenBy, asLong}
 use Rattle.rank_index.specs.Ranks.{markedAt, markedCells, rankAt}
 use Rattle.part.specs.Part.{wordsOf, rankOf, mailAt, partFits}
-use Rattle.part_calls.specs.front.Calls.{wide, narrow, ownRows, ownCollected, collectFits}
+use Rattle.part_calls.specs.front.Calls.{fromPart, toPart, partRows, partCollected, collectFits}
 
 -- ---- past the first lines
 
 abbrev pub freshOr : Plan → ℕ → State → Answered State
-freshOr p b s = answered (firstOf (line 9 (not (partFits p b s)) ∷ [])) (narrow p b (fresh p)) s
+freshOr p b s = answered (firstOf (line 9 (not (partFits p b s)) ∷ [])) (toPart p b (fresh p)) s
 
 abbrev pub postLines : Plan → ℕ → State → ℕ → List Line
-postLines p b s m = line 9 (not (partFits p b s)) ∷ deliverLines p (wide p b s) m
+postLines p b s m = line 9 (not (partFits p b s)) ∷ deliverLines p (fromPart p b s) m
 
 abbrev pub postedOr : Plan → ℕ → State → ℕ → Answered State
-postedOr p b s m = answered (firstOf (postLines p b s m)) (narrow p b (marked (wide p b s) m)) s
+postedOr p b s m = answered (firstOf (postLines p b s m)) (toPart p b (marked (fromPart p b s) m)) s
 
 abbrev pub arriveLines : Plan → ℕ → State → ℕ → List ℕ → List Line
 arriveLines p b s m words =
     line 9 (not (partFits p b s and asLong p m words))
-    ∷ line 10 (not (fit p (wide p b s)))
+    ∷ line 10 (not (fit p (fromPart p b s)))
     ∷ line 11 (not (takenBy p b m))
-    ∷ line 14 (not (eqb (getD (wide p b s .status) m 0) 0)) ∷ []
+    ∷ line 14 (not (eqb (getD (fromPart p b s .status) m 0) 0)) ∷ []
 
 abbrev pub arrivesOr : Plan → ℕ → State → ℕ → List ℕ → Answered State
-arrivesOr p b s m words = answered (firstOf (arriveLines p b s m words)) (narrow p b (received p (wide p b s) m words)) s
+arrivesOr p b s m words = answered (firstOf (arriveLines p b s m words)) (toPart p b (received p (fromPart p b s) m words)) s
 
 -- ---- past the lines before, by the part's own words
 
@@ -85,12 +85,12 @@ pub record Within (owned kept memory grid : List ℕ) : Type 0 where
 
 abbrev pub collectLines : Plan → ℕ → State → List ℕ → List Line
 collectLines p b s grid =
-    line 9 (not (collectFits p b s grid)) ∷ line 10 (not (fitRecord p (wide p b s) b)) ∷ line 15 (tilesLeft p (wide p b s) b) ∷ []
+    line 9 (not (collectFits p b s grid)) ∷ line 10 (not (fitRecord p (fromPart p b s) b)) ∷ line 15 (tilesLeft p (fromPart p b s) b) ∷ []
 
 abbrev pub collectedOr : Plan → ℕ → State → List ℕ → Answered (List ℕ)
-collectedOr p b s grid = answered (firstOf (collectLines p b s grid)) (ownCollected p b s grid) grid
+collectedOr p b s grid = answered (firstOf (collectLines p b s grid)) (partCollected p b s grid) grid
 
 -- ---- its messages
 
 abbrev pub rowsOr : Plan → ℕ → List ℕ → Answered (List ℕ)
-rowsOr p b out = answered (firstOf (line 9 (not (eqb (length out) (7 * length (handled p b)))) ∷ [])) (ownRows p b (handled p b)) out
+rowsOr p b out = answered (firstOf (line 9 (not (eqb (length out) (7 * length (handled p b)))) ∷ [])) (partRows p b (handled p b)) out

@@ -1,6 +1,6 @@
 pub mod Given
-pub mod OwnRows
-pub mod PartRows
+pub mod PartExamples
+pub mod PartNumbers
 pub mod front
 pub mod tile
 pub mod turn

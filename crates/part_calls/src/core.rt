@@ -11,11 +11,11 @@ ghost use Rattle.nest.specs.Nest.{processors};
 ghost use Rattle.plan.specs.Shaped.{planOf};
 ghost use Rattle.layout.specs.Sizes.{Sized};
 ghost use Rattle.tables.specs.Tables.{Routed};
-ghost use Rattle.records.specs.Records.{Carries};
+ghost use Rattle.records.specs.Records.{Flattens};
 ghost use Rattle.engine.specs.Given.{zerosAfter};
 ghost use Rattle.engine.specs.Calls.{answer};
 ghost use Rattle.network.specs.Own.{handled};
-ghost use Rattle.part_calls.specs.front.Calls.{lengthsOf, noLengths, ownFreshCall, ownPostCall, ownArriveCall, ownCollectCall};
+ghost use Rattle.part_calls.specs.front.Calls.{lengthsOf, noLengths, partFreshCall, partPostCall, partArriveCall, partCollectCall};
 ghost use Rattle.part_calls.specs.front.Given.{Known, Many};
 ghost use Rattle.part_calls.specs.Given.{freshOr, handedOver, postedOr, MayArrive, arrivedOr, arrivesOr};
 use crate::AreaLengths;
@@ -24,7 +24,7 @@ use crate::front::open;
 use crate::front::own_count;
 use crate::front::part_fits;
 use crate::front::prepare;
-use crate::front::unfit;
+use crate::front::refusal_of_areas;
 use crate::grid::collect_part;
 use base::copy_words;
 use base::word_index;
@@ -32,8 +32,10 @@ use base::zero_bytes;
 use base::zero_words;
 use layout::Sizes;
 use nest::Nest;
-use part::marks::arrived;
+use part::MESSAGE_ENDS;
+use part::sides::arrived;
 use records::Flat;
+use tables::TABLE_WORDS;
 use tables::nth;
 use transport::core::as_long;
 
@@ -57,18 +59,18 @@ pub fn sizes_of(nest: Nest, sizes: Sizes, b: usize) -> AreaLengths
     requires { ⌜ Sized nest sizes × (Routed nest sizes × (b < processors nest)) ⌝ }
     ensures { λ r. ⌜ r ≡ lengthsOf (planOf (sizes .route) nest) b ⌝ }
 {
-    let mut lens = [0u16; 9217];
-    let mut ranks = [0u32; 7169];
-    let mut places = [0u32; 7169];
-    let messages = prepare(nest, sizes, b, &mut lens, &mut ranks, &mut places);
+    let mut lens = [0u16; TABLE_WORDS];
+    let mut ordinals = [0u32; MESSAGE_ENDS];
+    let mut starts = [0u32; MESSAGE_ENDS];
+    let messages = prepare(nest, sizes, b, &mut lens, &mut ordinals, &mut starts);
     let own = own_count(nest, sizes, b);
     let kept = kept_count(nest, sizes, &lens, b);
     AreaLengths {
         number: 0,
         cells: own as u32,
         kept: kept as u32,
-        words: places[messages],
-        messages: ranks[messages],
+        words: starts[messages],
+        messages: ordinals[messages],
     }
 }
 
@@ -89,17 +91,17 @@ fn fresh_part(
         → answer r (stateOf (now (memory .exit)) (now (mail .exit)) (zerosAfter records r) (now (marks .exit)))
         ≡ freshOr (planOf (sizes .route) nest) b (stateOf (now (memory .entry)) (now (mail .entry)) records (now (marks .entry)))) ⌝ }
 {
-    let mut lens = [0u16; 9217];
-    let mut ranks = [0u32; 7169];
-    let mut places = [0u32; 7169];
-    let messages = prepare(nest, sizes, b, &mut lens, &mut ranks, &mut places);
+    let mut lens = [0u16; TABLE_WORDS];
+    let mut ordinals = [0u32; MESSAGE_ENDS];
+    let mut starts = [0u32; MESSAGE_ENDS];
+    let messages = prepare(nest, sizes, b, &mut lens, &mut ordinals, &mut starts);
     let many = kept_count(nest, sizes, &lens, b);
     if !part_fits(
         nest,
         sizes,
         &lens,
-        &ranks,
-        &places,
+        &ordinals,
+        &starts,
         messages,
         many,
         memory,
@@ -129,7 +131,7 @@ pub fn fresh(
 ) -> u32
     ensures { λ r. ⌜ ((records : List ℕ) → words ≡ length records
         → answer r (stateOf (now (memory .exit)) (now (mail .exit)) (zerosAfter records r) (now (marks .exit)))
-        ≡ ownFreshCall (now (encoded .entry)) route (stateOf (now (memory .entry)) (now (mail .entry)) records (now (marks .entry))) processor) ⌝ }
+        ≡ partFreshCall (now (encoded .entry)) route (stateOf (now (memory .entry)) (now (mail .entry)) records (now (marks .entry))) processor) ⌝ }
 {
     let board = open(encoded, route, processor);
     let number = board.number;
@@ -154,15 +156,15 @@ pub fn fresh(
 fn hand_over(
     nest: Nest,
     sizes: Sizes,
-    lens: &[u16; 9217],
-    ranks: &[u32; 7169],
-    places: &[u32; 7169],
+    lens: &[u16; TABLE_WORDS],
+    ordinals: &[u32; MESSAGE_ENDS],
+    starts: &[u32; MESSAGE_ENDS],
     messages: usize,
     marks: &mut [u8],
     b: usize,
     m: usize,
 ) -> u32
-    requires { ⌜ Known nest sizes b (now lens) (now ranks) (now places)
+    requires { ⌜ Known nest sizes b (now lens) (now ordinals) (now starts)
         × ((messages ≡ count (planOf (sizes .route) nest)) × (length (now marks) ≡ length (handled (planOf (sizes .route) nest) b))) ⌝ }
     ensures { λ r. ⌜ ((memory mail records : List ℕ) → answer r (stateOf memory mail records (now (marks .exit)))
         ≡ handedOver (planOf (sizes .route) nest) b (stateOf memory mail records (now (marks .entry))) m) ⌝ }
@@ -170,8 +172,8 @@ fn hand_over(
     if m >= messages {
         11
     } else {
-        let at = word_index(ranks[m]);
-        let next = word_index(ranks[m + 1]);
+        let at = word_index(ordinals[m]);
+        let next = word_index(ordinals[m + 1]);
         if next == at {
             14
         } else if marks[at] != 1 {
@@ -195,21 +197,21 @@ fn post_part(
     m: usize,
 ) -> u32
     requires { ⌜ Sized nest sizes × (Routed nest sizes × ((b < processors nest) × (length (progress .words) ≡ 192))) ⌝ }
-    ensures { λ r. ⌜ ((records : List ℕ) → Carries progress records
+    ensures { λ r. ⌜ ((records : List ℕ) → Flattens progress records
         → answer r (stateOf (now (memory .entry)) (now (mail .entry)) records (now (marks .exit)))
         ≡ postedOr (planOf (sizes .route) nest) b (stateOf (now (memory .entry)) (now (mail .entry)) records (now (marks .entry))) m) ⌝ }
 {
-    let mut lens = [0u16; 9217];
-    let mut ranks = [0u32; 7169];
-    let mut places = [0u32; 7169];
-    let messages = prepare(nest, sizes, b, &mut lens, &mut ranks, &mut places);
+    let mut lens = [0u16; TABLE_WORDS];
+    let mut ordinals = [0u32; MESSAGE_ENDS];
+    let mut starts = [0u32; MESSAGE_ENDS];
+    let messages = prepare(nest, sizes, b, &mut lens, &mut ordinals, &mut starts);
     let many = kept_count(nest, sizes, &lens, b);
-    let n = unfit(
+    let n = refusal_of_areas(
         nest,
         sizes,
         &lens,
-        &ranks,
-        &places,
+        &ordinals,
+        &starts,
         messages,
         many,
         memory,
@@ -221,7 +223,17 @@ fn post_part(
     if n != 0 {
         n
     } else {
-        hand_over(nest, sizes, &lens, &ranks, &places, messages, marks, b, m)
+        hand_over(
+            nest,
+            sizes,
+            &lens,
+            &ordinals,
+            &starts,
+            messages,
+            marks,
+            b,
+            m,
+        )
     }
 }
 
@@ -237,9 +249,9 @@ pub fn post(
     message: u32,
 ) -> u32
     requires { ⌜ length (progress .words) ≡ 192 ⌝ }
-    ensures { λ r. ⌜ ((records : List ℕ) → Carries progress records
+    ensures { λ r. ⌜ ((records : List ℕ) → Flattens progress records
         → answer r (stateOf (now (memory .entry)) (now (mail .entry)) records (now (marks .exit)))
-        ≡ ownPostCall (now (encoded .entry)) route (stateOf (now (memory .entry)) (now (mail .entry)) records (now (marks .entry))) processor message) ⌝ }
+        ≡ partPostCall (now (encoded .entry)) route (stateOf (now (memory .entry)) (now (mail .entry)) records (now (marks .entry))) processor message) ⌝ }
 {
     let board = open(encoded, route, processor);
     let number = board.number;
@@ -267,9 +279,9 @@ fn store_words(mail: &mut [u32], from: usize, words: &[u32])
 fn receive(
     nest: Nest,
     sizes: Sizes,
-    lens: &[u16; 9217],
-    ranks: &[u32; 7169],
-    places: &[u32; 7169],
+    lens: &[u16; TABLE_WORDS],
+    ordinals: &[u32; MESSAGE_ENDS],
+    starts: &[u32; MESSAGE_ENDS],
     messages: usize,
     mail: &mut [u32],
     marks: &mut [u8],
@@ -277,7 +289,7 @@ fn receive(
     m: usize,
     words: &[u32],
 ) -> u32
-    requires { ⌜ Known nest sizes b (now lens) (now ranks) (now places) ⌝ }
+    requires { ⌜ Known nest sizes b (now lens) (now ordinals) (now starts) ⌝ }
     requires { ⌜ (messages ≡ count (planOf (sizes .route) nest)) × MayArrive (planOf (sizes .route) nest) b (now mail) (now marks) m (now words) ⌝ }
     ensures { λ r. ⌜ ((memory records : List ℕ)
         → answer r (stateOf memory (now (mail .exit)) records (now (marks .exit)))
@@ -291,8 +303,8 @@ fn receive(
         if word_index(line.to) != b {
             11
         } else {
-            let at = word_index(ranks[m]);
-            let from = word_index(places[m]);
+            let at = word_index(ordinals[m]);
+            let from = word_index(starts[m]);
             if arrived(marks, at) {
                 store_words(mail, from, words);
                 0
@@ -307,9 +319,9 @@ fn receive(
 fn arrive_in(
     nest: Nest,
     sizes: Sizes,
-    lens: &[u16; 9217],
-    ranks: &[u32; 7169],
-    places: &[u32; 7169],
+    lens: &[u16; TABLE_WORDS],
+    ordinals: &[u32; MESSAGE_ENDS],
+    starts: &[u32; MESSAGE_ENDS],
     messages: usize,
     many: usize,
     memory: &[u32],
@@ -320,8 +332,8 @@ fn arrive_in(
     m: usize,
     words: &[u32],
 ) -> u32
-    requires { ⌜ Known nest sizes b (now lens) (now ranks) (now places) × (Many nest sizes b messages many × (length (progress .words) ≡ 192)) ⌝ }
-    ensures { λ r. ⌜ ((records : List ℕ) → Carries progress records
+    requires { ⌜ Known nest sizes b (now lens) (now ordinals) (now starts) × (Many nest sizes b messages many × (length (progress .words) ≡ 192)) ⌝ }
+    ensures { λ r. ⌜ ((records : List ℕ) → Flattens progress records
         → answer r (stateOf (now (memory .entry)) (now (mail .exit)) records (now (marks .exit)))
         ≡ arrivesOr (planOf (sizes .route) nest) b (stateOf (now (memory .entry)) (now (mail .entry)) records (now (marks .entry))) m
         (now (words .entry))) ⌝ }
@@ -329,12 +341,12 @@ fn arrive_in(
     if !as_long(nest, sizes, lens, m, words.len()) {
         9
     } else {
-        let n = unfit(
+        let n = refusal_of_areas(
             nest,
             sizes,
             lens,
-            ranks,
-            places,
+            ordinals,
+            starts,
             messages,
             many,
             memory,
@@ -350,8 +362,8 @@ fn arrive_in(
                 nest,
                 sizes,
                 lens,
-                ranks,
-                places,
+                ordinals,
+                starts,
                 messages,
                 mail,
                 marks,
@@ -376,22 +388,22 @@ fn arrive_part(
     words: &[u32],
 ) -> u32
     requires { ⌜ Sized nest sizes × (Routed nest sizes × ((b < processors nest) × (length (progress .words) ≡ 192))) ⌝ }
-    ensures { λ r. ⌜ ((records : List ℕ) → Carries progress records
+    ensures { λ r. ⌜ ((records : List ℕ) → Flattens progress records
         → answer r (stateOf (now (memory .entry)) (now (mail .exit)) records (now (marks .exit)))
         ≡ arrivesOr (planOf (sizes .route) nest) b (stateOf (now (memory .entry)) (now (mail .entry)) records (now (marks .entry))) m
         (now (words .entry))) ⌝ }
 {
-    let mut lens = [0u16; 9217];
-    let mut ranks = [0u32; 7169];
-    let mut places = [0u32; 7169];
-    let messages = prepare(nest, sizes, b, &mut lens, &mut ranks, &mut places);
+    let mut lens = [0u16; TABLE_WORDS];
+    let mut ordinals = [0u32; MESSAGE_ENDS];
+    let mut starts = [0u32; MESSAGE_ENDS];
+    let messages = prepare(nest, sizes, b, &mut lens, &mut ordinals, &mut starts);
     let many = kept_count(nest, sizes, &lens, b);
     arrive_in(
         nest,
         sizes,
         &lens,
-        &ranks,
-        &places,
+        &ordinals,
+        &starts,
         messages,
         many,
         memory,
@@ -417,9 +429,9 @@ pub fn arrive(
     words: &[u32],
 ) -> u32
     requires { ⌜ length (progress .words) ≡ 192 ⌝ }
-    ensures { λ r. ⌜ ((records : List ℕ) → Carries progress records
+    ensures { λ r. ⌜ ((records : List ℕ) → Flattens progress records
         → answer r (stateOf (now (memory .entry)) (now (mail .exit)) records (now (marks .exit)))
-        ≡ ownArriveCall (now (encoded .entry)) route (stateOf (now (memory .entry)) (now (mail .entry)) records (now (marks .entry))) processor message
+        ≡ partArriveCall (now (encoded .entry)) route (stateOf (now (memory .entry)) (now (mail .entry)) records (now (marks .entry))) processor message
         (now (words .entry))) ⌝ }
 {
     let board = open(encoded, route, processor);
@@ -455,9 +467,9 @@ pub fn collect(
     grid: &mut [u32],
 ) -> u32
     requires { ⌜ length (progress .words) ≡ 192 ⌝ }
-    ensures { λ r. ⌜ ((records : List ℕ) → Carries progress records
+    ensures { λ r. ⌜ ((records : List ℕ) → Flattens progress records
         → answer r (now (grid .exit))
-        ≡ ownCollectCall (now (encoded .entry)) route (stateOf (now (memory .entry)) [] records []) processor (now (grid .entry))) ⌝ }
+        ≡ partCollectCall (now (encoded .entry)) route (stateOf (now (memory .entry)) [] records []) processor (now (grid .entry))) ⌝ }
 {
     let board = open(encoded, route, processor);
     let number = board.number;

@@ -12,20 +12,25 @@ ghost use Rattle.nest.specs.Nest.{cells, processors};
 ghost use Rattle.plan.specs.Shaped.{planOf};
 ghost use Rattle.layout.specs.Sizes.{Sized};
 ghost use Rattle.tables.specs.Tables.{Routed, Planned};
-ghost use Rattle.records.specs.Records.{Carries};
+ghost use Rattle.records.specs.Records.{Flattens};
 ghost use Rattle.network.specs.Own.{owns, keeps, ownCells, keptCells};
 ghost use Rattle.part.specs.Part.{partFits};
 ghost use Rattle.part_calls.specs.front.Given.{OpensFor, Known, Cells, Many, unfitLines};
+use base::refusals;
 use base::word_index;
 use layout::Sizes;
+use nest::MOST_CELLS;
 use nest::Nest;
+use part::MESSAGE_ENDS;
+use rank_index::BLOCKS;
 use rank_index::fill_counts;
 use rank_index::rank;
 use recipe::Recipe;
-use recipe::closed;
+use recipe::refused_board;
 use recipe::with_sizes;
 use records::Flat;
 use stages::fit_status;
+use tables::TABLE_WORDS;
 use tables::count_at;
 use tables::fill;
 use tables::tile_at;
@@ -45,7 +50,7 @@ pub fn open(encoded: &[u8], route: u32, processor: u32) -> Recipe
         return board;
     }
     if processor as usize >= sizes.processors {
-        return closed(11, nest);
+        return refused_board(refusals::NO_SUCH, nest);
     }
     board
 }
@@ -57,16 +62,16 @@ pub fn prepare(
     nest: Nest,
     sizes: Sizes,
     b: usize,
-    lens: &mut [u16; 9217],
-    ranks: &mut [u32; 7169],
-    places: &mut [u32; 7169],
+    lens: &mut [u16; TABLE_WORDS],
+    ordinals: &mut [u32; MESSAGE_ENDS],
+    starts: &mut [u32; MESSAGE_ENDS],
 ) -> usize
     requires { ⌜ Sized nest sizes × (Routed nest sizes × (b < processors nest)) ⌝ }
-    requires { ⌜ (length (now lens) ≡ 9217) × ((length (now ranks) ≡ 7169) × (length (now places) ≡ 7169)) ⌝ }
-    ensures { λ r. ⌜ Known nest sizes b (now (lens .exit)) (now (ranks .exit)) (now (places .exit)) × (r ≡ count (planOf (sizes .route) nest)) ⌝ }
+    requires { ⌜ (length (now lens) ≡ 9217) × ((length (now ordinals) ≡ 7169) × (length (now starts) ≡ 7169)) ⌝ }
+    ensures { λ r. ⌜ Known nest sizes b (now (lens .exit)) (now (ordinals .exit)) (now (starts .exit)) × (r ≡ count (planOf (sizes .route) nest)) ⌝ }
 {
     fill(nest, sizes, lens);
-    part::fill_handled(nest, sizes, lens, b, ranks, places);
+    part::fill_handled(nest, sizes, lens, b, ordinals, starts);
     let t = totals(nest, sizes, lens);
     t.messages
 }
@@ -75,10 +80,10 @@ pub fn prepare(
 pub fn keep_cells(
     nest: Nest,
     sizes: Sizes,
-    lens: &[u16; 9217],
+    lens: &[u16; TABLE_WORDS],
     b: usize,
     kept: &mut [u8],
-    counts: &mut [u32; 257],
+    counts: &mut [u32; BLOCKS],
 ) -> usize
     requires { ⌜ Planned nest sizes (now lens) × ((b < processors nest) × ((length (now kept) ≡ cells nest) × (length (now counts) ≡ 257))) ⌝ }
     ensures { λ r. ⌜ Cells nest (keeps (planOf (sizes .route) nest) b) (now (kept .exit)) (now (counts .exit))
@@ -95,7 +100,7 @@ pub fn own_cells(
     sizes: Sizes,
     b: usize,
     owned: &mut [u8],
-    counts: &mut [u32; 257],
+    counts: &mut [u32; BLOCKS],
 ) -> usize
     requires { ⌜ Sized nest sizes × (Routed nest sizes × (b < processors nest)) ⌝ }
     requires { ⌜ (length (now owned) ≡ cells nest) × (length (now counts) ≡ 257) ⌝ }
@@ -108,13 +113,13 @@ pub fn own_cells(
 }
 
 // How many cells the processor keeps: the words of its memory.
-pub fn kept_count(nest: Nest, sizes: Sizes, lens: &[u16; 9217], b: usize) -> usize
+pub fn kept_count(nest: Nest, sizes: Sizes, lens: &[u16; TABLE_WORDS], b: usize) -> usize
     requires { ⌜ Planned nest sizes (now lens) × (b < processors nest) ⌝ }
     ensures { λ r. ⌜ (r ≡ length (keptCells (planOf (sizes .route) nest) b)) × (r ≤ 16384) ⌝ }
 {
     let cells = sizes.cells;
-    let mut kept = [0u8; 16384];
-    let mut counts = [0u32; 257];
+    let mut kept = [0u8; MOST_CELLS];
+    let mut counts = [0u32; BLOCKS];
     keep_cells(nest, sizes, lens, b, &mut kept[..cells], &mut counts)
 }
 
@@ -124,8 +129,8 @@ pub fn own_count(nest: Nest, sizes: Sizes, b: usize) -> usize
     ensures { λ r. ⌜ (r ≡ length (ownCells (planOf (sizes .route) nest) b)) × (r ≤ 16384) ⌝ }
 {
     let cells = sizes.cells;
-    let mut owned = [0u8; 16384];
-    let mut counts = [0u32; 257];
+    let mut owned = [0u8; MOST_CELLS];
+    let mut counts = [0u32; BLOCKS];
     own_cells(nest, sizes, b, &mut owned[..cells], &mut counts)
 }
 
@@ -135,9 +140,9 @@ pub fn own_count(nest: Nest, sizes: Sizes, b: usize) -> usize
 pub fn part_fits(
     nest: Nest,
     sizes: Sizes,
-    lens: &[u16; 9217],
-    ranks: &[u32; 7169],
-    places: &[u32; 7169],
+    lens: &[u16; TABLE_WORDS],
+    ordinals: &[u32; MESSAGE_ENDS],
+    starts: &[u32; MESSAGE_ENDS],
     messages: usize,
     many: usize,
     memory: &[u32],
@@ -146,18 +151,18 @@ pub fn part_fits(
     marks: &[u8],
     b: usize,
 ) -> bool
-    requires { ⌜ Known nest sizes b (now lens) (now ranks) (now places) × Many nest sizes b messages many ⌝ }
+    requires { ⌜ Known nest sizes b (now lens) (now ordinals) (now starts) × Many nest sizes b messages many ⌝ }
     ensures { λ r. ⌜ ((records : List ℕ) → words ≡ length records
         → r ≡ partFits (planOf (sizes .route) nest) b (stateOf (now (memory .entry)) (now (mail .entry)) records (now (marks .entry)))) ⌝ }
 {
     if memory.len() != many {
         false
-    } else if mail.len() != word_index(places[messages]) {
+    } else if mail.len() != word_index(starts[messages]) {
         false
     } else if words != 3 {
         false
     } else {
-        marks.len() == word_index(ranks[messages])
+        marks.len() == word_index(ordinals[messages])
     }
 }
 
@@ -165,7 +170,7 @@ pub fn part_fits(
 pub fn fit_own(
     nest: Nest,
     sizes: Sizes,
-    lens: &[u16; 9217],
+    lens: &[u16; TABLE_WORDS],
     b: usize,
     finished: u32,
     stage: u32,
@@ -199,12 +204,12 @@ pub fn fit_own(
 }
 
 // Lines 9 and 10 of a lent part.
-pub fn unfit(
+pub fn refusal_of_areas(
     nest: Nest,
     sizes: Sizes,
-    lens: &[u16; 9217],
-    ranks: &[u32; 7169],
-    places: &[u32; 7169],
+    lens: &[u16; TABLE_WORDS],
+    ordinals: &[u32; MESSAGE_ENDS],
+    starts: &[u32; MESSAGE_ENDS],
     messages: usize,
     many: usize,
     memory: &[u32],
@@ -213,8 +218,8 @@ pub fn unfit(
     marks: &[u8],
     b: usize,
 ) -> u32
-    requires { ⌜ Known nest sizes b (now lens) (now ranks) (now places) × (Many nest sizes b messages many × (length (progress .words) ≡ 192)) ⌝ }
-    ensures { λ r. ⌜ ((records : List ℕ) → Carries progress records
+    requires { ⌜ Known nest sizes b (now lens) (now ordinals) (now starts) × (Many nest sizes b messages many × (length (progress .words) ≡ 192)) ⌝ }
+    ensures { λ r. ⌜ ((records : List ℕ) → Flattens progress records
         → r ≡ firstOf (unfitLines (planOf (sizes .route) nest) b (stateOf (now (memory .entry)) (now (mail .entry)) records (now (marks .entry)))))
         × (r ≡ 0 → progress .count ≡ 3) ⌝ }
 {
@@ -223,8 +228,8 @@ pub fn unfit(
         nest,
         sizes,
         lens,
-        ranks,
-        places,
+        ordinals,
+        starts,
         messages,
         many,
         memory,

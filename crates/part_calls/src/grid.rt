@@ -12,10 +12,10 @@ ghost use Rattle.nest.specs.Spans.{within};
 ghost use Rattle.plan.specs.Shaped.{planOf};
 ghost use Rattle.layout.specs.Sizes.{Sized};
 ghost use Rattle.tables.specs.Tables.{Routed, Planned};
-ghost use Rattle.records.specs.Records.{Carries};
+ghost use Rattle.records.specs.Records.{Flattens};
 ghost use Rattle.engine.specs.Calls.{answer};
 ghost use Rattle.network.specs.Own.{keeps, keptCells};
-ghost use Rattle.part_calls.specs.front.Calls.{ownCollected};
+ghost use Rattle.part_calls.specs.front.Calls.{partCollected};
 ghost use Rattle.part_calls.specs.front.Given.{Cells};
 ghost use Rattle.part_calls.specs.Given.{outsideWord, gridWord, Within, collectLines, collectedOr};
 use crate::front::fit_own;
@@ -23,9 +23,12 @@ use crate::front::keep_cells;
 use base::word_index;
 use layout::Sizes;
 use nest::Interval;
+use nest::MOST_CELLS;
 use nest::Nest;
 use part::mark_own;
+use rank_index::BLOCKS;
 use records::Flat;
+use tables::TABLE_WORDS;
 use tables::fill;
 use tables::tile_count;
 
@@ -107,7 +110,7 @@ fn put_own(
     nest: Nest,
     sizes: Sizes,
     kept: &[u8],
-    counts: &[u32; 257],
+    counts: &[u32; BLOCKS],
     memory: &[u32],
     b: usize,
     grid: &mut [u32],
@@ -116,10 +119,10 @@ fn put_own(
         × Cells nest (keeps (planOf (sizes .route) nest) b) (now kept) (now counts))) ⌝ }
     requires { ⌜ (length (now memory) ≡ length (keptCells (planOf (sizes .route) nest) b)) × (length (now grid) ≡ cells nest) ⌝ }
     ensures { λ _. ⌜ ((records : List ℕ) → now (grid .exit)
-        ≡ ownCollected (planOf (sizes .route) nest) b (stateOf (now (memory .entry)) [] records []) (now (grid .entry))) ⌝ }
+        ≡ partCollected (planOf (sizes .route) nest) b (stateOf (now (memory .entry)) [] records []) (now (grid .entry))) ⌝ }
 {
     let cells = sizes.cells;
-    let mut owned = [0u8; 16384];
+    let mut owned = [0u8; MOST_CELLS];
     mark_own(nest, sizes, b, &mut owned[..cells]);
     put_outside(nest, sizes, grid);
     put_cells(&owned[..cells], kept, memory, grid);
@@ -129,7 +132,7 @@ fn put_own(
 fn uncollected(
     nest: Nest,
     sizes: Sizes,
-    lens: &[u16; 9217],
+    lens: &[u16; TABLE_WORDS],
     many: usize,
     memory: &[u32],
     progress: Flat,
@@ -138,7 +141,7 @@ fn uncollected(
 ) -> u32
     requires { ⌜ Planned nest sizes (now lens) × ((b < processors nest)
         × ((many ≡ length (keptCells (planOf (sizes .route) nest) b)) × (length (progress .words) ≡ 192))) ⌝ }
-    ensures { λ r. ⌜ ((records : List ℕ) → Carries progress records
+    ensures { λ r. ⌜ ((records : List ℕ) → Flattens progress records
         → r ≡ firstOf (collectLines (planOf (sizes .route) nest) b (stateOf (now (memory .entry)) [] records []) (now (grid .entry))))
         × (r ≡ 0 → (length (now (memory .entry)) ≡ length (keptCells (planOf (sizes .route) nest) b)) × (length (now (grid .entry)) ≡ cells nest)) ⌝ }
 {
@@ -168,14 +171,14 @@ pub fn collect_part(
     grid: &mut [u32],
 ) -> u32
     requires { ⌜ Sized nest sizes × (Routed nest sizes × ((b < processors nest) × (length (progress .words) ≡ 192))) ⌝ }
-    ensures { λ r. ⌜ ((records : List ℕ) → Carries progress records
+    ensures { λ r. ⌜ ((records : List ℕ) → Flattens progress records
         → answer r (now (grid .exit))
         ≡ collectedOr (planOf (sizes .route) nest) b (stateOf (now (memory .entry)) [] records []) (now (grid .entry))) ⌝ }
 {
     let cells = sizes.cells;
-    let mut lens = [0u16; 9217];
-    let mut kept = [0u8; 16384];
-    let mut counts = [0u32; 257];
+    let mut lens = [0u16; TABLE_WORDS];
+    let mut kept = [0u8; MOST_CELLS];
+    let mut counts = [0u32; BLOCKS];
     fill(nest, sizes, &mut lens);
     let many = keep_cells(nest, sizes, &lens, b, &mut kept[..cells], &mut counts);
     let n = uncollected(nest, sizes, &lens, many, memory, progress, b, grid);

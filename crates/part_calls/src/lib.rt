@@ -5,7 +5,7 @@ ghost use mathlib.Core.Path.{_≡_};
 ghost use mathlib.Core.List.{[]};
 ghost use Rattle.machine.specs.Machine.{stateOf};
 ghost use Rattle.engine.specs.Calls.{answer};
-ghost use Rattle.part_calls.specs.front.Calls.{ownSizesCall, ownMessagesCall, ownFreshCall, ownPostCall, ownArriveCall, ownCollectCall};
+ghost use Rattle.part_calls.specs.front.Calls.{partSizesCall, partMessagesCall, partFreshCall, partPostCall, partArriveCall, partCollectCall};
 
 pub mod core; // core.rt: the calls without the form of the record
 pub mod grid; // grid.rt: its cells' words into the grid
@@ -29,7 +29,7 @@ pub struct AreaLengths {
 
 // How long its areas are.
 pub fn sizes(encoded: &[u8], route: u32, processor: u32) -> AreaLengths
-    ensures { λ r. ⌜ r ≡ ownSizesCall (now (encoded .entry)) route processor ⌝ }
+    ensures { λ r. ⌜ r ≡ partSizesCall (now (encoded .entry)) route processor ⌝ }
 {
     let board = front::open(encoded, route, processor);
     let number = board.number;
@@ -41,7 +41,7 @@ pub fn sizes(encoded: &[u8], route: u32, processor: u32) -> AreaLengths
 
 // The messages that it handles, seven words each: number, sending tile, taking tile, sending processor, taking processor, words, their place in its mail.
 pub fn messages(encoded: &[u8], route: u32, processor: u32, out: &mut [u32]) -> u32
-    ensures { λ r. ⌜ answer r (now (out .exit)) ≡ ownMessagesCall (now (encoded .entry)) route processor (now (out .entry)) ⌝ }
+    ensures { λ r. ⌜ answer r (now (out .exit)) ≡ partMessagesCall (now (encoded .entry)) route processor (now (out .entry)) ⌝ }
 {
     let board = front::open(encoded, route, processor);
     let number = board.number;
@@ -63,7 +63,7 @@ pub fn fresh(
     processor: u32,
 ) -> u32
     ensures { λ r. ⌜ answer r (stateOf (now (memory .exit)) (now (mail .exit)) (now (progress .exit)) (now (marks .exit)))
-        ≡ ownFreshCall (now (encoded .entry)) route
+        ≡ partFreshCall (now (encoded .entry)) route
         (stateOf (now (memory .entry)) (now (mail .entry)) (now (progress .entry)) (now (marks .entry))) processor ⌝ }
 {
     let number = core::fresh(
@@ -95,7 +95,7 @@ pub fn post(
     message: u32,
 ) -> u32
     ensures { λ r. ⌜ answer r (stateOf (now (memory .entry)) (now (mail .entry)) (now (progress .entry)) (now (marks .exit)))
-        ≡ ownPostCall (now (encoded .entry)) route
+        ≡ partPostCall (now (encoded .entry)) route
         (stateOf (now (memory .entry)) (now (mail .entry)) (now (progress .entry)) (now (marks .entry))) processor message ⌝ }
 {
     core::post(
@@ -123,7 +123,7 @@ pub fn arrive(
     words: &[u32],
 ) -> u32
     ensures { λ r. ⌜ answer r (stateOf (now (memory .entry)) (now (mail .exit)) (now (progress .entry)) (now (marks .exit)))
-        ≡ ownArriveCall (now (encoded .entry)) route
+        ≡ partArriveCall (now (encoded .entry)) route
         (stateOf (now (memory .entry)) (now (mail .entry)) (now (progress .entry)) (now (marks .entry))) processor message (now (words .entry)) ⌝ }
 {
     core::arrive(
@@ -149,7 +149,7 @@ pub fn collect(
     grid: &mut [u32],
 ) -> u32
     ensures { λ r. ⌜ answer r (now (grid .exit))
-        ≡ ownCollectCall (now (encoded .entry)) route (stateOf (now (memory .entry)) [] (now (progress .entry)) []) processor (now (grid .entry)) ⌝ }
+        ≡ partCollectCall (now (encoded .entry)) route (stateOf (now (memory .entry)) [] (now (progress .entry)) []) processor (now (grid .entry)) ⌝ }
 {
     core::collect(encoded, route, memory, flat_of(progress), processor, grid)
 }

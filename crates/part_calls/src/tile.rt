@@ -23,8 +23,10 @@ use layout::Cell;
 use layout::Sizes;
 use nest::Interval;
 use nest::Nest;
+use rank_index::BLOCKS;
 use rank_index::behind;
 use rank_index::rank;
+use tables::TABLE_WORDS;
 use values::shaped_values::Reads;
 use values::shaped_values::overlap;
 use values::shaped_values::reads_of;
@@ -45,7 +47,7 @@ struct Row {
 // How far back in the part a distance reads, of `few` cells of a row, the first of which stands at `first`; `back` in a memory of all cells.
 fn back_in(
     kept: &[u8],
-    counts: &[u32; 257],
+    counts: &[u32; BLOCKS],
     reads: Interval,
     back: usize,
     first: usize,
@@ -67,7 +69,7 @@ fn back_in(
 // The same of each distance.
 fn backs_in(
     kept: &[u8],
-    counts: &[u32; 257],
+    counts: &[u32; BLOCKS],
     n: usize,
     reads: Reads,
     back: [usize; 8],
@@ -99,7 +101,7 @@ fn backs_in(
 fn row_at(
     nest: Nest,
     kept: &[u8],
-    counts: &[u32; 257],
+    counts: &[u32; BLOCKS],
     back: [usize; 8],
     at: [usize; 4],
     from: usize,
@@ -157,9 +159,9 @@ fn no_row() -> Row
 fn row_in(
     nest: Nest,
     kept: &[u8],
-    counts: &[u32; 257],
+    counts: &[u32; BLOCKS],
     owned: &[u8],
-    tally: &[u32; 257],
+    tally: &[u32; BLOCKS],
     back: [usize; 8],
     cell: Cell,
     width: usize,
@@ -217,9 +219,9 @@ fn calculate_box(
     nest: Nest,
     sizes: Sizes,
     kept: &[u8],
-    counts: &[u32; 257],
+    counts: &[u32; BLOCKS],
     owned: &[u8],
-    tally: &[u32; 257],
+    tally: &[u32; BLOCKS],
     source: &[u32],
     memory: &mut [u32],
     tile: usize,
@@ -247,11 +249,11 @@ fn calculate_box(
 pub fn calculate(
     nest: Nest,
     sizes: Sizes,
-    lens: &[u16; 9217],
+    lens: &[u16; TABLE_WORDS],
     kept: &[u8],
-    counts: &[u32; 257],
+    counts: &[u32; BLOCKS],
     owned: &[u8],
-    tally: &[u32; 257],
+    tally: &[u32; BLOCKS],
     source: &[u32],
     memory: &mut [u32],
     b: usize,

@@ -9,11 +9,11 @@ ghost use Rattle.nest.specs.Nest.{processors};
 ghost use Rattle.plan.specs.Shaped.{planOf};
 ghost use Rattle.layout.specs.Sizes.{Sized};
 ghost use Rattle.tables.specs.Tables.{Routed};
-ghost use Rattle.records.specs.Records.{Carries};
+ghost use Rattle.records.specs.Records.{Flattens};
 ghost use Rattle.engine.specs.Given.{recordsAfter};
 ghost use Rattle.engine.specs.Calls.{answer};
 ghost use Rattle.network.specs.Own.{ownCells};
-ghost use Rattle.part_calls.specs.front.Calls.{ownTurnCall};
+ghost use Rattle.part_calls.specs.front.Calls.{partTurnCall};
 ghost use Rattle.part_calls.specs.front.Given.{Many, PartLengths};
 ghost use Rattle.part_calls.specs.turn.Step.{Tables, Stands, MayStep, steppedOr, turnedOr};
 
@@ -23,18 +23,23 @@ use crate::front::keep_cells;
 use crate::front::open;
 use crate::front::own_count;
 use crate::front::prepare;
-use crate::front::unfit;
+use crate::front::refusal_of_areas;
+use base::refusals;
 use base::word_index;
 use engine::core::Turned;
 use engine::core::done;
 use engine::core::refused;
 use layout::Sizes;
+use nest::MOST_CELLS;
 use nest::Nest;
 use on_part::calculate_stage;
 use on_part::gather_stage;
 use on_part::ready;
 use on_part::send_stage;
+use part::MESSAGE_ENDS;
+use rank_index::BLOCKS;
 use records::Flat;
+use tables::TABLE_WORDS;
 use tables::tile_at;
 use tables::tile_count;
 
@@ -42,11 +47,11 @@ use tables::tile_count;
 fn first_stage(
     nest: Nest,
     sizes: Sizes,
-    lens: &[u16; 9217],
+    lens: &[u16; TABLE_WORDS],
     kept: &[u8],
-    counts: &[u32; 257],
-    ranks: &[u32; 7169],
-    places: &[u32; 7169],
+    counts: &[u32; BLOCKS],
+    ordinals: &[u32; MESSAGE_ENDS],
+    starts: &[u32; MESSAGE_ENDS],
     memory: &mut [u32],
     mail: &[u32],
     progress: &[u32],
@@ -54,7 +59,7 @@ fn first_stage(
     b: usize,
     tile: usize,
 ) -> Turned
-    requires { ⌜ Tables nest sizes b (now lens) (now kept) (now counts) (now ranks) (now places) ⌝ }
+    requires { ⌜ Tables nest sizes b (now lens) (now kept) (now counts) (now ordinals) (now starts) ⌝ }
     requires { ⌜ PartLengths (planOf (sizes .route) nest) b (stateOf (now memory) (now mail) (now progress) (now marks))
         × Stands (planOf (sizes .route) nest) (now progress) b tile ⌝ }
     ensures { λ r. ⌜ ((source : List ℕ)
@@ -64,8 +69,8 @@ fn first_stage(
         ≡ steppedOr (planOf (sizes .route) nest) source
         (stateOf (now (memory .entry)) (now (mail .entry)) (now (progress .entry)) (now (marks .entry))) b) ⌝ }
 {
-    if !ready(nest, sizes, lens, ranks, marks, tile) {
-        refused(12)
+    if !ready(nest, sizes, lens, ordinals, marks, tile) {
+        refused(refusals::WAITING)
     } else {
         let finished = progress[0];
         let gathered = gather_stage(
@@ -74,8 +79,8 @@ fn first_stage(
             lens,
             kept,
             counts,
-            ranks,
-            places,
+            ordinals,
+            starts,
             memory,
             mail,
             marks,
@@ -91,11 +96,11 @@ fn first_stage(
 fn later_stage(
     nest: Nest,
     sizes: Sizes,
-    lens: &[u16; 9217],
+    lens: &[u16; TABLE_WORDS],
     kept: &[u8],
-    counts: &[u32; 257],
-    ranks: &[u32; 7169],
-    places: &[u32; 7169],
+    counts: &[u32; BLOCKS],
+    ordinals: &[u32; MESSAGE_ENDS],
+    starts: &[u32; MESSAGE_ENDS],
     source: &[u32],
     memory: &mut [u32],
     mail: &mut [u32],
@@ -104,7 +109,7 @@ fn later_stage(
     b: usize,
     tile: usize,
 ) -> Turned
-    requires { ⌜ Tables nest sizes b (now lens) (now kept) (now counts) (now ranks) (now places) ⌝ }
+    requires { ⌜ Tables nest sizes b (now lens) (now kept) (now counts) (now ordinals) (now starts) ⌝ }
     requires { ⌜ MayStep (planOf (sizes .route) nest) (now source) (stateOf (now memory) (now mail) (now progress) (now marks)) b
         × (Stands (planOf (sizes .route) nest) (now progress) b tile × (getD (now progress) 1 0 ≢ 0)) ⌝ }
     ensures { λ r. ⌜ answer (r .number) (stateOf (now (memory .exit)) (now (mail .exit)) (recordsAfter (now (progress .entry)) 0 r) (now (marks .exit)))
@@ -119,8 +124,8 @@ fn later_stage(
             lens,
             kept,
             counts,
-            ranks,
-            places,
+            ordinals,
+            starts,
             source,
             memory,
             b,
@@ -136,8 +141,8 @@ fn later_stage(
             lens,
             kept,
             counts,
-            ranks,
-            places,
+            ordinals,
+            starts,
             memory,
             mail,
             marks,
@@ -154,11 +159,11 @@ fn later_stage(
 fn step(
     nest: Nest,
     sizes: Sizes,
-    lens: &[u16; 9217],
+    lens: &[u16; TABLE_WORDS],
     kept: &[u8],
-    counts: &[u32; 257],
-    ranks: &[u32; 7169],
-    places: &[u32; 7169],
+    counts: &[u32; BLOCKS],
+    ordinals: &[u32; MESSAGE_ENDS],
+    starts: &[u32; MESSAGE_ENDS],
     source: &[u32],
     memory: &mut [u32],
     mail: &mut [u32],
@@ -166,7 +171,7 @@ fn step(
     marks: &mut [u8],
     b: usize,
 ) -> Turned
-    requires { ⌜ Tables nest sizes b (now lens) (now kept) (now counts) (now ranks) (now places) ⌝ }
+    requires { ⌜ Tables nest sizes b (now lens) (now kept) (now counts) (now ordinals) (now starts) ⌝ }
     requires { ⌜ MayStep (planOf (sizes .route) nest) (now source) (stateOf (now memory) (now mail) (now progress) (now marks)) b ⌝ }
     ensures { λ r. ⌜ answer (r .number) (stateOf (now (memory .exit)) (now (mail .exit)) (recordsAfter (now (progress .entry)) 0 r) (now (marks .exit)))
         ≡ steppedOr (planOf (sizes .route) nest) (now (source .entry))
@@ -174,7 +179,7 @@ fn step(
 {
     let finished = word_index(progress[0]);
     if finished >= tile_count(nest, sizes, lens, b) {
-        return refused(13);
+        return refused(refusals::FINISHED);
     }
     let tile = tile_at(nest, sizes, lens, b, finished);
     if progress[1] == 0 {
@@ -184,8 +189,8 @@ fn step(
             lens,
             kept,
             counts,
-            ranks,
-            places,
+            ordinals,
+            starts,
             memory,
             mail,
             progress,
@@ -200,8 +205,8 @@ fn step(
             lens,
             kept,
             counts,
-            ranks,
-            places,
+            ordinals,
+            starts,
             source,
             memory,
             mail,
@@ -217,11 +222,11 @@ fn step(
 fn turn_in(
     nest: Nest,
     sizes: Sizes,
-    lens: &[u16; 9217],
+    lens: &[u16; TABLE_WORDS],
     kept: &[u8],
-    counts: &[u32; 257],
-    ranks: &[u32; 7169],
-    places: &[u32; 7169],
+    counts: &[u32; BLOCKS],
+    ordinals: &[u32; MESSAGE_ENDS],
+    starts: &[u32; MESSAGE_ENDS],
     messages: usize,
     many: usize,
     source: &[u32],
@@ -231,19 +236,19 @@ fn turn_in(
     marks: &mut [u8],
     b: usize,
 ) -> Turned
-    requires { ⌜ Tables nest sizes b (now lens) (now kept) (now counts) (now ranks) (now places)
+    requires { ⌜ Tables nest sizes b (now lens) (now kept) (now counts) (now ordinals) (now starts)
         × (Many nest sizes b messages many × (length (progress .words) ≡ 192)) ⌝ }
     requires { ⌜ length (now source) ≡ length (ownCells (planOf (sizes .route) nest) b) ⌝ }
-    ensures { λ r. ⌜ ((records : List ℕ) → Carries progress records
+    ensures { λ r. ⌜ ((records : List ℕ) → Flattens progress records
         → answer (r .number) (stateOf (now (memory .exit)) (now (mail .exit)) (recordsAfter records 0 r) (now (marks .exit)))
         ≡ turnedOr (planOf (sizes .route) nest) (now (source .entry)) (stateOf (now (memory .entry)) (now (mail .entry)) records (now (marks .entry))) b) ⌝ }
 {
-    let n = unfit(
+    let n = refusal_of_areas(
         nest,
         sizes,
         lens,
-        ranks,
-        places,
+        ordinals,
+        starts,
         messages,
         many,
         memory,
@@ -262,8 +267,8 @@ fn turn_in(
             lens,
             kept,
             counts,
-            ranks,
-            places,
+            ordinals,
+            starts,
             source,
             memory,
             mail,
@@ -287,20 +292,20 @@ fn take_turn(
 ) -> Turned
     requires { ⌜ Sized nest sizes × (Routed nest sizes × (b < processors nest)) ⌝ }
     requires { ⌜ length (progress .words) ≡ 192 ⌝ }
-    ensures { λ r. ⌜ ((records : List ℕ) → Carries progress records
+    ensures { λ r. ⌜ ((records : List ℕ) → Flattens progress records
         → answer (r .number) (stateOf (now (memory .exit)) (now (mail .exit)) (recordsAfter records 0 r) (now (marks .exit)))
         ≡ turnedOr (planOf (sizes .route) nest) (now (source .entry)) (stateOf (now (memory .entry)) (now (mail .entry)) records (now (marks .entry))) b) ⌝ }
 {
     if source.len() != own_count(nest, sizes, b) {
-        refused(9)
+        refused(refusals::AREA)
     } else {
         let cells = sizes.cells;
-        let mut lens = [0u16; 9217];
-        let mut kept = [0u8; 16384];
-        let mut counts = [0u32; 257];
-        let mut ranks = [0u32; 7169];
-        let mut places = [0u32; 7169];
-        let messages = prepare(nest, sizes, b, &mut lens, &mut ranks, &mut places);
+        let mut lens = [0u16; TABLE_WORDS];
+        let mut kept = [0u8; MOST_CELLS];
+        let mut counts = [0u32; BLOCKS];
+        let mut ordinals = [0u32; MESSAGE_ENDS];
+        let mut starts = [0u32; MESSAGE_ENDS];
+        let messages = prepare(nest, sizes, b, &mut lens, &mut ordinals, &mut starts);
         let many = keep_cells(nest, sizes, &lens, b, &mut kept[..cells], &mut counts);
         turn_in(
             nest,
@@ -308,8 +313,8 @@ fn take_turn(
             &lens,
             &kept[..cells],
             &counts,
-            &ranks,
-            &places,
+            &ordinals,
+            &starts,
             messages,
             many,
             source,
@@ -334,9 +339,9 @@ pub fn turn(
     processor: u32,
 ) -> Turned
     requires { ⌜ length (progress .words) ≡ 192 ⌝ }
-    ensures { λ r. ⌜ ((records : List ℕ) → Carries progress records
+    ensures { λ r. ⌜ ((records : List ℕ) → Flattens progress records
         → answer (r .number) (stateOf (now (memory .exit)) (now (mail .exit)) (recordsAfter records 0 r) (now (marks .exit)))
-        ≡ ownTurnCall (now (encoded .entry)) route (now (source .entry))
+        ≡ partTurnCall (now (encoded .entry)) route (now (source .entry))
         (stateOf (now (memory .entry)) (now (mail .entry)) records (now (marks .entry))) processor) ⌝ }
 {
     let board = open(encoded, route, processor);

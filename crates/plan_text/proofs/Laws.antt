@@ -25,7 +25,7 @@ use Rattle.plan.specs.declared.Route.{Route}
 use Rattle.plan.specs.declared.Route.the-variants.{Direct}
 use Rattle.plan.specs.Messages.{slots, directions, boxPlan}
 use Rattle.plan.specs.Shaped.{shapedMessage, shapedSlots, planOf}
-use Rattle.conformance.specs.Rows.{messageLine}
+use Rattle.conformance.specs.Examples.{messageLine}
 use Rattle.plan.proofs.Listed.{few as few-listed}
 use Rattle.plan.proofs.Slots.{few}
 use Rattle.plan.proofs.ShapedBox.{planOf-box}

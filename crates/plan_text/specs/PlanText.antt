@@ -14,7 +14,7 @@ use Rattle.nest.specs.Reader.{nestOf}
 use Rattle.plan.specs.declared.Route.{Route}
 use Rattle.plan.specs.declared.Route.the-variants.{Direct}
 use Rattle.plan.specs.Shaped.{planOf}
-use Rattle.conformance.specs.Rows.{messageLine}
+use Rattle.conformance.specs.Examples.{messageLine}
 use Rattle.recipe.specs.Routes.{linesFor}
 
 -- "tiles ", "messages ", "words ", "steps ", "refused "

@@ -5,7 +5,8 @@ ghost use Prim.Native.Nat.{_+_, _*_, _≤_};
 ghost use lib.ListN.{length, take};
 ghost use Rattle.machine.specs.Plan.{count};
 ghost use Rattle.plan.specs.Shaped.{planOf};
-ghost use Rattle.layout.specs.Sizes.{Sized, routeOf};
+ghost use Rattle.layout.specs.Sizes.{Sized};
+ghost use Rattle.layout.specs.RouteWords.{routeOf};
 ghost use Rattle.tables.specs.Tables.{Tabled};
 ghost use Rattle.text.specs.Writing.{pen, write};
 ghost use Rattle.plan_text.specs.PlanText.{numberThen, field, figuresText, spaced, linesText, refusedText, planText, printerText};
@@ -13,6 +14,7 @@ use layout::Sizes;
 use libc::STDOUT_FILENO;
 use nest::Nest;
 use summary::MessageLine;
+use tables::TABLE_WORDS;
 
 // A number of at most ten digits, and a byte behind it.
 fn put_number(space: &mut [u8], at: usize, number: u32, after: u8) -> usize
@@ -55,7 +57,7 @@ fn put_lines(
     at: usize,
     nest: Nest,
     sizes: Sizes,
-    lens: &[u16; 9217],
+    lens: &[u16; TABLE_WORDS],
     messages: u32,
 ) -> usize
     requires { ⌜ (at + 66 * messages ≤ 4294967295) × (Sized nest sizes × Tabled nest sizes (now lens)) ⌝ }
@@ -103,7 +105,7 @@ pub fn put_recipe(space: &mut [u8], encoded: &[u8], route: u32) -> usize
     if encoded.len() > 512 {
         return put_refused(space, 1);
     }
-    let mut lens = [0u16; 9217];
+    let mut lens = [0u16; TABLE_WORDS];
     let opening = recipe::open(encoded, route, &mut lens);
     let number = opening.number;
     if number != 0 {

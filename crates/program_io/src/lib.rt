@@ -21,7 +21,7 @@ pub fn front_bytes(bytes: &[u8], n: usize) -> usize
     base::least(n, bytes.len())
 }
 
-pub fn wide(x: u32) -> usize
+pub fn as_index(x: u32) -> usize
     ensures { λ r. ⌜ (r ≡ x) × (r < 4294967296) ⌝ }
 {
     x as usize
@@ -42,7 +42,7 @@ pub fn half(bytes: &[u8]) -> usize
     }
     let low = of_byte(bytes[0]);
     let high = of_byte(bytes[1]);
-    wide(low + 256 * high)
+    as_index(low + 256 * high)
 }
 
 fn byte_value(x: u8) -> u32

@@ -6,6 +6,12 @@ ghost use lib.ListN.{length};
 ghost use Rattle.rank_index.specs.Ranks.{rankAt, Counted};
 use base::word_index;
 
+// Cells of a block.
+pub const BLOCK: usize = 64;
+
+// Of at most 16,384 cells a count before each block, and one behind the last.
+pub const BLOCKS: usize = 257;
+
 // How many of the bytes are marks.
 fn marks_in(marks: &[u8]) -> u32
     requires { ⌜ length (now marks) ≤ 16384 ⌝ }
@@ -23,17 +29,17 @@ fn marks_in(marks: &[u8]) -> u32
 }
 
 // How many cells are marked before each block of 64.
-pub fn fill_counts(marks: &[u8], counts: &mut [u32; 257])
+pub fn fill_counts(marks: &[u8], counts: &mut [u32; BLOCKS])
     requires { ⌜ (length (now marks) ≤ 16384) × (length (now counts) ≡ 257) ⌝ }
     ensures { λ _. ⌜ Counted (now (marks .entry)) (now (counts .exit)) ⌝ }
 {
-    let blocks = marks.len() / 64;
+    let blocks = marks.len() / BLOCK;
     let mut n = 0;
     let mut q = 0;
     while q < blocks {
         counts[q] = n;
-        let from = q * 64;
-        let end = from + 64;
+        let from = q * BLOCK;
+        let end = from + BLOCK;
         n += marks_in(&marks[from..end]);
         q += 1;
     }
@@ -41,12 +47,12 @@ pub fn fill_counts(marks: &[u8], counts: &mut [u32; 257])
 }
 
 // How many cells are marked before this one; before the length, how many there are.
-pub fn rank(marks: &[u8], counts: &[u32; 257], c: usize) -> usize
+pub fn rank(marks: &[u8], counts: &[u32; BLOCKS], c: usize) -> usize
     requires { ⌜ Counted (now marks) (now counts) × ((c ≤ length (now marks)) × (length (now marks) ≤ 16384)) ⌝ }
     ensures { λ r. ⌜ r ≡ rankAt (now (marks .entry)) c ⌝ }
 {
-    let q = c / 64;
-    let from = q * 64;
+    let q = c / BLOCK;
+    let from = q * BLOCK;
     let n = counts[q] + marks_in(&marks[from..c]);
     word_index(n)
 }
@@ -55,7 +61,7 @@ pub fn rank(marks: &[u8], counts: &[u32; 257], c: usize) -> usize
 // are marked too.
 pub fn behind(
     marks: &[u8],
-    counts: &[u32; 257],
+    counts: &[u32; BLOCKS],
     first: usize,
     cell: usize,
     ahead: usize,

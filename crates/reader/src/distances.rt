@@ -4,17 +4,18 @@ ghost use Prim.Native.Nat.{ℕ, _<_, _≤_};
 ghost use lib.Dec.{eqb};
 ghost use Rattle.base.specs.Tests.{every, some};
 ghost use Rattle.nest.specs.Nest.{component};
-ghost use Rattle.nest.specs.Reader.{outside, same, beyond, faulty, badDistance, reached, badTile};
+ghost use Rattle.nest.specs.Reader.{noLength, same, beyond, faulty, badDistance, reached, badTile};
+use nest::MOST_LENGTH;
 use nest::Nest;
 
 // No length of a box or of a tile.
-pub fn outside(v: usize) -> bool
-    ensures { λ r. ⌜ r ≡ outside v ⌝ }
+pub fn no_length(v: usize) -> bool
+    ensures { λ r. ⌜ r ≡ noLength v ⌝ }
 {
     if v == 0 {
         return true;
     }
-    v > 1024
+    v > MOST_LENGTH
 }
 
 // ---- line 5
@@ -121,7 +122,7 @@ pub fn bad_tile(nest: Nest) -> bool
 {
     let n = nest.dimensions;
     for j in 0..n {
-        if outside(nest.tiling[j]) {
+        if no_length(nest.tiling[j]) {
             return true;
         }
         if reached(nest, j) {

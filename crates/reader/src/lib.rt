@@ -10,7 +10,7 @@ ghost use Rattle.base.specs.Lists.{Bytes};
 ghost use Rattle.base.specs.Numbers.{firstOf};
 ghost use Rattle.nest.specs.Nest.{processorCount, cells, boxTiles};
 ghost use Rattle.nest.specs.Shape.{inShape, tiles};
-ghost use Rattle.nest.specs.Spans.{Framed, Tiled, Shaped};
+ghost use Rattle.nest.specs.Spans.{Framed, Tiled, InRange};
 ghost use Rattle.nest.specs.Reader.{nestBy, badLength, badDistance, badTile, badSpread, lastSpread};
 ghost use Rattle.nest.specs.Reader.{badProcessors, tooManyTiles, nestLines, readingOf};
 use crate::distance_fields::components_of;
@@ -18,7 +18,7 @@ use crate::distance_fields::needlessly_wide;
 use crate::distance_fields::weights_of;
 use crate::distances::bad_distance;
 use crate::distances::bad_tile;
-use crate::distances::outside;
+use crate::distances::no_length;
 use crate::fields::bytes_of;
 use crate::fields::count_distances;
 use crate::fields::count_kind;
@@ -28,6 +28,10 @@ use crate::fields::ragged;
 use crate::fields::slopes_of;
 use crate::fields::spread_of;
 use crate::fields::well_formed;
+use base::refusals;
+use nest::MOST_CELLS;
+use nest::MOST_PROCESSORS;
+use nest::MOST_TILES;
 use nest::Nest;
 use nest::Reading;
 use nest::division::tiles_along;
@@ -102,7 +106,7 @@ fn bad_length(nest: Nest) -> bool
 {
     let n = nest.dimensions;
     for j in 0..n {
-        if outside(nest.lengths[j]) {
+        if no_length(nest.lengths[j]) {
             return true;
         }
     }
@@ -144,7 +148,7 @@ fn bad_processors(nest: Nest) -> bool
     ensures { λ r. ⌜ r ≡ badProcessors nest ⌝ }
 {
     let counts = nest.counts;
-    product_of(counts, nest.spread) > 64
+    product_of(counts, nest.spread) > MOST_PROCESSORS
 }
 
 // ---- line 20
@@ -201,7 +205,7 @@ fn tile_total(nest: Nest, boxed: usize) -> usize
     requires { ⌜ (Framed nest × Tiled nest) × ((boxed ≡ boxTiles nest) × (boxed ≤ 16384)) ⌝ }
     ensures { λ r. ⌜ r ≡ tiles nest ⌝ }
 {
-    let mut marks = [0u8; 16384];
+    let mut marks = [0u8; MOST_CELLS];
     let rows = row_count(nest);
     for q in 0..rows {
         mark_row(nest, q, &mut marks);
@@ -215,52 +219,52 @@ fn too_many_tiles(nest: Nest) -> bool
     ensures { λ r. ⌜ r ≡ tooManyTiles nest ⌝ }
 {
     let boxed = box_tiles(nest);
-    if boxed <= 1024 {
+    if boxed <= MOST_TILES {
         return false;
     }
     if nest.bounds == 0 {
         return true;
     }
-    tile_total(nest, boxed) > 1024
+    tile_total(nest, boxed) > MOST_TILES
 }
 
 // ---- the answer
 
 // The first of the lines behind 2 that refuses the nest, or 0; `needless`: its bytes are needlessly wide, which is line 18.
 fn refused(nest: Nest, needless: bool) -> u32
-    requires { ⌜ Shaped nest ⌝ }
+    requires { ⌜ InRange nest ⌝ }
     ensures { λ r. ⌜ r ≡ firstOf (nestLines needless nest) ⌝ }
 {
     if bad_length(nest) {
-        return 3;
+        return refusals::LENGTH;
     }
     let lengths = nest.lengths;
-    if product_of(lengths, nest.dimensions) > 16384 {
-        return 4;
+    if product_of(lengths, nest.dimensions) > MOST_CELLS {
+        return refusals::TOO_LARGE;
     }
     if needless {
-        return 18;
+        return refusals::TOO_WIDE;
     }
     if !has_cell(nest) {
-        return 20;
+        return refusals::EMPTY;
     }
     if bad_distance(nest) {
-        return 5;
+        return refusals::DISTANCE;
     }
     if bad_tile(nest) {
-        return 6;
+        return refusals::TILE;
     }
     if bad_spread(nest) {
-        return 16;
+        return refusals::SPREAD_ORDER;
     }
     if last_spread(nest) {
-        return 17;
+        return refusals::LAST_SPREAD;
     }
     if bad_processors(nest) {
-        return 7;
+        return refusals::BOARDS;
     }
     if too_many_tiles(nest) {
-        return 8;
+        return refusals::TILES;
     }
     0
 }

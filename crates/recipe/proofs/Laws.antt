@@ -23,7 +23,8 @@ use Rattle.plan.specs.declared.Route.{Route}
 use Rattle.plan.specs.declared.Route.the-variants.{Direct, Indirect}
 use Rattle.plan.specs.Shaped.{planOf}
 use Rattle.layout.specs.declared.Sizes.{Sizes}
-use Rattle.layout.specs.Sizes.{Sized, routeOf}
+use Rattle.layout.specs.Sizes.{Sized}
+use Rattle.layout.specs.RouteWords.{routeOf}
 use Rattle.tables.specs.Tables.{Tabled}
 use Rattle.recipe.specs.Routes.{indirect, routeLines, linesFor, ReadFor}
 use Rattle.recipe.specs.Given.{Opened, WithSizes, Opens}

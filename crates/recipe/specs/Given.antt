@@ -8,7 +8,8 @@ use Rattle.base.specs.Numbers.{firstOf}
 use Rattle.machine.specs.Plan.{Plan}
 use Rattle.nest.specs.Reader.{nestOf}
 use Rattle.plan.specs.Shaped.{planOf}
-use Rattle.layout.specs.Sizes.{Sized, routeOf}
+use Rattle.layout.specs.Sizes.{Sized}
+use Rattle.layout.specs.RouteWords.{routeOf}
 use Rattle.tables.specs.Tables.{Routed, Planned}
 use Rattle.recipe.specs.Routes.{linesFor}
 use Rattle.recipe.specs.declared.Recipe.{Recipe}

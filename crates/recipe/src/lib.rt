@@ -2,9 +2,10 @@
 // looked at.
 ghost use mathlib.Core.Path.{_≡_};
 ghost use lib.ListN.{length};
-ghost use Rattle.layout.specs.Sizes.{routeOf};
+ghost use Rattle.layout.specs.RouteWords.{routeOf};
 ghost use Rattle.recipe.specs.Routes.{ReadFor};
 ghost use Rattle.recipe.specs.Given.{WithSizes, Opens};
+use base::refusals;
 use layout::Sizes;
 use layout::route_of;
 use layout::sizes_of;
@@ -12,6 +13,7 @@ use nest::Nest;
 use nest::Reading;
 use plan::Route;
 use reader::read;
+use tables::TABLE_WORDS;
 use tables::fill;
 
 // The number of the first line that is true of the bytes and the route, or 0 and the nest.
@@ -31,7 +33,7 @@ pub fn read_for(encoded: &[u8], route: u32) -> Reading
         return reading;
     }
     Reading {
-        number: 21,
+        number: refusals::DIRECT_ONLY,
         nest: nest,
     }
 }
@@ -81,7 +83,7 @@ pub fn with_sizes(encoded: &[u8], route: u32) -> Recipe
 }
 
 // The same, and the table of its messages' lengths filled.
-pub fn open(encoded: &[u8], route: u32, lens: &mut [u16; 9217]) -> Recipe
+pub fn open(encoded: &[u8], route: u32, lens: &mut [u16; TABLE_WORDS]) -> Recipe
     requires { ⌜ length (now lens) ≡ 9217 ⌝ }
     ensures { λ r. ⌜ Opens (now (encoded .entry)) route r (now (lens .exit)) ⌝ }
 {

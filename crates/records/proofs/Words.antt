@@ -12,7 +12,7 @@ use lib.Seq.{take-all, take-at, take-suc, take-suc-set, length-take-le, sets-eq}
 use Rattle.base.specs.Tests.{pick}
 use Rattle.records.specs.declared.Progress.{Progress}
 use Rattle.records.specs.declared.Flat.{Flat}
-use Rattle.records.specs.Records.{flatWords, Injective, Carries, zeros, blank, wordsAt, withRecord}
+use Rattle.records.specs.Records.{flatWords, Injective, Flattens, zeros, blank, wordsAt, withRecord}
 use Rattle.records.proofs.Laws.{written, flatFrom, flatOf}
 
 -- three words a record
@@ -107,7 +107,7 @@ take-from (r ∷ rs) i f e l =
     moved : (i n : ℕ) → i + suc n ≡ (i + 1) + n
     moved i n = omega arith
 
-pub carries-flat : (rs : List Progress) (f : Flat) → f ≡ flatOf rs → Carries f (flatWords rs)
+pub carries-flat : (rs : List Progress) (f : Flat) → f ≡ flatOf rs → Flattens f (flatWords rs)
 carries-flat rs f e =
     rw e (record { counted = count-from rs 0 first ∙ sym (length-words rs); kept = all; room = length-from rs 0 first ∙ length-replicate {A = ℕ} 192 0 })
   where
@@ -142,7 +142,7 @@ copied-more words kept i h l few = record {
 }
 
 pub copied-all : (words kept : List ℕ) (i : ℕ) → Copied words kept i → length words ≤ i
-    → Carries (record { words = kept; count = length words }) words
+    → Flattens (record { words = kept; count = length words }) words
 copied-all words kept i h over = record { counted = refl; kept = λ _. all; room = h .room }
   where
     e : i ≡ length words
@@ -151,7 +151,7 @@ copied-all words kept i h over = record { counted = refl; kept = λ _. all; room
     all : take (length words) kept ≡ words
     all = ap (λ (k : ℕ). take k kept) (sym e) ∙ h .same ∙ take-all i words over
 
-pub carries-many : (words : List ℕ) (f : Flat) → f ≡ blank (length words) → 192 < length words → Carries f words
+pub carries-many : (words : List ℕ) (f : Flat) → f ≡ blank (length words) → 192 < length words → Flattens f words
 carries-many words f e many =
     rw e (record { counted = refl; kept = λ l. absurd (omega (arith, l, many)); room = length-replicate {A = ℕ} 192 0 })
 

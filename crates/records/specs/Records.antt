@@ -22,7 +22,7 @@ Injective = (rs ss : List Progress) → flatWords rs ≡ flatWords ss → rs ≡
 -- ---- the words of records as a call reads them: 192 at most, since a recipe has at most 64 processors
 
 -- f tells of the words l what a call reads of them: how many they are, and, unless they are too many for any recipe, the words
-pub record Carries (f : Flat) (l : List ℕ) : Type 0 where
+pub record Flattens (f : Flat) (l : List ℕ) : Type 0 where
   pub counted : f .count ≡ length l
   pub kept : length l ≤ 192 → take (length l) (f .words) ≡ l
   pub room : length (f .words) ≡ 192

@@ -4,7 +4,10 @@ ghost use Prim.Native.Nat.{_<_};
 ghost use lib.ListN.{length};
 ghost use lib.Dec.{eqb};
 ghost use Rattle.base.specs.Tests.{pick};
-ghost use Rattle.records.specs.Records.{flatWords, Carries, blank, withRecord, putAt, zeros, clearAll, recordIn, putAll};
+ghost use Rattle.records.specs.Records.{flatWords, Flattens, blank, withRecord, putAt, zeros, clearAll, recordIn, putAll};
+
+// Three words for each of at most 64 processors.
+pub const RECORD_WORDS: usize = 192;
 
 // A processor's record (document 01: board record): tiles finished, stage (0 gather, 1 calculate, 2 send), messages sent of the current tile.
 #[repr(C)]
@@ -17,7 +20,7 @@ pub struct Progress {
 // The words of records, three each, as a call reads them, and how many there are. A recipe has at most 64 processors, so of more than 192
 // words only their number is of use.
 pub struct Flat {
-    pub words: [u32; 192],
+    pub words: [u32; RECORD_WORDS],
     pub count: usize,
 }
 
@@ -25,7 +28,7 @@ fn empty(count: usize) -> Flat
     ensures { λ r. ⌜ r ≡ blank count ⌝ }
 {
     Flat {
-        words: [0; 192],
+        words: [0; RECORD_WORDS],
         count: count,
     }
 }
@@ -48,7 +51,7 @@ fn with_record(flat: Flat, i: usize, p: Progress) -> Flat
 
 // All records taken apart into their words.
 pub fn flatten(progress: &[Progress]) -> Flat
-    ensures { λ r. ⌜ Carries r (flatWords (now (progress .entry))) ⌝ }
+    ensures { λ r. ⌜ Flattens r (flatWords (now (progress .entry))) ⌝ }
 {
     let mut flat = empty(3 * progress.len());
     let mut i = 0;
@@ -61,13 +64,13 @@ pub fn flatten(progress: &[Progress]) -> Flat
 
 // The same of records that their caller keeps as words.
 pub fn flat_of(words: &[u32]) -> Flat
-    ensures { λ r. ⌜ Carries r (now (words .entry)) ⌝ }
+    ensures { λ r. ⌜ Flattens r (now (words .entry)) ⌝ }
 {
     let count = words.len();
-    if count > 192 {
+    if count > RECORD_WORDS {
         return empty(count);
     }
-    let mut kept = [0; 192];
+    let mut kept = [0; RECORD_WORDS];
     let mut i = 0;
     while i < count {
         kept[i] = words[i];

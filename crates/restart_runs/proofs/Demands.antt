@@ -18,10 +18,10 @@ use Rattle.machine.proofs.Fresh.{status-fresh}
 use Rattle.nest.specs.Reader.{nestOf}
 use Rattle.nest.proofs.Facts.{accepted}
 use Rattle.plan.proofs.ShapedSound.{sound}
-use Rattle.layout.specs.Sizes.{routeOf}
+use Rattle.layout.specs.RouteWords.{routeOf}
 use Rattle.recipe.specs.Routes.{linesFor}
 use Rattle.recipe.proofs.Laws.{reads-for, numbered-for}
-use Rattle.network.specs.Apart.{Areas, replaced, senderAt}
+use Rattle.network.specs.Apart.{AreasApart, replaced, senderAt}
 use Rattle.network.specs.Packets.{Network, networkOf, statusAt}
 use Rattle.network.proofs.Network.{zero-answer}
 use Rattle.engine.specs.Calls.{recipe, areas, areaLines, freshCall, collectCall}
@@ -48,7 +48,7 @@ fresh-clean bytes route ok source s h =
     (first-behind (linesFor (routeOf route) bytes) (areaLines (recipe bytes route) source s) (numbered-for (routeOf route) bytes) ok
     ∙ first-false 9 _ [] (not-true h) ∙ first-nil)
 
-module _ (bytes : List ℕ) (route : ℕ) (source : List ℕ) (sources : Sources) (lent : Areas) (bg : Begun bytes route source sources lent) where
+module _ (bytes : List ℕ) (route : ℕ) (source : List ℕ) (sources : Sources) (lent : AreasApart) (bg : Begun bytes route source sources lent) where
   abbrev p : Plan
   p = recipe bytes route
 

@@ -22,10 +22,10 @@ use Rattle.machine.proofs.Fresh.{inv-fresh}
 use Rattle.nest.specs.Reader.{nestOf}
 use Rattle.nest.proofs.Facts.{accepted}
 use Rattle.plan.proofs.ShapedSound.{sound}
-use Rattle.layout.specs.Sizes.{routeOf}
+use Rattle.layout.specs.RouteWords.{routeOf}
 use Rattle.recipe.specs.Routes.{linesFor}
 use Rattle.recipe.proofs.Laws.{reads-for}
-use Rattle.network.specs.Apart.{Areas, replaced, marked, received}
+use Rattle.network.specs.Apart.{AreasApart, replaced, marked, received}
 use Rattle.network.specs.Transport.{copied}
 use Rattle.network.specs.Packets.{Packet, Network, networkOf, packetAt}
 use Rattle.network.proofs.Letters.{words-fit}
@@ -45,7 +45,7 @@ use Rattle.restarts.proofs.Processes.{Several, arrival-asked, by-processes}
 use Rattle.restart_runs.specs.Processes.{callsProcess, startProcesses, BegunProcesses, ProcessDemands}
 use Rattle.restart_runs.proofs.Demands.{fresh-clean}
 
-module _ (bytes : List ℕ) (route : ℕ) (source : List ℕ) (role : Roles) (sources : Sources) (lent : Areas)
+module _ (bytes : List ℕ) (route : ℕ) (source : List ℕ) (role : Roles) (sources : Sources) (lent : AreasApart)
     (bg : BegunProcesses bytes route source role sources lent) where
   abbrev p : Plan
   p = recipe bytes route

@@ -10,9 +10,9 @@ use Rattle.base.specs.Tests.{pick}
 use Rattle.base.specs.Lists.{Bytes}
 use Rattle.base.specs.Numbers.{firstOf}
 use Rattle.machine.specs.Machine.{Answered, fresh}
-use Rattle.layout.specs.Sizes.{routeOf}
+use Rattle.layout.specs.RouteWords.{routeOf}
 use Rattle.recipe.specs.Routes.{linesFor}
-use Rattle.network.specs.Apart.{Areas, replaced}
+use Rattle.network.specs.Apart.{AreasApart, replaced}
 use Rattle.network.specs.Transport.{copied}
 use Rattle.network.specs.Packets.{Network, networkOf, packetAt}
 use Rattle.network.specs.Locality.{SameSource}
@@ -54,11 +54,11 @@ callsProcess bytes route sources role n (arrivalAt q k) =
     (record { number = firstOf (arrivalAtLines (recipe bytes route) role n q k); after = n })
 
 -- each process's first start, in the areas that it is lent
-abbrev pub startProcesses : List ℕ → ℕ → Sources → Areas → Network
+abbrev pub startProcesses : List ℕ → ℕ → Sources → AreasApart → Network
 startProcesses bytes route sources lent = networkOf (λ q. freshCall bytes route (sources q) (lent q) .after) []
 
 -- one recipe and one route for all; each process is a processor of it, its source has the words of that one's cells, and its first start gave 0
-pub record BegunProcesses (bytes : List ℕ) (route : ℕ) (source : List ℕ) (role : Roles) (sources : Sources) (lent : Areas) : Type 0 where
+pub record BegunProcesses (bytes : List ℕ) (route : ℕ) (source : List ℕ) (role : Roles) (sources : Sources) (lent : AreasApart) : Type 0 where
   pub small : Bytes bytes
   pub accepted : firstOf (linesFor (routeOf route) bytes) ≡ 0
   pub own : (q : ℕ) → SameSource (recipe bytes route) (role q) (sources q) source
@@ -68,6 +68,6 @@ pub record ProcessDemands : Type 0 where
   -- every accepted recipe can so begin, with any source of its length and whatever processors the processes are
   pub begins : (bytes : List ℕ) (route : ℕ) (source : List ℕ) (role : Roles) → Bytes bytes → firstOf (linesFor (routeOf route) bytes) ≡ 0
       → length source ≡ recipe bytes route .cells → BegunProcesses bytes route source role (λ q. source) (λ q. fresh (recipe bytes route))
-  pub by-processes : (bytes : List ℕ) (route : ℕ) (source : List ℕ) (role : Roles) (sources : Sources) (lent : Areas)
+  pub by-processes : (bytes : List ℕ) (route : ℕ) (source : List ℕ) (role : Roles) (sources : Sources) (lent : AreasApart)
       → BegunProcesses bytes route source role sources lent → (events : List ProcessEvent)
       → ByProcesses (callsProcess bytes route sources role) (startProcesses bytes route sources lent) events (recipe bytes route) source role

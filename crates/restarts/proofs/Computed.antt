@@ -3,7 +3,7 @@ use mathlib.Core.Path.{_≡_, refl}
 use Prim.Native.Nat.{ℕ, zero, suc, _+_}
 use mathlib.Core.List.{List, [], _∷_, _++_, map}
 use Rattle.base.specs.Tests.{_and_, _or_, not, pick, one, every, some, keep, those, tabulate}
-use Rattle.base.specs.Lists.{part, put, setAll, storeAll, allAt, unpack, pack, countIf}
+use Rattle.base.specs.Lists.{sublist, put, setAll, storeAll, allAt, unpack, pack, countIf}
 use Rattle.base.specs.Numbers.{firstOf}
 use Rattle.machine.specs.Plan.{offset}
 use Rattle.machine.specs.Machine.{setProgress, tilesLeft, fitRecord, fit, unpackAll, afterSends, carryOut, actionAt, waiting, turn, fresh, sweep}
@@ -32,20 +32,20 @@ after =
 
 numbers : answers (actLives line3 source3) (startNetwork line3) (before ++ after)
     ≡ 0 ∷ 0 ∷ 0 ∷ 0 ∷ 0 ∷ 0 ∷ 0 ∷ 0 ∷ 0 ∷ 14 ∷ 0 ∷ 0 ∷ 0 ∷ 12 ∷ 0 ∷ 0 ∷ 0 ∷ 0 ∷ 0 ∷ 0 ∷ 0 ∷ 0 ∷ 0 ∷ 0 ∷ 0 ∷ 0 ∷ 14 ∷ 14 ∷ 11 ∷ []
-unfolding line3 valueAt source3 those keep offset part put unpack unpackAll setAll storeAll pack allAt every some one countIf not pick _and_ _or_ firstOf
+unfolding line3 valueAt source3 those keep offset sublist put unpack unpackAll setAll storeAll pack allAt every some one countIf not pick _and_ _or_ firstOf
     setProgress tilesLeft fitRecord fit afterSends carryOut actionAt waiting turn fresh startApart replaced turnApart sentOff arrived stateAfter answersTo
     actNetwork turnNetwork post posted arrive actLives repost restart before after
 numbers = refl
 
 -- the turns, posts and arrivals that gave 0, of at most so many: processor 1 crashed one step before its end
 deeds : deedsOf (before ++ after) (answers (actLives line3 source3) (startNetwork line3) (before ++ after)) ≡ 21
-unfolding line3 valueAt source3 those keep offset part put unpack unpackAll setAll storeAll pack allAt every some one countIf not pick _and_ _or_ firstOf
+unfolding line3 valueAt source3 those keep offset sublist put unpack unpackAll setAll storeAll pack allAt every some one countIf not pick _and_ _or_ firstOf
     setProgress tilesLeft fitRecord fit afterSends carryOut actionAt waiting turn fresh startApart replaced turnApart sentOff arrived stateAfter answersTo
     actNetwork turnNetwork post posted arrive actLives repost restart before after deedsOf
 deeds = refl
 
 most : total line3 + mailed line3 + redoneOf line3 (before ++ after) (answers (actLives line3 source3) (startNetwork line3) (before ++ after)) ≡ 22
-unfolding line3 valueAt source3 those keep offset part put unpack unpackAll setAll storeAll pack allAt every some one countIf not pick _and_ _or_ firstOf
+unfolding line3 valueAt source3 those keep offset sublist put unpack unpackAll setAll storeAll pack allAt every some one countIf not pick _and_ _or_ firstOf
     setProgress tilesLeft fitRecord fit afterSends carryOut actionAt waiting turn fresh startApart replaced turnApart sentOff arrived stateAfter answersTo
     actNetwork turnNetwork post posted arrive actLives repost restart before after redoneOf workOf mailed programOver
 most = refl
@@ -53,20 +53,20 @@ most = refl
 -- the three packets say the same
 packets : lastLives line3 source3 (before ++ after) .packets
     ≡ record { message = 1; words = 3 ∷ [] } ∷ record { message = 1; words = 3 ∷ [] } ∷ record { message = 1; words = 3 ∷ [] } ∷ []
-unfolding line3 valueAt source3 those keep offset part put unpack unpackAll setAll storeAll pack allAt every some one countIf not pick _and_ _or_ firstOf
+unfolding line3 valueAt source3 those keep offset sublist put unpack unpackAll setAll storeAll pack allAt every some one countIf not pick _and_ _or_ firstOf
     setProgress tilesLeft fitRecord fit afterSends carryOut actionAt waiting turn fresh startApart replaced turnApart sentOff arrived stateAfter answersTo
     actNetwork turnNetwork post posted arrive actLives repost restart before after
 packets = refl
 
 -- collecting waits for the crashed processor, then gives the sweep
 early : collectApart line3 (lastLives line3 source3 before .areas) (7 ∷ 7 ∷ 7 ∷ []) .number ≡ 15
-unfolding line3 valueAt source3 those keep offset part put unpack unpackAll setAll storeAll pack allAt every some one countIf not pick _and_ _or_ firstOf
+unfolding line3 valueAt source3 those keep offset sublist put unpack unpackAll setAll storeAll pack allAt every some one countIf not pick _and_ _or_ firstOf
     setProgress tilesLeft fitRecord fit afterSends carryOut actionAt waiting turn fresh startApart replaced turnApart sentOff arrived stateAfter answersTo
     actNetwork turnNetwork post posted arrive actLives repost restart before after collectApart
 early = refl
 
 grid : collectApart line3 (lastLives line3 source3 (before ++ after) .areas) (7 ∷ 7 ∷ 7 ∷ []) .after ≡ 1 ∷ 3 ∷ 6 ∷ []
-unfolding line3 valueAt source3 those keep offset part put unpack unpackAll setAll storeAll pack allAt every some one countIf not pick _and_ _or_ firstOf
+unfolding line3 valueAt source3 those keep offset sublist put unpack unpackAll setAll storeAll pack allAt every some one countIf not pick _and_ _or_ firstOf
     setProgress tilesLeft fitRecord fit afterSends carryOut actionAt waiting turn fresh startApart replaced turnApart sentOff arrived stateAfter answersTo
     actNetwork turnNetwork post posted arrive actLives repost restart before after collectApart assembled tabulate
 grid = refl
@@ -94,7 +94,7 @@ crashes =
     map plain (arrivalOf 10 ∷ arrivalOf 11 ∷ arrivalOf 12 ∷ arrivalOf 13 ∷ ends 4 3) ++ map plain (tiles 4 0 0)
 
 all-end : collectApart rows (lastLives rows ones crashes .areas) [] .number ≡ 0
-unfolding rows ones total-of those keep offset part put unpack unpackAll setAll storeAll pack allAt every some one countIf not pick _and_ _or_ firstOf
+unfolding rows ones total-of those keep offset sublist put unpack unpackAll setAll storeAll pack allAt every some one countIf not pick _and_ _or_ firstOf
     setProgress tilesLeft fitRecord fit afterSends carryOut actionAt waiting turn fresh startApart replaced turnApart sentOff arrived stateAfter answersTo
     actNetwork turnNetwork post posted arrive actLives repost restart crashes collectApart tiles ends
 all-end = refl

@@ -3,7 +3,7 @@ use mathlib.Core.Path.{_≡_, refl}
 use Prim.Native.Nat.{ℕ, zero, suc}
 use mathlib.Core.List.{List, [], _∷_, _++_}
 use Rattle.base.specs.Tests.{_and_, _or_, not, pick, one, every, some, keep, those, tabulate}
-use Rattle.base.specs.Lists.{part, put, setAll, storeAll, allAt, unpack, pack, countIf}
+use Rattle.base.specs.Lists.{sublist, put, setAll, storeAll, allAt, unpack, pack, countIf}
 use Rattle.base.specs.Numbers.{firstOf}
 use Rattle.machine.specs.Plan.{offset}
 use Rattle.machine.specs.Machine.{setProgress, tilesLeft, fitRecord, fit, unpackAll, afterSends, carryOut, actionAt, waiting, turn, fresh}
@@ -31,7 +31,7 @@ both-run =
 
 numbers : answers (actProcess line3 source3 twins) (startNetwork line3) both-run
     ≡ 0 ∷ 0 ∷ 0 ∷ 0 ∷ 0 ∷ 0 ∷ 0 ∷ 0 ∷ 0 ∷ 0 ∷ 0 ∷ 0 ∷ 0 ∷ 0 ∷ 0 ∷ 0 ∷ 11 ∷ 0 ∷ 14 ∷ 0 ∷ 0 ∷ 0 ∷ 0 ∷ 0 ∷ []
-unfolding line3 valueAt source3 those keep offset part put unpack unpackAll setAll storeAll pack allAt every some one countIf not pick _and_ _or_ firstOf
+unfolding line3 valueAt source3 those keep offset sublist put unpack unpackAll setAll storeAll pack allAt every some one countIf not pick _and_ _or_ firstOf
     setProgress tilesLeft fitRecord fit afterSends carryOut actionAt waiting turn fresh startApart replaced stateAfter answersTo actProcess repostBy postedFrom twins
     whole both-run
 numbers = refl
@@ -39,7 +39,7 @@ numbers = refl
 -- all three packets say the same
 packets : last (actProcess line3 source3 twins) (startNetwork line3) both-run .packets
     ≡ record { message = 1; words = 3 ∷ [] } ∷ record { message = 1; words = 3 ∷ [] } ∷ record { message = 1; words = 3 ∷ [] } ∷ []
-unfolding line3 valueAt source3 those keep offset part put unpack unpackAll setAll storeAll pack allAt every some one countIf not pick _and_ _or_ firstOf
+unfolding line3 valueAt source3 those keep offset sublist put unpack unpackAll setAll storeAll pack allAt every some one countIf not pick _and_ _or_ firstOf
     setProgress tilesLeft fitRecord fit afterSends carryOut actionAt waiting turn fresh startApart replaced stateAfter answersTo actProcess repostBy postedFrom twins
     whole both-run
 packets = refl
@@ -54,13 +54,13 @@ from0 zero = 0
 from0 (suc b) = 1
 
 grid : collectApart line3 (areasOf (last (actProcess line3 source3 twins) (startNetwork line3) both-run) from2) (7 ∷ 7 ∷ 7 ∷ []) .after ≡ 1 ∷ 3 ∷ 6 ∷ []
-unfolding line3 valueAt source3 those keep offset part put unpack unpackAll setAll storeAll pack allAt every some one countIf not pick _and_ _or_ firstOf
+unfolding line3 valueAt source3 those keep offset sublist put unpack unpackAll setAll storeAll pack allAt every some one countIf not pick _and_ _or_ firstOf
     setProgress tilesLeft fitRecord fit afterSends carryOut actionAt waiting turn fresh startApart replaced stateAfter answersTo actProcess repostBy postedFrom twins
     whole both-run from2 collectApart assembled tabulate
 grid = refl
 
 early : collectApart line3 (areasOf (last (actProcess line3 source3 twins) (startNetwork line3) both-run) from0) (7 ∷ 7 ∷ 7 ∷ []) .number ≡ 15
-unfolding line3 valueAt source3 those keep offset part put unpack unpackAll setAll storeAll pack allAt every some one countIf not pick _and_ _or_ firstOf
+unfolding line3 valueAt source3 those keep offset sublist put unpack unpackAll setAll storeAll pack allAt every some one countIf not pick _and_ _or_ firstOf
     setProgress tilesLeft fitRecord fit afterSends carryOut actionAt waiting turn fresh startApart replaced stateAfter answersTo actProcess repostBy postedFrom twins
     whole both-run from0 collectApart assembled tabulate
 early = refl

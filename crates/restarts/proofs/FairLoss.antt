@@ -11,7 +11,7 @@ use Rattle.base.proofs.Tests.{some-at, none-some}
 use Rattle.machine.specs.Plan.{Plan, Sound, count}
 use Rattle.machine.specs.Machine.{Answered, tilesLeft, turn, collect}
 use Rattle.machine.proofs.RunLaws.{number-of, after-of, after-one}
-use Rattle.network.specs.Apart.{Areas, senderAt, takerAt, collectApart}
+use Rattle.network.specs.Apart.{AreasApart, senderAt, takerAt, collectApart}
 use Rattle.network.specs.Packets.{Network, statusAt, NetworkEvent, turnBy, postOf, arrivalOf, actNetwork}
 use Rattle.network.proofs.Theorem.{both-are}
 use Rattle.network.proofs.Network.{arrive-gives}
@@ -142,16 +142,16 @@ module _ (p : Plan) (so : Sound p) (source : List ℕ) (acts : Network → LifeE
       unfolding Fell Falls
       by-turn n c lo l z k h f (inl x) = (k, h, x)
       by-turn n c lo l z k h f (inr x) =
-          falls-by n k h x (turnBy c) (f (ap (λ (a : Areas). tilesLeft p (a c) c) x ∙ l))
+          falls-by n k h x (turnBy c) (f (ap (λ (a : AreasApart). tilesLeft p (a c) c) x ∙ l))
           (number-is p so source acts same (at k) (alive-at k) (plain (turnBy c)) ∙ turn-number p so source (at k) (alive-at k) c lo
-          ∙ ap (λ (a : Areas). turn p source (a c) c .number) x ∙ z)
+          ∙ ap (λ (a : AreasApart). turn p source (a c) c .number) x ∙ z)
 
       by-post : (n m : ℕ) → m < count p → statusAt (at n .areas) (senderAt p m) m ≡ 1
           → (k : ℕ) → n ≤ k → (statusAt (at k .areas) (senderAt p m) m ≡ 1 → es k ≡ plain (postOf m)) → Fell n k → Falls n
       unfolding Fell Falls
       by-post n m lo y k h f (inl x) = (k, h, x)
       by-post n m lo y k h f (inr x) =
-          let w : statusAt (at k .areas) (senderAt p m) m ≡ 1 = ap (λ (a : Areas). statusAt a (senderAt p m) m) x ∙ y in
+          let w : statusAt (at k .areas) (senderAt p m) m ≡ 1 = ap (λ (a : AreasApart). statusAt a (senderAt p m) m) x ∙ y in
           falls-by n k h x (postOf m) (f w)
           (number-is p so source acts same (at k) (alive-at k) (plain (postOf m)) ∙ post-number p so source (at k) (alive-at k) m lo w)
 
@@ -167,8 +167,8 @@ module _ (p : Plan) (so : Sound p) (source : List ℕ) (acts : Network → LifeE
       unfolding Fell Falls
       by-arrival n m two none k h f (inl x) = (k, h, x)
       by-arrival n m two none k h f (inr x) =
-          let u : statusAt (at k .areas) (senderAt p m) m ≡ statusAt (at n .areas) (senderAt p m) m = ap (λ (a : Areas). statusAt a (senderAt p m) m) x in
-          let w : statusAt (at k .areas) (takerAt p m) m ≡ 0 = ap (λ (a : Areas). statusAt a (takerAt p m) m) x ∙ none in
+          let u : statusAt (at k .areas) (senderAt p m) m ≡ statusAt (at n .areas) (senderAt p m) m = ap (λ (a : AreasApart). statusAt a (senderAt p m) m) x in
+          let w : statusAt (at k .areas) (takerAt p m) m ≡ 0 = ap (λ (a : AreasApart). statusAt a (takerAt p m) m) x ∙ none in
           let a : Arrives acts start es m k = f (omega arith, w) in
           falls-by n k h x (arrivalOf (a .packet)) (a .event) (arrival-number k m a w)
 

@@ -24,7 +24,7 @@ use Rattle.machine.proofs.Kept.{statusOf}
 use Rattle.machine.proofs.Events.{Refused}
 use Rattle.machine.proofs.Fresh.{status-fresh}
 use Rattle.machine.proofs.RunLaws.{number-of, after-of}
-use Rattle.network.specs.Apart.{Areas, startApart, replaced, senderAt, takerAt, turnApart, marked, received, sentOff, arrived}
+use Rattle.network.specs.Apart.{AreasApart, startApart, replaced, senderAt, takerAt, turnApart, marked, received, sentOff, arrived}
 use Rattle.network.specs.Packets.{Packet, Network, networkOf, packetAt, statusAt, NetworkEvent, turnBy, postOf, arrivalOf, posted, post, arrive, turnNetwork}
 use Rattle.network.specs.Packets.{actNetwork, startNetwork}
 use Rattle.network.proofs.Letters.{replaced-same, replaced-other}
@@ -436,7 +436,7 @@ module _ (p : Plan) (source : List ℕ) (n : Network) (b : ℕ) (over : tilesLef
       go (no q) = rw (arrive-some p n i q) over
 
 -- ---- an event that is refused changes nothing
-pub replaced-own : (a : Areas) (b : ℕ) → replaced a b (a b) ≡ a
+pub replaced-own : (a : AreasApart) (b : ℕ) → replaced a b (a b) ≡ a
 replaced-own a b = fun-ext (λ c. go c (ℕ-discrete c b))
   where
     go : (c : ℕ) → Dec (c ≡ b) → replaced a b (a b) c ≡ a c
@@ -446,7 +446,7 @@ replaced-own a b = fun-ext (λ c. go c (ℕ-discrete c b))
 module _ (p : Plan) (source : List ℕ) (n : Network) where
   turn-stays : (b : ℕ) → turnNetwork p source n b .number ≢ 0 → turnNetwork p source n b .after ≡ n
   unfolding turnNetwork
-  turn-stays b k = ap (λ (a : Areas). networkOf a (n .packets)) (go (decLt b (p .processors)))
+  turn-stays b k = ap (λ (a : AreasApart). networkOf a (n .packets)) (go (decLt b (p .processors)))
     where
       go : Dec (b < p .processors) → turnApart p source (n .areas) b .after ≡ n .areas
       go (yes h) =

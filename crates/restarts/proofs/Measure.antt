@@ -18,7 +18,7 @@ use Rattle.machine.specs.Runs.{total, programOver}
 use Rattle.machine.proofs.Progress.{prog, full}
 use Rattle.machine.proofs.Invariant.{Step, left, pending, left-turn, sender-low}
 use Rattle.machine.proofs.Kept.{statusOf}
-use Rattle.network.specs.Apart.{Areas, replaced, senderAt, takerAt}
+use Rattle.network.specs.Apart.{AreasApart, replaced, senderAt, takerAt}
 use Rattle.network.specs.Packets.{statusAt, mailed}
 use Rattle.network.proofs.Letters.{replaced-same, replaced-other}
 use Rattle.restarts.specs.Restarts.{workOf}
@@ -30,7 +30,7 @@ sender-at p so m lo = so .processor-low (senderOf p m) (sender-low p so m lo)
 pub taker-at : (p : Plan) → Sound p → (m : ℕ) → m < count p → takerAt p m < p .processors
 taker-at p so m lo = so .processor-low (takerOf p m) (so .taker-low m lo)
 
-module _ (p : Plan) (a : Areas) where
+module _ (p : Plan) (a : AreasApart) where
   -- how far each tile is by its own processor's record; each message's status at its sender's
   abbrev pub progHere : ℕ → ℕ
   progHere t = prog p (a (p .processorOf t)) t
@@ -89,7 +89,7 @@ module _ (p : Plan) where
       let z = program-length b n in
       omega arith
 
-module _ (p : Plan) (so : Sound p) (a : Areas) where
+module _ (p : Plan) (so : Sound p) (a : AreasApart) where
   awaited-most : (m : ℕ) → Dec (senderAt p m ≡ takerAt p m) → awaited p a m ≤ one (not (eqb (senderAt p m) (takerAt p m)))
   awaited-most m (yes e) = let x = pick-true _ 0 (pending (statusAt a (takerAt p m) m)) (eq-eqb _ _ e) in omega arith
   awaited-most m (no n) =
@@ -112,8 +112,8 @@ module _ (p : Plan) (so : Sound p) (a : Areas) where
       omega arith
 
 -- ---- one processor's areas replaced
-module _ (p : Plan) (a : Areas) (b : ℕ) (s : State) where
-  abbrev a′ : Areas
+module _ (p : Plan) (a : AreasApart) (b : ℕ) (s : State) where
+  abbrev a′ : AreasApart
   a′ = replaced a b s
 
   prog-here : (u : ℕ) → p .processorOf u ≡ b → progHere p a′ u ≡ prog p s u

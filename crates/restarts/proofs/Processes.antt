@@ -21,7 +21,7 @@ use Rattle.machine.proofs.Progress.{prog}
 use Rattle.machine.proofs.Kept.{swept, statusOf}
 use Rattle.machine.proofs.Events.{Refused}
 use Rattle.machine.proofs.RunLaws.{number-of, after-of}
-use Rattle.network.specs.Apart.{Areas, startApart, replaced, senderAt, takerAt, marked, received}
+use Rattle.network.specs.Apart.{AreasApart, startApart, replaced, senderAt, takerAt, marked, received}
 use Rattle.network.specs.Packets.{Packet, Network, networkOf, packetAt, statusAt, startNetwork}
 use Rattle.network.proofs.Letters.{replaced-same, replaced-other}
 use Rattle.network.proofs.Carry.{status-two, status-rest}
@@ -41,7 +41,7 @@ pub record Several (p : Plan) (source : List ℕ) (role : Roles) (n : Network) :
 
 -- ---- a processor by one process's areas, the others as at the start: what is left to do there
 module _ (p : Plan) (b : ℕ) where
-  abbrev alone : State → Areas
+  abbrev alone : State → AreasApart
   alone s = replaced (startApart p) b s
 
   abbrev leftBy : State → ℕ
@@ -174,7 +174,7 @@ module _ (p : Plan) (so : Sound p) (source : List ℕ) (role : Roles) (n : Netwo
   unfolding actProcess repostBy
   stays (startOf q) k = absurd (k refl)
   stays (turnFrom q) k =
-      ap (λ (a : Areas). networkOf a (n .packets))
+      ap (λ (a : AreasApart). networkOf a (n .packets))
       (ap (replaced (n .areas) q) (by-refusal p source (n .areas q) (role q) k) ∙ replaced-own (n .areas) q)
   stays (postFrom q m) k = after-of (some-answer _ _ n k)
   stays (repostFrom q m) k = after-of (some-answer _ _ n k)

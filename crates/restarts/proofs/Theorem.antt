@@ -21,7 +21,7 @@ use Rattle.machine.proofs.Values.{sweep-outside, table-is}
 use Rattle.machine.proofs.Progress.{prog, prog-is, prog-before, prog-now, work, work-two, full, Shape}
 use Rattle.machine.proofs.Kept.{swept}
 use Rattle.machine.proofs.RunLaws.{number-of, after-of}
-use Rattle.network.specs.Apart.{Areas, senderAt, takerAt, assembled, joined, collectApart}
+use Rattle.network.specs.Apart.{AreasApart, senderAt, takerAt, assembled, joined, collectApart}
 use Rattle.network.specs.Packets.{Packet, Network, networkOf, packetAt, statusAt, NetworkEvent, turnBy, postOf, arrivalOf, posted, turnNetwork}
 use Rattle.network.specs.Packets.{actNetwork, startNetwork, mailed}
 use Rattle.network.proofs.Together.{turn-here}
@@ -70,7 +70,7 @@ module _ (p : Plan) (source : List ℕ) (b : ℕ) (s : State) (li : Life p sourc
       one-deed (inr q) = prog-t 1 (omega arith) (inr (q .0, work-one (stageOf s b) (sentOf s b) (q .1)))
 
 -- ---- collecting
-module _ (p : Plan) (a : Areas) (grid : List ℕ) where
+module _ (p : Plan) (a : AreasApart) (grid : List ℕ) where
   pub finished-collects : Finished p a → collectApart p a grid .number ≡ 0
   unfolding collectApart
   finished-collects f = first-false 15 _ _ (some-none (λ b. tilesLeft p (a b) b) (p .processors) f) ∙ first-nil
@@ -101,7 +101,7 @@ module _ (p : Plan) (so : Sound p) (source : List ℕ) (b : ℕ) (s : State) (li
           let y = those-lt (p .processorOf) b (p .tiles) (p .tileOf c) lo e in
           rw e (omega arith))
 
-module _ (p : Plan) (so : Sound p) (source : List ℕ) (a : Areas) (each : (b : ℕ) → b < p .processors → Life p source b (a b)) where
+module _ (p : Plan) (so : Sound p) (source : List ℕ) (a : AreasApart) (each : (b : ℕ) → b < p .processors → Life p source b (a b)) where
   assembled-right : Finished p a → assembled p a ≡ sweep p source
   unfolding assembled pick
   assembled-right f =
@@ -122,7 +122,7 @@ module _ (p : Plan) (so : Sound p) (source : List ℕ) (n : Network) (al : Alive
   -- ---- what can be done, as events
   pub turn-number : (b : ℕ) → b < p .processors → actLives p source n (plain (turnBy b)) .number ≡ turn p source (n .areas b) b .number
   unfolding actLives actNetwork turnNetwork
-  turn-number b low = ap (λ (x : Answered Areas). x .number) (turn-here p source (n .areas) b low)
+  turn-number b low = ap (λ (x : Answered AreasApart). x .number) (turn-here p source (n .areas) b low)
 
   pub post-number : (m : ℕ) → m < count p → statusAt (n .areas) (senderAt p m) m ≡ 1 → actLives p source n (plain (postOf m)) .number ≡ 0
   unfolding actLives actNetwork

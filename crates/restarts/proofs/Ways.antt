@@ -15,19 +15,19 @@ use Rattle.machine.proofs.Turns.{Turned, turned}
 use Rattle.machine.proofs.Progress.{prog, full, Shape, here-low, here-is, here-prog}
 use Rattle.machine.proofs.Kept.{statusOf}
 use Rattle.machine.proofs.Least.{AllDone, Least, least, here-less, reach, is-t}
-use Rattle.network.specs.Apart.{Areas, senderAt, takerAt}
+use Rattle.network.specs.Apart.{AreasApart, senderAt, takerAt}
 use Rattle.network.specs.Packets.{statusAt}
 use Rattle.restarts.proofs.Life.{Life, life-fit}
 use Rattle.restarts.proofs.Measure.{sender-at, progHere, statusHere}
 
 -- what can be done: a turn, a post, or a message that its sender has posted since its last start and its taker has not received
-pub data Way (p : Plan) (source : List ℕ) (a : Areas) : Type 0 where
+pub data Way (p : Plan) (source : List ℕ) (a : AreasApart) : Type 0 where
   turns : (b : ℕ) → b < p .processors → tilesLeft p (a b) b ≡ true → turn p source (a b) b .number ≡ 0 → Way p source a
   posts : (m : ℕ) → m < count p → statusHere p a m ≡ 1 → Way p source a
   waits : (m : ℕ) → m < count p → senderAt p m ≢ takerAt p m → 2 ≤ statusHere p a m → statusAt a (takerAt p m) m ≡ 0
       → Way p source a
 
-module _ (p : Plan) (so : Sound p) (source : List ℕ) (a : Areas) (each : (b : ℕ) → b < p .processors → Life p source b (a b)) where
+module _ (p : Plan) (so : Sound p) (source : List ℕ) (a : AreasApart) (each : (b : ℕ) → b < p .processors → Life p source b (a b)) where
   shape-at : (b : ℕ) → b < p .processors → Shape p (a b)
   shape-at b low = each b low .held .shape
 

@@ -15,7 +15,7 @@ use Rattle.base.specs.Numbers.{Line, line, firstOf}
 use Rattle.machine.specs.Plan.{Plan, count, takerOf, heldBy, tilesOf}
 use Rattle.machine.specs.Machine.{State, memoryOf, placeOf, tilesLeft, Answered, answered, turn, fresh, sweep}
 use Rattle.machine.specs.Runs.{last, answers}
-use Rattle.network.specs.Apart.{Areas, replaced, senderAt, takerAt, marked, received, collectApart}
+use Rattle.network.specs.Apart.{AreasApart, replaced, senderAt, takerAt, marked, received, collectApart}
 use Rattle.network.specs.Packets.{Packet, Network, networkOf, packetAt, statusAt, startNetwork}
 use Rattle.restarts.specs.Restarts.{workOf, Gathered, Calculated, Finished}
 
@@ -96,7 +96,7 @@ abbrev pub Chooses : Plan → Roles → (ℕ → ℕ) → Type 0
 Chooses p role who = (b : ℕ) → b < p .processors → role (who b) ≡ b
 
 -- the areas of these processes, as those of the processors
-abbrev pub areasOf : Network → (ℕ → ℕ) → Areas
+abbrev pub areasOf : Network → (ℕ → ℕ) → AreasApart
 areasOf n who b = n .areas (who b)
 
 -- one of these can make a turn or post, or posts again what another of them then takes in

@@ -16,7 +16,7 @@ use Rattle.base.specs.Numbers.{Line, line, firstOf}
 use Rattle.machine.specs.Plan.{Plan, count, takerOf, heldBy, tilesOf}
 use Rattle.machine.specs.Machine.{State, finishedOf, stageOf, memoryOf, placeOf, tilesLeft, Answered, answered, collect, fresh, sweep}
 use Rattle.machine.specs.Runs.{total, program, last, answers}
-use Rattle.network.specs.Apart.{Areas, replaced, senderAt, takerAt, joined, collectApart}
+use Rattle.network.specs.Apart.{AreasApart, replaced, senderAt, takerAt, joined, collectApart}
 use Rattle.network.specs.Packets.{Network, networkOf, packetAt, statusAt, NetworkEvent, turnBy, postOf, arrivalOf, posted, actNetwork, startNetwork}
 use Rattle.network.specs.Packets.{lastNetwork, mailed}
 
@@ -80,7 +80,7 @@ abbrev pub Calculated : State → ℕ → ℕ → Type 0
 Calculated s b i = (i < finishedOf s b) ⊎ ((i ≡ finishedOf s b) × (2 ≤ stageOf s b))
 
 -- no processor has tiles left
-abbrev pub Finished : Plan → Areas → Type 0
+abbrev pub Finished : Plan → AreasApart → Type 0
 Finished p areas = (b : ℕ) → b < p .processors → tilesLeft p (areas b) b ≡ false
 
 -- ---- the claim, over every list of events, for `acts` on a network: the machine's, or any calls that answer alike

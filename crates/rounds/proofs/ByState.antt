@@ -22,7 +22,7 @@ use Rattle.machine.proofs.Turns.{next-zero, next-one, next-two, by-next}
 use Rattle.machine.proofs.Kept.{Inv}
 use Rattle.machine.proofs.RunLaws.{after-append}
 use Rattle.rounds.specs.Rounds.{couldGather, wholeTile, tilesBy, mailIn, roundBy, roundFrom, roundsFrom, rounds, afterRounds}
-use Rattle.rounds.specs.ByState.{sentTo, calculatedTile, tileDone, mayGather, afterTile, afterTiles, delivered, withMail, afterRound, Lent, Sending}
+use Rattle.rounds.specs.ByState.{sentTo, calculatedTile, tileDone, mayGather, afterTile, afterTiles, delivered, withMail, afterRound, PlanAreas, Sending}
 use Rattle.rounds.proofs.WholeTile.{Clean, whole}
 use Rattle.rounds.proofs.OneRound.{Still, Ready, could-ready, ready-could, Mid, tiles-run}
 use Rattle.rounds.proofs.AsItGoes.{tilesAsItGoes, as-it-goes}
@@ -222,7 +222,7 @@ module _ (p : Plan) (so : Sound p) (source : List ℕ) where
   unfolding roundsFrom stateAfter
   no-round = refl
 
-  pub lent-then : (r : ℕ) → Lent p (afterRounds p source r)
+  pub lent-then : (r : ℕ) → PlanAreas p (afterRounds p source r)
   lent-then r =
       let sh = at p so source r .late .still .inv .shape in
       record { memories = sh .memories; buffer = sh .buffer; progress = sh .progress; status = sh .status }

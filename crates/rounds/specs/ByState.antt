@@ -48,7 +48,7 @@ unfoldable pub afterRound : Plan → List ℕ → State → State
 afterRound p source s = withMail (afterTiles p source s (p .processors))
 
 -- each lent area but the source has exactly its length
-pub record Lent (p : Plan) (s : State) : Type 0 where
+pub record PlanAreas (p : Plan) (s : State) : Type 0 where
   pub memories : length (s .memories) ≡ p .processors * p .cells
   pub buffer : length (s .buffer) ≡ words p
   pub progress : length (s .progress) ≡ 3 * p .processors

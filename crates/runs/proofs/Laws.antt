@@ -12,7 +12,7 @@ use lib.ListN.{length, getD, take, drop, length-append}
 use lib.Seq.{take-add, drop-drop}
 use borrow.Author.Tests.{le-leb, lt-leb, lt-ltb, le-ltb}
 use Rattle.base.specs.Tests.{_or_, some, keepIf, tabulate}
-use Rattle.base.specs.Lists.{part, put, pack, unpack}
+use Rattle.base.specs.Lists.{sublist, put, pack, unpack}
 use Rattle.base.proofs.Tests.{and-true, and-false, and-no, or-left, or-right, or-false, length-tabulate}
 use Rattle.base.proofs.Lists.{part-length, length-put, pack-append, unpack-append, unpack-length}
 use Rattle.base.proofs.Copies.{part-row, put-row, take-put}
@@ -231,7 +231,7 @@ module _ (starts ends : List ℕ) (n c a w : ℕ) (memory words₀ : List ℕ) (
 
   module _ (words : List ℕ) (at count : ℕ) (p : Packing starts ends n c a w memory words₀ packed words at count) where
     pub packing-more : Room starts ends n c a w (length memory) (length words₀) packed → (end hits : ℕ) → PieceIs starts ends n at (a + w) end hits
-        → (words′ : List ℕ) → words′ ≡ put words count (part memory (c + (at - a)) hits)
+        → (words′ : List ℕ) → words′ ≡ put words count (sublist memory (c + (at - a)) hits)
         → Packing starts ends n c a w memory words₀ packed words′ end (count + hits)
     packing-more k end hits q words′ e =
         record {
@@ -256,7 +256,7 @@ module _ (starts ends : List ℕ) (n c a w : ℕ) (memory words₀ : List ℕ) (
         f = packs-fit starts ends n c a w _ _ packed k at count (p .from) (p .first .count-is) end hits q
 
         piece : List ℕ
-        piece = part memory (c + (at - a)) hits
+        piece = sublist memory (c + (at - a)) hits
 
         long : length piece ≡ hits
         long = part-length memory (c + (at - a)) hits (f .outer)
@@ -272,8 +272,8 @@ pub record Unpacking (starts ends : List ℕ) (n c a w : ℕ) (memory₀ words :
   pub to : at ≤ a + w
   pub first : Unpacked starts ends n c a (at - a) memory₀ words unpacked memory count
 
-part-add : (l : List ℕ) (i m k : ℕ) → part l i (m + k) ≡ part l i m ++ part l (i + m) k
-unfolding part
+part-add : (l : List ℕ) (i m k : ℕ) → sublist l i (m + k) ≡ sublist l i m ++ sublist l (i + m) k
+unfolding sublist
 part-add l i m k = take-add m k (drop i l) ∙ ap (λ (z : List ℕ). take m (drop i l) ++ take k z) (drop-drop m i l)
 
 module _ (starts ends : List ℕ) (n c a w : ℕ) (memory₀ words : List ℕ) (unpacked : ℕ) where
@@ -288,7 +288,7 @@ module _ (starts ends : List ℕ) (n c a w : ℕ) (memory₀ words : List ℕ) (
     unpacking-long = ap length (p .first .is) ∙ unpack-length (hitRow starts ends n c a (at - a)) _ memory₀
 
     pub unpacking-more : Room starts ends n c a w (length memory₀) (length words) unpacked → (end hits : ℕ) → PieceIs starts ends n at (a + w) end hits
-        → (memory′ : List ℕ) → memory′ ≡ put memory (c + (at - a)) (part words count hits)
+        → (memory′ : List ℕ) → memory′ ≡ put memory (c + (at - a)) (sublist words count hits)
         → Unpacking starts ends n c a w memory₀ words unpacked memory′ end (count + hits)
     unpacking-more k end hits q memory′ e =
         record {
@@ -298,14 +298,14 @@ module _ (starts ends : List ℕ) (n c a w : ℕ) (memory₀ words : List ℕ) (
             count-is = omega (arith, p .first .count-is, counted);
             is = e
                 ∙ put-row memory words (c + (at - a)) count hits (omega (arith, f .inner, unpacking-long)) (f .outer)
-                ∙ ap (λ (i : ℕ). unpack memory (cellsFrom (c + (at - a)) hits) (part words i hits)) (p .first .count-is)
-                ∙ ap (λ (l : List ℕ). unpack l (cellsFrom (c + (at - a)) hits) (part words (unpacked + length before) hits)) (p .first .is)
-                ∙ sym (unpack-append memory₀ before (cellsFrom (c + (at - a)) hits) (part words unpacked (length before))
-                (part words (unpacked + length before) hits)
+                ∙ ap (λ (i : ℕ). unpack memory (cellsFrom (c + (at - a)) hits) (sublist words i hits)) (p .first .count-is)
+                ∙ ap (λ (l : List ℕ). unpack l (cellsFrom (c + (at - a)) hits) (sublist words (unpacked + length before) hits)) (p .first .is)
+                ∙ sym (unpack-append memory₀ before (cellsFrom (c + (at - a)) hits) (sublist words unpacked (length before))
+                (sublist words (unpacked + length before) hits)
                 (part-length words unpacked (length before) (omega (arith, p .first .count-is, f .outer))))
                 ∙ ap (unpack memory₀ (before ++ cellsFrom (c + (at - a)) hits)) (sym (part-add words unpacked (length before) hits))
-                ∙ ap (λ (i : ℕ). unpack memory₀ (before ++ cellsFrom (c + (at - a)) hits) (part words unpacked i)) counted
-                ∙ ap (λ (l : List ℕ). unpack memory₀ l (part words unpacked (length (hitRow starts ends n c a (end - a)))))
+                ∙ ap (λ (i : ℕ). unpack memory₀ (before ++ cellsFrom (c + (at - a)) hits) (sublist words unpacked i)) counted
+                ∙ ap (λ (l : List ℕ). unpack memory₀ l (sublist words unpacked (length (hitRow starts ends n c a (end - a)))))
                 (sym (hit-piece starts ends n c a (a + w) at end hits (p .from) q));
           };
         }

@@ -9,7 +9,7 @@ use mathlib.Core.List.{List, [], _++_}
 use lib.ListN.{length, getD, take}
 use lib.Dec.{ltb, leb}
 use Rattle.base.specs.Tests.{_and_, some, keepIf, tabulate}
-use Rattle.base.specs.Lists.{part, pack, unpack}
+use Rattle.base.specs.Lists.{sublist, pack, unpack}
 
 -- a number from `low` on, below `high`
 abbrev pub within : ℕ → ℕ → ℕ → Bool
@@ -72,4 +72,4 @@ pub record Packed (starts ends : List ℕ) (n c a w : ℕ) (memory words₀ : Li
 -- each of these words at its cell
 pub record Unpacked (starts ends : List ℕ) (n c a w : ℕ) (memory₀ words : List ℕ) (unpacked : ℕ) (memory : List ℕ) (count : ℕ) : Type 0 where
   pub count-is : count ≡ unpacked + length (hitRow starts ends n c a w)
-  pub is : memory ≡ unpack memory₀ (hitRow starts ends n c a w) (part words unpacked (length (hitRow starts ends n c a w)))
+  pub is : memory ≡ unpack memory₀ (hitRow starts ends n c a w) (sublist words unpacked (length (hitRow starts ends n c a w)))

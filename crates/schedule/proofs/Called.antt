@@ -12,7 +12,7 @@ use Rattle.machine.specs.Plan.{Plan, Sound}
 use Rattle.machine.specs.Machine.{State, answered, collect, fresh}
 use Rattle.machine.specs.Runs.{act}
 use Rattle.machine.proofs.RunLaws.{number-of, after-of}
-use Rattle.layout.specs.Sizes.{routeOf}
+use Rattle.layout.specs.RouteWords.{routeOf}
 use Rattle.recipe.specs.Routes.{linesFor}
 use Rattle.rounds.specs.Rounds.{Told, told, drive, rounds, afterRounds, RoundsHold}
 use Rattle.rounds.proofs.Theorem.{theorem213}

@@ -12,7 +12,7 @@ use Rattle.machine.specs.Machine.{State}
 use Rattle.nest.specs.Reader.{nestOf}
 use Rattle.nest.proofs.Facts.{accepted}
 use Rattle.plan.proofs.ShapedSound.{sound}
-use Rattle.layout.specs.Sizes.{routeOf}
+use Rattle.layout.specs.RouteWords.{routeOf}
 use Rattle.recipe.specs.Routes.{linesFor}
 use Rattle.recipe.proofs.Laws.{reads-for}
 use Rattle.rounds.specs.Rounds.{told, drive, rounds, roundsTo, tileRound, RoundsHold}

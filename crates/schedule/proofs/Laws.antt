@@ -13,7 +13,7 @@ use lib.Dec.{ltb, eqb}
 use borrow.Author.Tests.{eq-eqb, ne-eqb, lt-ltb, le-ltb}
 use borrow.Rule.Slice.PartMut.{putMid}
 use Rattle.base.specs.Tests.{keep, some}
-use Rattle.base.specs.Lists.{part, put, pack, unpack, setAll, allAt}
+use Rattle.base.specs.Lists.{sublist, put, pack, unpack, setAll, allAt}
 use Rattle.base.proofs.Tests.{and-true, and-left, and-false, and-no, pick-true, pick-false, some-same}
 use Rattle.base.proofs.Lists.{piece-fits}
 use Rattle.base.proofs.Select.{keep-hit, keep-none, rankIn}
@@ -28,12 +28,12 @@ use Rattle.plan.specs.declared.Route.the-variants.{Direct, Indirect}
 use Rattle.plan.specs.Shaped.{planOf}
 use Rattle.layout.specs.declared.Sizes.{Sizes}
 use Rattle.layout.specs.Sizes.{Sized}
-use Rattle.tables.specs.declared.scans.Place.{Place}
+use Rattle.tables.specs.declared.scans.MessageSlot.{MessageSlot}
 use Rattle.tables.specs.Tables.{FoundIn}
 use Rattle.stages.specs.Progress.{progressOnly}
 use Rattle.stages.proofs.Parts as parts
 use Rattle.engine.proofs.Lines.{area-low}
-use Rattle.rounds.specs.ByState.{Lent, tileDone, mayGather, afterTile, afterTiles, delivered, afterRound}
+use Rattle.rounds.specs.ByState.{PlanAreas, tileDone, mayGather, afterTile, afterTiles, delivered, afterRound}
 use Rattle.rounds.specs.Rounds.{rounds, afterRounds}
 use Rattle.rounds.proofs.ByState.{next-round, no-round, lent-then, left-then, over-then}
 use Rattle.rounds.proofs.Theorem.{theorem213}
@@ -42,8 +42,8 @@ use Rattle.schedule.proofs.Chains.{walk-low, walk-over, walk-at, walk-n
 use Rattle.schedule.proofs.Whole.{setAll-append, done-is}
 
 -- areas of the lengths that others have are lent as they are
-pub lent-too : (p : Plan) (s x : State) → Lent p s → length (x .memories) ≡ length (s .memories) → length (x .buffer) ≡ length (s .buffer)
-    → length (x .progress) ≡ length (s .progress) → length (x .status) ≡ length (s .status) → Lent p x
+pub lent-too : (p : Plan) (s x : State) → PlanAreas p s → length (x .memories) ≡ length (s .memories) → length (x .buffer) ≡ length (s .buffer)
+    → length (x .progress) ≡ length (s .progress) → length (x .status) ≡ length (s .status) → PlanAreas p x
 lent-too p s x l a b c d =
     record { memories = a ∙ l .memories; buffer = b ∙ l .buffer; progress = c ∙ l .progress; status = d ∙ l .status }
 
@@ -110,7 +110,7 @@ module _ (r : Route) (x : Nest) (t : ℕ) (buffer memory₀ status₀ : List ℕ
   gather-start m e = record { j = 0; spot = e; gathering = parts.gather-start r x t buffer memory₀ status₀ (length (duesOf q t)) refl }
 
   module _ (memory status : List ℕ) (m : ℕ) (g : GatherLoop r x t buffer memory₀ status₀ memory status m) where
-    pub gather-next : m < count (planOf r x) → (place : Place) → FoundIn r x m place → (memory′ : List ℕ) → length memory′ ≡ length memory
+    pub gather-next : m < count (planOf r x) → (place : MessageSlot) → FoundIn r x m place → (memory′ : List ℕ) → length memory′ ≡ length memory
         → memory′ ≡ unpack memory (heldBy (planOf r x) (place .number)) (placeOf (planOf r x) buffer (place .number))
         → (v : ℕ) → v ≡ getD (duesOf (planOf r x) t) (suc (rankIn (takerOf (planOf r x)) m)) (count (planOf r x))
         → GatherLoop r x t buffer memory₀ status₀ memory′ (set status m 3) v
@@ -195,7 +195,7 @@ module _ (p : Plan) (source : List ℕ) (s : State) (b : ℕ) where
         ∙ sym (pick-true _ _ _ (and-true (lt-ltb (finishedOf s b) (length (tilesOf p b)) h) (rw e at k)))
 
 -- the tile's code leaves what the tile does; k is the number of cells
-pub tile-now : (r : Route) (x : Nest) (source : List ℕ) (s : State) (b t f k : ℕ) → k ≡ cells x → Lent (planOf r x) s → b < planOf r x .processors
+pub tile-now : (r : Route) (x : Nest) (source : List ℕ) (s : State) (b t f k : ℕ) → k ≡ cells x → PlanAreas (planOf r x) s → b < planOf r x .processors
     → f ≡ finishedOf s b → (ys bs l st : List ℕ) → b * k + k ≤ length (s .memories)
     → length ys ≡ length (take (b * k + k - b * k) (drop (b * k) (s .memories)))
     → ys ≡ memoryThen (planOf r x) source (s .buffer) (take (b * k + k - b * k) (drop (b * k) (s .memories))) t
@@ -204,18 +204,19 @@ pub tile-now : (r : Route) (x : Nest) (source : List ℕ) (s : State) (b t f k :
     → stateOf (putMid (b * k) (b * k + k - b * k) (s .memories) ys) bs l st ≡ tileDone (planOf r x) source s b t
 tile-now r x source s b t f k e lent low fin ys bs l st h q y u v w =
     let p = planOf r x in
-    let own : ys ≡ memoryThen (planOf r x) source (s .buffer) (part (s .memories) (b * cells x) (cells x)) t =
+    let own : ys ≡ memoryThen (planOf r x) source (s .buffer) (sublist (s .memories) (b * cells x) (cells x)) t =
     y ∙ ap (λ (z : List ℕ). memoryThen (planOf r x) source (s .buffer) z t) (parts.mid-is (s .memories) (b * k) k)
-    ∙ ap (λ (i : ℕ). memoryThen (planOf r x) source (s .buffer) (part (s .memories) (b * i) i) t) e in
+    ∙ ap (λ (i : ℕ). memoryThen (planOf r x) source (s .buffer) (sublist (s .memories) (b * i) i) t) e in
     ap (λ (z : List ℕ). stateOf z bs l st) (parts.piece-back (s .memories) ys (λ z. memoryThen (planOf r x) source (s .buffer) z t) b k (cells x) e h q y)
     ∙ ap (λ (z : List ℕ). stateOf (put (s .memories) (b * cells x) (memoryThen (planOf r x) source (s .buffer)
-    (part (s .memories) (b * cells x) (cells x)) t)) z l st)
+    (sublist (s .memories) (b * cells x) (cells x)) t)) z l st)
     (u ∙ ap (λ (z : List ℕ). putAll (planOf r x) z (s .buffer) (sendsOf (planOf r x) t)) own)
-    ∙ ap (λ (z : List ℕ). stateOf (put (s .memories) (b * cells x) (memoryThen (planOf r x) source (s .buffer) (part (s .memories) (b * cells x) (cells x)) t))
-    (putAll (planOf r x) (memoryThen (planOf r x) source (s .buffer) (part (s .memories) (b * cells x) (cells x)) t) (s .buffer)
+    ∙ ap (λ (z : List ℕ). stateOf (put (s .memories) (b * cells x) (memoryThen (planOf r x) source (s .buffer) (sublist (s .memories) (b * cells x) (cells x))
+    t))
+    (putAll (planOf r x) (memoryThen (planOf r x) source (s .buffer) (sublist (s .memories) (b * cells x) (cells x)) t) (s .buffer)
     (sendsOf (planOf r x) t)) z st) v
-    ∙ ap (stateOf (put (s .memories) (b * cells x) (memoryThen (planOf r x) source (s .buffer) (part (s .memories) (b * cells x) (cells x)) t))
-    (putAll (planOf r x) (memoryThen (planOf r x) source (s .buffer) (part (s .memories) (b * cells x) (cells x)) t) (s .buffer) (sendsOf (planOf r x) t))
+    ∙ ap (stateOf (put (s .memories) (b * cells x) (memoryThen (planOf r x) source (s .buffer) (sublist (s .memories) (b * cells x) (cells x)) t))
+    (putAll (planOf r x) (memoryThen (planOf r x) source (s .buffer) (sublist (s .memories) (b * cells x) (cells x)) t) (s .buffer) (sendsOf (planOf r x) t))
     (setProgress (s .progress) b (f + 1) 0 0)) w
     ∙ sym (done-is (planOf r x) source s b t f lent low fin)
 
@@ -234,7 +235,7 @@ module _ (p : Plan) (source : List ℕ) (s : State) where
   tiles-start n = record { low = omega arith; memories = refl; buffer = refl; progress = refl; status = refl; state = refl }
 
   module _ (x : State) (n b : ℕ) (i : TilesLoop p source s x n b) where
-    pub tiles-lent : Lent p s → Lent p x
+    pub tiles-lent : PlanAreas p s → PlanAreas p x
     tiles-lent l = lent-too p s x l (i .memories) (i .buffer) (i .progress) (i .status)
 
     pub tiles-next : b < n → (y : State) → length (y .memories) ≡ length (x .memories) → length (y .buffer) ≡ length (x .buffer)
@@ -330,7 +331,7 @@ pub record RoundsLoop (p : Plan) (source : List ℕ) (s x : State) (r : ℕ) : T
   pub state : x ≡ afterRounds p source r
 
 module _ (p : Plan) (so : Sound p) (source : List ℕ) (s : State) where
-  lent-by : (x y : State) → x ≡ y → Lent p y → Lent p x
+  lent-by : (x y : State) → x ≡ y → PlanAreas p y → PlanAreas p x
   lent-by x y e l = rw e l
 
   pub rounds-start : s ≡ fresh p → RoundsLoop p source s s 0
@@ -341,7 +342,7 @@ module _ (p : Plan) (so : Sound p) (source : List ℕ) (s : State) where
   rounds-few = theorem213 p so source .few
 
   module _ (x : State) (r : ℕ) (i : RoundsLoop p source s x r) where
-    pub rounds-lent : Lent p x
+    pub rounds-lent : PlanAreas p x
     rounds-lent = lent-by x (afterRounds p source r) (i .state) (lent-then p so source r)
 
     left-in : (y : State) → x ≡ y → some (tilesLeft p (progressOnly (x .progress))) (p .processors) ≡ some (tilesLeft p y) (p .processors)

@@ -5,4 +5,4 @@ pub mod Laws
 pub mod Called
 pub mod Telling
 pub mod Demands
-pub mod Rows
+pub mod Examples

@@ -22,7 +22,7 @@ use Rattle.plan.proofs.ShapedSound.{sound}
 use Rattle.layout.specs.declared.Sizes.{Sizes}
 use Rattle.layout.specs.Sizes.{Sized, Stepped, endAt}
 use Rattle.layout.proofs.Steps.{ways-few}
-use Rattle.tables.specs.declared.scans.Place.{Place}
+use Rattle.tables.specs.declared.scans.MessageSlot.{MessageSlot}
 use Rattle.tables.specs.scans.Scans.{Sheet, Lengths, Summing, Found}
 use Rattle.tables.proofs.scans.Laws as scans
 use Rattle.tables.specs.boxes.Table.{endOf}
@@ -146,7 +146,7 @@ module _ (x : Nest) (z : Sizes) (sized : Sized x z) (lens : List ℕ) (table : T
     lengths-box : Lengths (slotMessage r x) (k * z .ways) lens
     lengths-box = record { each = λ s h. table .box e .each s (omega (arith, slots-box)) }
 
-    found-box : (m : ℕ) (p : Place) → Found (slotMessage r x) (k * z .ways) m p → FoundIn r x m p
+    found-box : (m : ℕ) (p : MessageSlot) → Found (slotMessage r x) (k * z .ways) m p → FoundIn r x m p
     unfolding messagesTo
     found-box m p f =
         let g : Found (slotMessage r x) (slots r x) m p = subst (λ (n : ℕ). Found (slotMessage r x) n m p) slots-box f in
@@ -186,7 +186,7 @@ module _ (x : Nest) (z : Sizes) (sized : Sized x z) (lens : List ℕ) (table : T
     count-shape =
         ap (λ (n : ℕ). length (messagesOf (shapedMessage x) n)) slots-shape ∙ ap (λ (q : Route). count (planOf q x)) (sym direct)
 
-    found-shape : (m : ℕ) (p : Place) → m < count (planOf r x)
+    found-shape : (m : ℕ) (p : MessageSlot) → m < count (planOf r x)
         → ((f : ℕ → Message) → Lengths f (k * z .ways) lens → m < length (messagesOf f (k * z .ways)) → Found f (k * z .ways) m p) → FoundIn r x m p
     found-shape m p = tables.shape-nth x ok r e direct k (z .ways) tiles-shape (sized .ways) lens (table .shape e) m p
 
@@ -238,7 +238,7 @@ tiles-few x z lens sized table = go (ℕ-discrete (x .bounds) 0)
         let c : tiles x ≡ planOf (z .route) x .tiles = tables.shape-count x (sized .accepted) (z .route) e (table .routed e) (tiles x) refl in
         omega (arith, sized .accepted .tiles-most)
 
-module _ (x : Nest) (z : Sizes) (sized : Sized x z) (lens : List ℕ) (table : Tabled x z lens) (p : Place) (f : FoundIn (z .route) x (p .number) p) where
+module _ (x : Nest) (z : Sizes) (sized : Sized x z) (lens : List ℕ) (table : Tabled x z lens) (p : MessageSlot) (f : FoundIn (z .route) x (p .number) p) where
   pub end-low : (side : ℕ) → endOf side (planOf (z .route) x) (p .number) < 1024
   end-low zero =
       let so = sound (z .route) x (sized .accepted) in

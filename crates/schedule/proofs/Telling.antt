@@ -30,8 +30,8 @@ use Rattle.plan.specs.Messages.{ways}
 use Rattle.plan.specs.Shaped.{planOf, boxTile}
 use Rattle.plan.proofs.ShapedBox.{planOf-box}
 use Rattle.recipe.proofs.Laws.{reads-for}
-use Rattle.layout.specs.Sizes.{routeOf}
-use Rattle.tables.specs.declared.scans.Place.{Place}
+use Rattle.layout.specs.RouteWords.{routeOf}
+use Rattle.tables.specs.declared.scans.MessageSlot.{MessageSlot}
 use Rattle.tables.specs.Tables.{FoundIn}
 use Rattle.rounds.specs.Rounds.{larger, greatest, lastOf, waitsFor, roundsTo, tileRound}
 use Rattle.rounds.proofs.Lists.{larger-is, larger-most, larger-join, larger-zero, greatest-append, last-append, map-append, map-map}
@@ -57,7 +57,7 @@ module _ (x : Nest) (ok : Accepted x) (r : Route) (t : ℕ) where
   shape-owner e b k = k ∙ ap (λ (q : Route). planOf q x .processorOf t) (sym e)
 
 -- ---- sender_at
-module _ (x : Nest) (r : Route) (p : Place) (f : FoundIn r x (p .number) p) (w : ℕ) (is : w ≡ ways r x) where
+module _ (x : Nest) (r : Route) (p : MessageSlot) (f : FoundIn r x (p .number) p) (w : ℕ) (is : w ≡ ways r x) where
   some-slot : (n q : ℕ) → q < n * w → 0 < w
   some-slot n q h = go (ℕ-discrete w 0)
     where
@@ -79,7 +79,7 @@ module _ (x : Nest) (r : Route) (p : Place) (f : FoundIn r x (p .number) p) (w :
       go (yes e) = ap (λ (k : ℕ). p .slot / k) is ∙ sym (ap (λ (m : Message). m .sender) (f .box e .1))
       go (no e) = ap (λ (k : ℕ). p .slot / k) (is ∙ ap (λ (q : Route). ways q x) (routed e)) ∙ sym (ap (λ (m : Message). m .sender) (f .shape e .1))
 
-pub found-self : (r : Route) (x : Nest) (m : ℕ) (p : Place) → FoundIn r x m p → FoundIn r x (p .number) p
+pub found-self : (r : Route) (x : Nest) (m : ℕ) (p : MessageSlot) → FoundIn r x m p → FoundIn r x (p .number) p
 found-self r x m p f = subst (λ (k : ℕ). FoundIn r x k p) (sym (f .number)) f
 
 -- ---- round_at: the latest round so far

@@ -8,7 +8,7 @@ use lib.Seq.{take-suc, take-length, take-at, drop-at, set-set, set-comm}
 use lib.Dec.{ltb}
 use borrow.Author.Tests.{lt-ltb, le-ltb}
 use Rattle.base.specs.Tests.{pick}
-use Rattle.base.specs.Lists.{part, put, setAll, storeAll, pack}
+use Rattle.base.specs.Lists.{sublist, put, setAll, storeAll, pack}
 use Rattle.base.proofs.Tests.{pick-true, pick-false}
 use Rattle.base.proofs.Lists.{part-length, part-put-same, store-length, piece-fits}
 use Rattle.base.proofs.Select.{at-is}
@@ -16,7 +16,7 @@ use Rattle.machine.specs.Plan.{Plan, count, offset, heldBy, senderOf, sendsOf, 
 use Rattle.machine.specs.Machine.{State, stateOf, memoryOf, finishedOf, sentOf, setProgress, unpackAll, gather, send, afterSends, carryOut}
 use Rattle.machine.proofs.Records.{finished-same, sent-same}
 use Rattle.machine.proofs.Values.{gathered-length}
-use Rattle.rounds.specs.ByState.{Lent, sentTo, calculatedTile, tileDone}
+use Rattle.rounds.specs.ByState.{PlanAreas, sentTo, calculatedTile, tileDone}
 use Rattle.schedule.specs.Given.{putAll, memoryThen, statusThen}
 
 -- ---- lists
@@ -56,7 +56,7 @@ setAll-append l [] b v = refl
 setAll-append l (x ∷ a) b v = setAll-append (set l x v) a b v
 
 -- ---- tile t of processor b, which has finished f
-module _ (p : Plan) (source : List ℕ) (s : State) (b t f : ℕ) (lent : Lent p s) (low : b < p .processors) (finished : f ≡ finishedOf s b) where
+module _ (p : Plan) (source : List ℕ) (s : State) (b t f : ℕ) (lent : PlanAreas p s) (low : b < p .processors) (finished : f ≡ finishedOf s b) where
   abbrev a : ℕ
   a = b * p .cells
 
@@ -85,8 +85,8 @@ module _ (p : Plan) (source : List ℕ) (s : State) (b t f : ℕ) (lent : Lent p
   made-long = store-length (p .value source) (p .cellsOf t) gathered ∙ gathered-long
 
   -- the memory that was put back
-  part-back : (m : List ℕ) → length m ≡ p .cells → part (put (s .memories) a m) a (p .cells) ≡ m
-  part-back m e = ap (λ (k : ℕ). part (put (s .memories) a m) a k) (sym e) ∙ part-put-same (s .memories) a m (rw e room)
+  part-back : (m : List ℕ) → length m ≡ p .cells → sublist (put (s .memories) a m) a (p .cells) ≡ m
+  part-back m e = ap (λ (k : ℕ). sublist (put (s .memories) a m) a k) (sym e) ∙ part-put-same (s .memories) a m (rw e room)
 
   -- the processor's record after j sends
   unfoldable recordAt : ℕ → List ℕ
@@ -110,11 +110,11 @@ module _ (p : Plan) (source : List ℕ) (s : State) (b t f : ℕ) (lent : Lent p
   calculated-is : calculatedTile p source s b t ≡ at 0
   unfolding carryOut putAll setAll
   calculated-is =
-      let g : part (put (s .memories) a gathered) a (p .cells) ≡ gathered = part-back gathered gathered-long in
+      let g : sublist (put (s .memories) a gathered) a (p .cells) ≡ gathered = part-back gathered gathered-long in
       let r : afterSends p (carryOut p [] s b (gather t)) b t 0 ≡ recordAt 0 =
       next-record (carryOut p [] s b (gather t)) (finishedOf s b) 1 0 0 refl (sym finished) t refl in
       ap (λ (l : List ℕ). stateOf (put (put (s .memories) a gathered) a
-      (storeAll (p .value source) (part (put (s .memories) a gathered) a (p .cells)) (p .cellsOf t)))
+      (storeAll (p .value source) (sublist (put (s .memories) a gathered) a (p .cells)) (p .cellsOf t)))
       (s .buffer) l (setAll (s .status) (duesOf p t) 3)) r
       ∙ ap (λ (m : List ℕ). stateOf (put (put (s .memories) a gathered) a (storeAll (p .value source) m (p .cellsOf t))) (s .buffer) (recordAt 0)
       (setAll (s .status) (duesOf p t) 3)) g
@@ -132,10 +132,10 @@ module _ (p : Plan) (source : List ℕ) (s : State) (b t f : ℕ) (lent : Lent p
       ap (afterSends p (at j) b (senderOf p (getD sends j 0))) q
       ∙ next-record (at j) f 2 j (suc j) e refl (senderOf p (getD sends j 0)) (at-is (senderOf p) t (count p) j h) in
       let k : take (suc j) sends ≡ take j sends ++ (getD sends j 0 ∷ []) = take-suc sends j 0 h in
-      let d : part (put (s .memories) a made) a (p .cells) ≡ made = part-back made made-long in
+      let d : sublist (put (s .memories) a made) a (p .cells) ≡ made = part-back made made-long in
       ap (λ (l : List ℕ). stateOf (put (s .memories) a made)
       (put (putAll p made (s .buffer) (take j sends)) (offset (p .messages) (getD sends j 0))
-      (pack (part (put (s .memories) a made) a (p .cells)) (heldBy p (getD sends j 0)))) l
+      (pack (sublist (put (s .memories) a made) a (p .cells)) (heldBy p (getD sends j 0)))) l
       (set (setAll (setAll (s .status) (duesOf p t) 3) (take j sends) 1) (getD sends j 0) 1)) r
       ∙ ap (λ (y : List ℕ). stateOf (put (s .memories) a made)
       (put (putAll p made (s .buffer) (take j sends)) (offset (p .messages) (getD sends j 0)) (pack y (heldBy p (getD sends j 0)))) (recordAt (suc j))

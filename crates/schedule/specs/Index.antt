@@ -10,11 +10,11 @@ use Rattle.machine.specs.Plan.{count}
 use Rattle.nest.specs.declared.Nest.{Nest}
 use Rattle.plan.specs.declared.Route.{Route}
 use Rattle.plan.specs.Shaped.{planOf}
-use Rattle.tables.specs.declared.scans.Place.{Place}
+use Rattle.tables.specs.declared.scans.MessageSlot.{MessageSlot}
 use Rattle.tables.specs.Tables.{FoundIn}
 
 -- where message m is by the list: its slot is at m, its offset 7168 further
-abbrev pub spotOf : List ℕ → List ℕ → ℕ → Place
+abbrev pub spotOf : List ℕ → List ℕ → ℕ → MessageSlot
 spotOf lens spots m = record { slot = getD spots m 0; number = m; offset = getD spots (7168 + m) 0; words = getD lens (getD spots m 0) 0 }
 
 pub record Listed (r : Route) (x : Nest) (lens spots : List ℕ) : Type 0 where

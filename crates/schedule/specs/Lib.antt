@@ -2,4 +2,4 @@ pub mod Given
 pub mod Index
 pub mod Calls
 pub mod Demands
-pub mod Rows
+pub mod Examples

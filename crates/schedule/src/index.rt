@@ -13,15 +13,19 @@ ghost use Rattle.tables.specs.scans.Scans.{Sheet, Lengths, Found};
 ghost use Rattle.tables.specs.boxes.Table.{endOf, atEnd};
 ghost use Rattle.tables.specs.Tables.{FoundIn, Planned};
 ghost use Rattle.schedule.specs.Index.{spotOf, Listed, Chained};
+use crate::CHAIN_WORDS;
+use crate::SPOT_WORDS;
 use base::half_index;
 use base::word_index;
 use layout::Sizes;
+use nest::MOST_MESSAGES;
 use nest::Nest;
-use tables::scans::Place;
+use tables::TABLE_WORDS;
+use tables::scans::MessageSlot;
 use tables::tiles_of;
 
 // Slot and offset of each message of so many slots: how many there are.
-fn list_spots(lens: &[u16; 9217], slots: usize, spots: &mut [u32; 14336]) -> usize
+fn list_spots(lens: &[u16; TABLE_WORDS], slots: usize, spots: &mut [u32; SPOT_WORDS]) -> usize
     requires { ⌜ Sheet (now lens) slots × (length (now spots) ≡ 14336) ⌝ }
     ensures { λ r. ⌜ (length (now (spots .exit)) ≡ 14336) × ((r ≤ slots) × ((f : ℕ → Message) → Lengths f slots (now (lens .entry))
         → (r ≡ length (messagesOf f slots))
@@ -33,7 +37,7 @@ fn list_spots(lens: &[u16; 9217], slots: usize, spots: &mut [u32; 14336]) -> usi
     while slot < slots {
         let words = half_index(lens[slot]);
         spots[number] = slot as u32;
-        spots[7168 + number] = offset as u32;
+        spots[MOST_MESSAGES + number] = offset as u32;
         if words != 0 {
             number += 1;
         }
@@ -44,7 +48,12 @@ fn list_spots(lens: &[u16; 9217], slots: usize, spots: &mut [u32; 14336]) -> usi
 }
 
 // The same of the nest's messages.
-pub fn list(nest: Nest, sizes: Sizes, lens: &[u16; 9217], spots: &mut [u32; 14336]) -> usize
+pub fn list(
+    nest: Nest,
+    sizes: Sizes,
+    lens: &[u16; TABLE_WORDS],
+    spots: &mut [u32; SPOT_WORDS],
+) -> usize
     requires { ⌜ Planned nest sizes (now lens) × (length (now spots) ≡ 14336) ⌝ }
     ensures { λ r. ⌜ (r ≡ count (planOf (sizes .route) nest)) × Listed (sizes .route) nest (now (lens .entry)) (now (spots .exit)) ⌝ }
 {
@@ -53,15 +62,21 @@ pub fn list(nest: Nest, sizes: Sizes, lens: &[u16; 9217], spots: &mut [u32; 1433
 }
 
 // Where message m is found.
-pub fn spot(nest: Nest, sizes: Sizes, lens: &[u16; 9217], spots: &[u32; 14336], m: usize) -> Place
+pub fn spot(
+    nest: Nest,
+    sizes: Sizes,
+    lens: &[u16; TABLE_WORDS],
+    spots: &[u32; SPOT_WORDS],
+    m: usize,
+) -> MessageSlot
     requires { ⌜ Planned nest sizes (now lens) × (Listed (sizes .route) nest (now lens) (now spots) × (m < count (planOf (sizes .route) nest))) ⌝ }
     ensures { λ r. ⌜ FoundIn (sizes .route) nest m r ⌝ }
 {
     let slot = word_index(spots[m]);
-    Place {
+    MessageSlot {
         slot: slot,
         number: m,
-        offset: word_index(spots[7168 + m]),
+        offset: word_index(spots[MOST_MESSAGES + m]),
         words: half_index(lens[slot]),
     }
 }
@@ -70,9 +85,9 @@ pub fn spot(nest: Nest, sizes: Sizes, lens: &[u16; 9217], spots: &[u32; 14336], 
 fn end_of(
     nest: Nest,
     sizes: Sizes,
-    lens: &[u16; 9217],
+    lens: &[u16; TABLE_WORDS],
     steps: [usize; 8],
-    place: Place,
+    place: MessageSlot,
     side: usize,
 ) -> usize
     requires { ⌜ Planned nest sizes (now lens) × (Stepped (sizes .route) nest side steps × FoundIn (sizes .route) nest (place .number) place) ⌝ }
@@ -90,33 +105,33 @@ fn end_of(
 }
 
 // A chain with no message yet.
-fn clear(chain: &mut [u16; 8192], none: usize)
+fn clear(chain: &mut [u16; CHAIN_WORDS], none: usize)
     requires { ⌜ (length (now chain) ≡ 8192) × (none ≤ 7168) ⌝ }
     ensures { λ _. ⌜ (length (now (chain .exit)) ≡ 8192) × ((t : ℕ) → t < 1024 → getD (now (chain .exit)) (7168 + t) 0 ≡ none) ⌝ }
 {
     let mut t = 0;
     while t < 1024 {
-        chain[7168 + t] = none as u16;
+        chain[MOST_MESSAGES + t] = none as u16;
         t += 1;
     }
 }
 
 // Message m becomes the first of a tile's.
-fn link(chain: &mut [u16; 8192], m: usize, tile: usize)
+fn link(chain: &mut [u16; CHAIN_WORDS], m: usize, tile: usize)
     requires { ⌜ (length (now chain) ≡ 8192) × ((m < 7168) × (tile < 1024)) ⌝ }
     ensures { λ _. ⌜ now (chain .exit) ≡ set (set (now (chain .entry)) m (getD (now (chain .entry)) (7168 + tile) 0)) (7168 + tile) m ⌝ }
 {
-    chain[m] = chain[7168 + tile];
-    chain[7168 + tile] = m as u16;
+    chain[m] = chain[MOST_MESSAGES + tile];
+    chain[MOST_MESSAGES + tile] = m as u16;
 }
 
 // The chain of all messages by the tile at an end, from the last message on.
 pub fn chain_ends(
     nest: Nest,
     sizes: Sizes,
-    lens: &[u16; 9217],
-    spots: &[u32; 14336],
-    chain: &mut [u16; 8192],
+    lens: &[u16; TABLE_WORDS],
+    spots: &[u32; SPOT_WORDS],
+    chain: &mut [u16; CHAIN_WORDS],
     messages: usize,
     side: usize,
 )
@@ -136,18 +151,24 @@ pub fn chain_ends(
 }
 
 // The first message with the tile at that end.
-pub fn first(nest: Nest, sizes: Sizes, chain: &[u16; 8192], tile: usize, side: usize) -> usize
+pub fn first(
+    nest: Nest,
+    sizes: Sizes,
+    chain: &[u16; CHAIN_WORDS],
+    tile: usize,
+    side: usize,
+) -> usize
     requires { ⌜ Chained (endOf side (planOf (sizes .route) nest)) (count (planOf (sizes .route) nest)) (now chain) × (tile < 1024) ⌝ }
     ensures { λ r. ⌜ r ≡ getD (atEnd side (planOf (sizes .route) nest) tile) 0 (count (planOf (sizes .route) nest)) ⌝ }
 {
-    half_index(chain[7168 + tile])
+    half_index(chain[MOST_MESSAGES + tile])
 }
 
 // The next one after message m with the tile there.
 pub fn next(
     nest: Nest,
     sizes: Sizes,
-    chain: &[u16; 8192],
+    chain: &[u16; CHAIN_WORDS],
     tile: usize,
     side: usize,
     m: usize,

@@ -9,7 +9,7 @@ ghost use Rattle.machine.specs.Machine.{stateOf, unpackAll, fresh};
 ghost use Rattle.nest.specs.Nest.{cells, processors};
 ghost use Rattle.plan.specs.Shaped.{planOf};
 ghost use Rattle.tables.specs.Tables.{FoundIn, Planned};
-ghost use Rattle.rounds.specs.ByState.{Lent, afterTile, delivered, afterRound};
+ghost use Rattle.rounds.specs.ByState.{PlanAreas, afterTile, delivered, afterRound};
 ghost use Rattle.rounds.specs.Rounds.{told, rounds, afterRounds, tileRound, roundsTo};
 ghost use Rattle.engine.specs.Calls.{answer};
 ghost use Rattle.schedule.specs.Index.{Listed};
@@ -18,6 +18,7 @@ ghost use Rattle.schedule.specs.Calls.{roundsCall, roundsOfCall};
 
 pub mod index; // index.rt: the messages of a plan by number and by tile
 
+use base::refusals;
 use base::word_index;
 use base::zero_bytes;
 use base::zero_words;
@@ -36,13 +37,20 @@ use stages::calculate;
 use stages::put_message;
 use stages::take_message;
 use stages::tiles_left;
-use tables::scans::Place;
+use tables::TABLE_WORDS;
+use tables::scans::MessageSlot;
 use tables::tile_at;
 use tables::tile_count;
 use tables::tiles_of;
 
+// Of each message the next one of its tile, 7,168 at most, and of each of 1,024 tiles its first.
+pub const CHAIN_WORDS: usize = 8192;
+
+// Of each message, 7,168 at most, its slot, and behind all of these its offset.
+pub const SPOT_WORDS: usize = 14336;
+
 // All messages due at the tile are delivered.
-fn ready(nest: Nest, sizes: Sizes, dues: &[u16; 8192], status: &[u8], t: usize) -> bool
+fn ready(nest: Nest, sizes: Sizes, dues: &[u16; CHAIN_WORDS], status: &[u8], t: usize) -> bool
     requires { ⌜ Mailed nest sizes 1 (now dues) (now status) × (t < 1024) ⌝ }
     ensures { λ r. ⌜ r ≡ allAt (now (status .entry)) 2 (duesOf (planOf (sizes .route) nest) t) ⌝ }
 {
@@ -60,9 +68,9 @@ fn ready(nest: Nest, sizes: Sizes, dues: &[u16; 8192], status: &[u8], t: usize) 
 fn gather(
     nest: Nest,
     sizes: Sizes,
-    lens: &[u16; 9217],
-    spots: &[u32; 14336],
-    dues: &[u16; 8192],
+    lens: &[u16; TABLE_WORDS],
+    spots: &[u32; SPOT_WORDS],
+    dues: &[u16; CHAIN_WORDS],
     memory: &mut [u32],
     buffer: &[u32],
     status: &mut [u8],
@@ -88,9 +96,9 @@ fn gather(
 fn send(
     nest: Nest,
     sizes: Sizes,
-    lens: &[u16; 9217],
-    spots: &[u32; 14336],
-    sends: &[u16; 8192],
+    lens: &[u16; TABLE_WORDS],
+    spots: &[u32; SPOT_WORDS],
+    sends: &[u16; CHAIN_WORDS],
     memory: &[u32],
     buffer: &mut [u32],
     status: &mut [u8],
@@ -116,10 +124,10 @@ fn send(
 fn whole_tile(
     nest: Nest,
     sizes: Sizes,
-    lens: &[u16; 9217],
-    spots: &[u32; 14336],
-    sends: &[u16; 8192],
-    dues: &[u16; 8192],
+    lens: &[u16; TABLE_WORDS],
+    spots: &[u32; SPOT_WORDS],
+    sends: &[u16; CHAIN_WORDS],
+    dues: &[u16; CHAIN_WORDS],
     source: &[u32],
     memory: &mut [u32],
     buffer: &mut [u32],
@@ -142,10 +150,10 @@ fn whole_tile(
 fn next_tile(
     nest: Nest,
     sizes: Sizes,
-    lens: &[u16; 9217],
-    spots: &[u32; 14336],
-    sends: &[u16; 8192],
-    dues: &[u16; 8192],
+    lens: &[u16; TABLE_WORDS],
+    spots: &[u32; SPOT_WORDS],
+    sends: &[u16; CHAIN_WORDS],
+    dues: &[u16; CHAIN_WORDS],
     source: &[u32],
     memories: &mut [u32],
     buffer: &mut [u32],
@@ -154,7 +162,7 @@ fn next_tile(
     b: usize,
 )
     requires { ⌜ Indexed nest sizes (now lens) (now spots) (now sends) (now dues) × ((length (now source) ≡ cells nest) × (b < processors nest)) ⌝ }
-    requires { ⌜ Lent (planOf (sizes .route) nest) (stateOf (now memories) (now buffer) (now progress) (now status)) ⌝ }
+    requires { ⌜ PlanAreas (planOf (sizes .route) nest) (stateOf (now memories) (now buffer) (now progress) (now status)) ⌝ }
     ensures { λ _. ⌜ stateOf (now (memories .exit)) (now (buffer .exit)) (now (progress .exit)) (now (status .exit))
         ≡ afterTile (planOf (sizes .route) nest) (now (source .entry))
         (stateOf (now (memories .entry)) (now (buffer .entry)) (now (progress .entry)) (now (status .entry))) b ⌝ }
@@ -215,10 +223,10 @@ fn deliver_mail(status: &mut [u8])
 fn round(
     nest: Nest,
     sizes: Sizes,
-    lens: &[u16; 9217],
-    spots: &[u32; 14336],
-    sends: &[u16; 8192],
-    dues: &[u16; 8192],
+    lens: &[u16; TABLE_WORDS],
+    spots: &[u32; SPOT_WORDS],
+    sends: &[u16; CHAIN_WORDS],
+    dues: &[u16; CHAIN_WORDS],
     source: &[u32],
     memories: &mut [u32],
     buffer: &mut [u32],
@@ -226,7 +234,7 @@ fn round(
     status: &mut [u8],
 )
     requires { ⌜ Indexed nest sizes (now lens) (now spots) (now sends) (now dues) × (length (now source) ≡ cells nest) ⌝ }
-    requires { ⌜ Lent (planOf (sizes .route) nest) (stateOf (now memories) (now buffer) (now progress) (now status)) ⌝ }
+    requires { ⌜ PlanAreas (planOf (sizes .route) nest) (stateOf (now memories) (now buffer) (now progress) (now status)) ⌝ }
     ensures { λ _. ⌜ stateOf (now (memories .exit)) (now (buffer .exit)) (now (progress .exit)) (now (status .exit))
         ≡ afterRound (planOf (sizes .route) nest) (now (source .entry))
         (stateOf (now (memories .entry)) (now (buffer .entry)) (now (progress .entry)) (now (status .entry))) ⌝ }
@@ -257,10 +265,10 @@ fn round(
 fn rounds_by(
     nest: Nest,
     sizes: Sizes,
-    lens: &[u16; 9217],
-    spots: &[u32; 14336],
-    sends: &[u16; 8192],
-    dues: &[u16; 8192],
+    lens: &[u16; TABLE_WORDS],
+    spots: &[u32; SPOT_WORDS],
+    sends: &[u16; CHAIN_WORDS],
+    dues: &[u16; CHAIN_WORDS],
     source: &[u32],
     memories: &mut [u32],
     buffer: &mut [u32],
@@ -297,7 +305,7 @@ fn rounds_by(
 pub fn all_rounds(
     nest: Nest,
     sizes: Sizes,
-    lens: &[u16; 9217],
+    lens: &[u16; TABLE_WORDS],
     source: &[u32],
     memories: &mut [u32],
     buffer: &mut [u32],
@@ -310,11 +318,11 @@ pub fn all_rounds(
         × (stateOf (now (memories .exit)) (now (buffer .exit)) (now (progress .exit)) (now (status .exit))
         ≡ afterRounds (planOf (sizes .route) nest) (now (source .entry)) (rounds (planOf (sizes .route) nest))) ⌝ }
 {
-    let mut spots = [0u32; 14336];
+    let mut spots = [0u32; SPOT_WORDS];
     let messages = list(nest, sizes, lens, &mut spots);
-    let mut sends = [0u16; 8192];
+    let mut sends = [0u16; CHAIN_WORDS];
     chain_ends(nest, sizes, lens, &spots, &mut sends, messages, 0);
-    let mut dues = [0u16; 8192];
+    let mut dues = [0u16; CHAIN_WORDS];
     chain_ends(nest, sizes, lens, &spots, &mut dues, messages, 1);
     rounds_by(
         nest,
@@ -360,7 +368,7 @@ pub fn run(
         ≡ roundsCall (now (encoded .entry)) (now (source .entry))
         (stateOf (now (memories .entry)) (now (buffer .entry)) (now (progress .entry)) (now (status .entry))) ⌝ }
 {
-    let mut lens = [0u16; 9217];
+    let mut lens = [0u16; TABLE_WORDS];
     let opening = open(encoded, 0, &mut lens);
     let number = opening.number;
     if number != 0 {
@@ -378,7 +386,7 @@ pub fn run(
         progress.len(),
         status,
     ) {
-        return refused(9);
+        return refused(refusals::AREA);
     }
     zero_words(memories);
     zero_words(buffer);
@@ -401,7 +409,7 @@ pub fn run(
 }
 
 // A tile's processor.
-fn processor_at(nest: Nest, sizes: Sizes, lens: &[u16; 9217], tile: usize) -> usize
+fn processor_at(nest: Nest, sizes: Sizes, lens: &[u16; TABLE_WORDS], tile: usize) -> usize
     requires { ⌜ Planned nest sizes (now lens) × (tile < planOf (sizes .route) nest .tiles) ⌝ }
     ensures { λ r. ⌜ (r ≡ planOf (sizes .route) nest .processorOf tile) × (r < processors nest) ⌝ }
 {
@@ -412,7 +420,7 @@ fn processor_at(nest: Nest, sizes: Sizes, lens: &[u16; 9217], tile: usize) -> us
 }
 
 // The tile that sends a message.
-fn sender_at(nest: Nest, sizes: Sizes, lens: &[u16; 9217], place: Place) -> usize
+fn sender_at(nest: Nest, sizes: Sizes, lens: &[u16; TABLE_WORDS], place: MessageSlot) -> usize
     requires { ⌜ Planned nest sizes (now lens) × FoundIn (sizes .route) nest (place .number) place ⌝ }
     ensures { λ r. ⌜ r ≡ senderOf (planOf (sizes .route) nest) (place .number) ⌝ }
 {
@@ -423,9 +431,9 @@ fn sender_at(nest: Nest, sizes: Sizes, lens: &[u16; 9217], place: Place) -> usiz
 fn round_at(
     nest: Nest,
     sizes: Sizes,
-    lens: &[u16; 9217],
-    spots: &[u32; 14336],
-    dues: &[u16; 8192],
+    lens: &[u16; TABLE_WORDS],
+    spots: &[u32; SPOT_WORDS],
+    dues: &[u16; CHAIN_WORDS],
     messages: usize,
     rounds: &[u32],
     tile: usize,
@@ -454,9 +462,9 @@ fn round_at(
 fn tell_by(
     nest: Nest,
     sizes: Sizes,
-    lens: &[u16; 9217],
-    spots: &[u32; 14336],
-    dues: &[u16; 8192],
+    lens: &[u16; TABLE_WORDS],
+    spots: &[u32; SPOT_WORDS],
+    dues: &[u16; CHAIN_WORDS],
     messages: usize,
     rounds: &mut [u32],
 )
@@ -485,13 +493,13 @@ fn tell_by(
 }
 
 // Each tile's round. The messages are listed, and chained by their takers, once.
-fn tell_rounds(nest: Nest, sizes: Sizes, lens: &[u16; 9217], rounds: &mut [u32])
+fn tell_rounds(nest: Nest, sizes: Sizes, lens: &[u16; TABLE_WORDS], rounds: &mut [u32])
     requires { ⌜ Planned nest sizes (now lens) × (length (now rounds) ≡ planOf (sizes .route) nest .tiles) ⌝ }
     ensures { λ _. ⌜ now (rounds .exit) ≡ roundsTo (planOf (sizes .route) nest) (planOf (sizes .route) nest .tiles) ⌝ }
 {
-    let mut spots = [0u32; 14336];
+    let mut spots = [0u32; SPOT_WORDS];
     let messages = list(nest, sizes, lens, &mut spots);
-    let mut dues = [0u16; 8192];
+    let mut dues = [0u16; CHAIN_WORDS];
     chain_ends(nest, sizes, lens, &spots, &mut dues, messages, 1);
     tell_by(nest, sizes, lens, &spots, &dues, messages, rounds);
 }
@@ -500,7 +508,7 @@ fn tell_rounds(nest: Nest, sizes: Sizes, lens: &[u16; 9217], rounds: &mut [u32])
 pub fn rounds_of(encoded: &[u8], rounds: &mut [u32]) -> u32
     ensures { λ r. ⌜ answer r (now (rounds .exit)) ≡ roundsOfCall (now (encoded .entry)) (now (rounds .entry)) ⌝ }
 {
-    let mut lens = [0u16; 9217];
+    let mut lens = [0u16; TABLE_WORDS];
     let direct = open(encoded, 0, &mut lens);
     let number = direct.number;
     if number != 0 {
@@ -509,7 +517,7 @@ pub fn rounds_of(encoded: &[u8], rounds: &mut [u32]) -> u32
     let nest = direct.nest;
     let sizes = direct.sizes;
     if rounds.len() != tiles_of(nest, sizes, &lens) {
-        return 9;
+        return refusals::AREA;
     }
     tell_rounds(nest, sizes, &lens, rounds);
     0

@@ -1,4 +1,4 @@
--- Request W-208 holds: of the definitions of an office's calls, and of every run of them.
+-- Request W-208 holds: of the definitions of a tenant's calls, and of every run of them.
 use Prim.Native.Nat.{ℕ, _*_}
 use mathlib.Core.Path.{_≡_, refl, sym}
 use mathlib.Core.Bool.{Bool, true, false}
@@ -6,16 +6,16 @@ use mathlib.Core.List.{List, []}
 use lib.ListN.{length}
 use lib.Dec.{eqb}
 use Rattle.base.specs.Tests.{pick}
-use Rattle.base.specs.Lists.{Bytes, part}
+use Rattle.base.specs.Lists.{Bytes, sublist}
 use Rattle.base.specs.Numbers.{firstOf}
 use Rattle.machine.specs.Plan.{Plan, Sound}
 use Rattle.machine.specs.Machine.{memoryOf}
-use Rattle.tenants.specs.Offices.{Lent, ofOffice, Rig, Sources, ownOf, freshRig}
+use Rattle.tenants.specs.Tenants.{TenantAreas, ofTenant, Sharing, Sources, ownOf, freshSharing}
 use Rattle.tenants.proofs.AnyCalls.{isolated-for}
 use Rattle.nest.specs.Reader.{nestOf}
 use Rattle.nest.proofs.Facts.{accepted}
 use Rattle.plan.proofs.ShapedSound.{sound}
-use Rattle.layout.specs.Sizes.{routeOf}
+use Rattle.layout.specs.RouteWords.{routeOf}
 use Rattle.recipe.specs.Routes.{linesFor}
 use Rattle.recipe.proofs.Laws.{reads-for, numbered-for}
 use Rattle.engine.specs.Calls.{recipe}
@@ -23,13 +23,13 @@ use Rattle.engine.specs.Demands.{Fixed, LentWords}
 use Rattle.engine.proofs.Begins.{areas-fit, none-true}
 use Rattle.engine.proofs.Demands.{fixed}
 use Rattle.sharing.specs.Calls.{turnCallLinesFor, turnCallFor, deliverCallLinesFor, deliverCallFor, collectCallLinesFor, collectCallFor}
-use Rattle.sharing.specs.Calls.{rigAreas, freshRigLines, freshRigCall, lookLines, lookPart, rigCalls}
-use Rattle.sharing.specs.Demands.{FixedFor, Looks, RigDemands}
+use Rattle.sharing.specs.Calls.{sharingAreas, freshSharingLines, freshSharingCall, viewLines, viewPart, sharingCalls}
+use Rattle.sharing.specs.Demands.{FixedFor, Views, SharingDemands}
 use Rattle.sharing.proofs.Starts.{all-there}
 use Rattle.sharing.proofs.AsRuns.{alike, run-demand208, fresh-reads, fresh-sources, fresh-is}
 use Rattle.sharing.proofs.Words.{run-words, run-alone}
 
-fixed-for : (bytes : List ℕ) (route : ℕ) (source : List ℕ) (o : ℕ) (l : Lent) (theirs : List ℕ) → FixedFor bytes route source o l theirs
+fixed-for : (bytes : List ℕ) (route : ℕ) (source : List ℕ) (o : ℕ) (l : TenantAreas) (theirs : List ℕ) → FixedFor bytes route source o l theirs
 unfolding turnCallFor deliverCallFor collectCallFor
 fixed-for bytes route source o l theirs =
     record {
@@ -38,42 +38,42 @@ fixed-for bytes route source o l theirs =
       collect = λ grid. fixed (collectCallLinesFor bytes route source o l theirs grid) _ grid;
     }
 
-memory-is : (p : Plan) (r : Rig) (o b : ℕ)
-    → part (ofOffice o (r .first .memories) (r .second .memories)) (b * p .cells) (p .cells) ≡ memoryOf p (ownOf r o) b
-unfolding ofOffice pick
+memory-is : (p : Plan) (r : Sharing) (o b : ℕ)
+    → sublist (ofTenant o (r .first .memories) (r .second .memories)) (b * p .cells) (p .cells) ≡ memoryOf p (ownOf r o) b
+unfolding ofTenant pick
 memory-is p r o b = go (eqb o 0)
   where
-    go : (t : Bool) → part (pick t (r .first .memories) (r .second .memories)) (b * p .cells) (p .cells) ≡ memoryOf p (pick t (r .first) (r .second)) b
+    go : (t : Bool) → sublist (pick t (r .first .memories) (r .second .memories)) (b * p .cells) (p .cells) ≡ memoryOf p (pick t (r .first) (r .second)) b
     go true = refl
     go false = refl
 
-looks : (bytes : List ℕ) (r : Rig) (o b : ℕ) → Looks bytes r o b
-unfolding lookPart
+looks : (bytes : List ℕ) (r : Sharing) (o b : ℕ) → Views bytes r o b
+unfolding viewPart
 looks bytes r o b =
     record {
       fixed =
-          rw (sym (memory-is (recipe bytes 0) r o b)) (fixed (lookLines bytes (r .first .memories) (r .second .memories) o b) _ []);
+          rw (sym (memory-is (recipe bytes 0) r o b)) (fixed (viewLines bytes (r .first .memories) (r .second .memories) o b) _ []);
     }
 
-fresh-fixed : (bytes : List ℕ) (route : ℕ) (sources : Sources) (r : Rig)
-    → Fixed (freshRigCall bytes route sources r) (freshRigLines bytes route sources r) (freshRig (recipe bytes route)) r
-unfolding freshRigCall
-fresh-fixed bytes route sources r = fixed (freshRigLines bytes route sources r) _ r
+fresh-fixed : (bytes : List ℕ) (route : ℕ) (sources : Sources) (r : Sharing)
+    → Fixed (freshSharingCall bytes route sources r) (freshSharingLines bytes route sources r) (freshSharing (recipe bytes route)) r
+unfolding freshSharingCall
+fresh-fixed bytes route sources r = fixed (freshSharingLines bytes route sources r) _ r
 
-begins : (bytes : List ℕ) (route : ℕ) (sources : Sources) (r : Rig) → firstOf (linesFor (routeOf route) bytes) ≡ 0
+begins : (bytes : List ℕ) (route : ℕ) (sources : Sources) (r : Sharing) → firstOf (linesFor (routeOf route) bytes) ≡ 0
     → LentWords (recipe bytes route) (sources .first) (r .first) → LentWords (recipe bytes route) (sources .second) (r .second)
-    → length (r .engaged) ≡ recipe bytes route .processors → freshRigCall bytes route sources r .number ≡ 0
-unfolding freshRigCall
+    → length (r .engaged) ≡ recipe bytes route .processors → freshSharingCall bytes route sources r .number ≡ 0
+unfolding freshSharingCall
 begins bytes route sources r z l m e =
-    none-true (linesFor (routeOf route) bytes) (numbered-for (routeOf route) bytes) z (rigAreas (recipe bytes route) sources r)
+    none-true (linesFor (routeOf route) bytes) (numbered-for (routeOf route) bytes) z (sharingAreas (recipe bytes route) sources r)
     (all-there (recipe bytes route) sources r (areas-fit (recipe bytes route) (sources .first) (r .first) l)
     (areas-fit (recipe bytes route) (sources .second) (r .second) m) e)
 
 pub sound-plan : (bytes : List ℕ) (route : ℕ) → Bytes bytes → firstOf (linesFor (routeOf route) bytes) ≡ 0 → Sound (recipe bytes route)
 sound-plan bytes route b z = sound (routeOf route) (nestOf bytes) (accepted bytes b (reads-for (routeOf route) bytes z))
 
-pub rig-demands : RigDemands
-rig-demands =
+pub sharing-demands : SharingDemands
+sharing-demands =
     record {
       calls = fixed-for;
       fresh = fresh-fixed;
@@ -86,7 +86,7 @@ rig-demands =
       apart = λ bytes route sources sources′ r r′ b z z′ o low same.
           rw (fresh-is bytes route sources r z, fresh-is bytes route sources′ r′ z′)
           (isolated-for (recipe bytes route) (sound-plan bytes route b (fresh-reads bytes route sources r z)) o low sources sources′ same
-          (rigCalls bytes route sources) (rigCalls bytes route sources′)
+          (sharingCalls bytes route sources) (sharingCalls bytes route sources′)
           (alike bytes route sources (fresh-reads bytes route sources r z) (fresh-sources bytes route sources r z))
           (alike bytes route sources′ (fresh-reads bytes route sources′ r′ z′) (fresh-sources bytes route sources′ r′ z′)));
       words = λ bytes route sources r b z.

@@ -4,4 +4,4 @@ pub mod Starts
 pub mod AsRuns
 pub mod Words
 pub mod Demands
-pub mod LookRows
+pub mod ViewExamples

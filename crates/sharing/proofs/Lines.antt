@@ -1,4 +1,4 @@
--- Laws of the lines of an office's calls: lengths and fit states, and each call by the line that counts.
+-- Laws of the lines of a tenant's calls: lengths and fit states, and each call by the line that counts.
 use Prim.Native.Nat.{ℕ, _+_, _*_, _≤_, _<_}
 use mathlib.Core.Path.{_≡_, refl, sym, ap, _∙_}
 use mathlib.Core.Logic.{_≢_}
@@ -15,11 +15,11 @@ use Rattle.base.proofs.Numbers.{first-true, first-false, none-first, first-some
 use Rattle.machine.specs.Plan.{Plan, count}
 use Rattle.machine.specs.Machine.{State, stateOf, progressOnly, stageOf, fitRecord, fit, tilesLeft, nextAction, collected, Answered, answered, turn}
 use Rattle.machine.proofs.Records.{stage-same}
-use Rattle.tenants.specs.Offices.{Lent, lentOf, wordFor, fitWord, fitFor, heldByOther, turnLinesFor, carryOutFor, turnFor}
-use Rattle.tenants.specs.Offices.{deliverLinesFor, deliveredFor, deliverFor, collectLinesFor, collectFor}
+use Rattle.tenants.specs.Tenants.{TenantAreas, tenantAreas, wordFor, fitWord, fitFor, heldByOther, turnLinesFor, carryOutFor, turnFor}
+use Rattle.tenants.specs.Tenants.{deliverLinesFor, deliveredFor, deliverFor, collectLinesFor, collectFor}
 use Rattle.tenants.proofs.OneCall.{Admits}
 use Rattle.tenants.proofs.ByStep.{turn-by}
-use Rattle.layout.specs.Sizes.{routeOf}
+use Rattle.layout.specs.RouteWords.{routeOf}
 use Rattle.recipe.specs.Routes.{linesFor}
 use Rattle.recipe.proofs.Laws.{numbered-for}
 use Rattle.stages.specs.Progress.{setRecord}
@@ -32,7 +32,7 @@ use Rattle.sharing.specs.Given.{LengthsFor, unfitLinesFor, barredLinesFo
 
 -- ---- lengths
 
-module _ (p : Plan) (source : List ℕ) (l : Lent) (theirs : List ℕ) where
+module _ (p : Plan) (source : List ℕ) (l : TenantAreas) (theirs : List ℕ) where
   pub no-own : areas p source (l .own) ≡ false → areasFor p source l theirs ≡ false
   unfolding areasFor
   no-own e = and-false _ _ e
@@ -59,7 +59,7 @@ module _ (p : Plan) (source : List ℕ) (l : Lent) (theirs : List ℕ) where
 
 -- ---- line 10
 
-module _ (p : Plan) (o : ℕ) (l : Lent) (theirs : List ℕ) where
+module _ (p : Plan) (o : ℕ) (l : TenantAreas) (theirs : List ℕ) where
   pub unfit-own : fit p (l .own) ≡ false → false ≡ fitFor p o l theirs
   unfolding fitFor
   unfit-own e = sym (and-false _ _ e)
@@ -69,25 +69,25 @@ module _ (p : Plan) (o : ℕ) (l : Lent) (theirs : List ℕ) where
   unfit-theirs e = sym (and-no _ _ (and-false _ _ e))
 
   pub by-words : fit p (l .own) ≡ true → every (fitRecord p (progressOnly theirs)) (p .processors) ≡ true
-      → (t : Bool) → t ≡ every (fitWord o (lentOf (progressOnly (l .own .progress)) (l .engaged)) theirs) (length (l .engaged))
+      → (t : Bool) → t ≡ every (fitWord o (tenantAreas (progressOnly (l .own .progress)) (l .engaged)) theirs) (length (l .engaged))
       → length (l .engaged) ≡ p .processors → t ≡ fitFor p o l theirs
   unfolding fitFor fitWord
   by-words a b t e long = e ∙ ap (every (fitWord o l theirs)) long ∙ sym (and-left _ _ a ∙ and-left _ _ b)
 
--- the memories and the buffer are not looked at
+-- the memories and the buffer are not viewed at
 pub fit-as : (p : Plan) (o : ℕ) (m u k l t e j q : List ℕ) → k ≡ l → j ≡ q
-    → fitFor p o (lentOf (stateOf [] [] k t) e) j ≡ fitFor p o (lentOf (stateOf m u l t) e) q
+    → fitFor p o (tenantAreas (stateOf [] [] k t) e) j ≡ fitFor p o (tenantAreas (stateOf m u l t) e) q
 unfolding fitFor fit fitRecord tilesLeft fitWord
 fit-as p o m u k l t e j q a b = rw (a, b)
 
 pub held-as : (p : Plan) (o : ℕ) (m u k l t e : List ℕ) (b : ℕ) → k ≡ l
-    → heldByOther p o (lentOf (stateOf m u l t) e) b ≡ heldByOther p o (lentOf (progressOnly k) e) b
+    → heldByOther p o (tenantAreas (stateOf m u l t) e) b ≡ heldByOther p o (tenantAreas (progressOnly k) e) b
 unfolding heldByOther tilesLeft
 held-as p o m u k l t e b a = rw a
 
--- ---- lines 9, 11 for the office, and 10
+-- ---- lines 9, 11 for the tenant, and 10
 
-module _ (p : Plan) (source : List ℕ) (o : ℕ) (l : Lent) (theirs : List ℕ) where
+module _ (p : Plan) (source : List ℕ) (o : ℕ) (l : TenantAreas) (theirs : List ℕ) where
   pub unfit-9 : areasFor p source l theirs ≡ false → 9 ≡ firstOf (unfitLinesFor p source o l theirs)
   unfit-9 e = sym (first-true 9 _ _ (not-false e))
 
@@ -109,26 +109,26 @@ module _ (p : Plan) (source : List ℕ) (o : ℕ) (l : Lent) (theirs : List ℕ)
       let a = none-first 9 _ _ (λ q. omega arith) (sym e ∙ z) in
       let b = none-first 11 _ _ (λ q. omega arith) (a .1) in
       let c = none-first 10 _ _ (λ q. omega arith) (b .1) in
-      (true-not (a .0), record { office = true-not (b .0); fits = true-not (c .0) })
+      (true-not (a .0), record { tenant = true-not (b .0); fits = true-not (c .0) })
 
   -- past them the lines behind count
   pub clear-lines : (r : ℕ) → r ≡ firstOf (unfitLinesFor p source o l theirs) → r ≡ 0 → (ls : List Line)
       → firstOf (areaLinesFor p source l theirs ++ (line 11 (not (leb o 1)) ∷ line 10 (not (fitFor p o l theirs)) ∷ ls)) ≡ firstOf ls
   clear-lines r e z ls =
       let q = unfit-none r e z in
-      first-false 9 _ _ (not-true (q .0)) ∙ first-false 11 _ _ (not-true (q .1 .office)) ∙ first-false 10 _ ls (not-true (q .1 .fits))
+      first-false 9 _ _ (not-true (q .0)) ∙ first-false 11 _ _ (not-true (q .1 .tenant)) ∙ first-false 10 _ ls (not-true (q .1 .fits))
 
 -- ---- the lines up to the machine's
 
 -- none of them holds
-pub record Free (p : Plan) (source : List ℕ) (o : ℕ) (l : Lent) (theirs : List ℕ) (b : ℕ) : Type 0 where
+pub record Free (p : Plan) (source : List ℕ) (o : ℕ) (l : TenantAreas) (theirs : List ℕ) (b : ℕ) : Type 0 where
   pub unfit : 0 ≡ firstOf (unfitLinesFor p source o l theirs)
   pub lengths : LengthsFor p source l theirs
   pub fits : fitFor p o l theirs ≡ true
   pub low : b < p .processors
   pub free : heldByOther p o l b ≡ false
 
-module _ (p : Plan) (source : List ℕ) (o : ℕ) (l : Lent) (theirs : List ℕ) (b : ℕ) where
+module _ (p : Plan) (source : List ℕ) (o : ℕ) (l : TenantAreas) (theirs : List ℕ) (b : ℕ) where
   pub barred-none : (r : ℕ) → r ≡ firstOf (barredLinesFor p source o l theirs b) → r ≡ 0 → Free p source o l theirs b
   barred-none r e z =
       let u = none-first 9 _ _ (λ q. omega arith) (sym e ∙ z) in
@@ -165,12 +165,12 @@ module _ (p : Plan) (source : List ℕ) (o : ℕ) (l : Lent) (theirs : List ℕ)
 
 -- ---- what a turn makes of the records and the shared words
 
-module _ (r : Turned) (n : ℕ) (e : r .number ≡ n) (h : n ≢ 0) (l : Lent) (b : ℕ) (x : Answered Lent) where
+module _ (r : Turned) (n : ℕ) (e : r .number ≡ n) (h : n ≢ 0) (l : TenantAreas) (b : ℕ) (x : Answered TenantAreas) where
   pub refuses : answer n l ≡ x
-      → answer (r .number) (lentOf (stateOf (l .own .memories) (l .own .buffer) (recordsAfter (l .own .progress) b r) (l .own .status)) (l .engaged)) ≡ x
+      → answer (r .number) (tenantAreas (stateOf (l .own .memories) (l .own .buffer) (recordsAfter (l .own .progress) b r) (l .own .status)) (l .engaged)) ≡ x
   unfolding recordsAfter
   refuses q =
-      ap (λ (k : List ℕ). answer (r .number) (lentOf (stateOf (l .own .memories) (l .own .buffer) k (l .own .status)) (l .engaged)))
+      ap (λ (k : List ℕ). answer (r .number) (tenantAreas (stateOf (l .own .memories) (l .own .buffer) k (l .own .status)) (l .engaged)))
       (pick-false _ _ _ (ne-eqb (r .number) 0 (λ z. h (sym e ∙ z))))
       ∙ ap (λ (k : ℕ). answer k l) e ∙ q
 
@@ -185,8 +185,8 @@ words-by progress engaged o b n r len low = go (eqb (r .number) 0)
     go true = ap (λ (g : ℕ). set engaged b (wordFor o g)) (sym (stage-same progress b n len low _ _ _))
     go false = refl
 
--- ---- past the reader's and the route's lines and line 9 the office's count
-past-lengths : (bytes : List ℕ) (route : ℕ) (p : Plan) (source : List ℕ) (l : Lent) (theirs : List ℕ) → firstOf (linesFor (routeOf route) bytes) ≡ 0
+-- ---- past the reader's and the route's lines and line 9 the tenant's count
+past-lengths : (bytes : List ℕ) (route : ℕ) (p : Plan) (source : List ℕ) (l : TenantAreas) (theirs : List ℕ) → firstOf (linesFor (routeOf route) bytes) ≡ 0
     → areasFor p source l theirs ≡ true → (ls : List Line)
     → firstOf (linesFor (routeOf route) bytes ++ (areaLinesFor p source l theirs ++ ls)) ≡ firstOf ls
 past-lengths bytes route p source l theirs z a ls =
@@ -195,7 +195,7 @@ past-lengths bytes route p source l theirs z a ls =
 
 -- ---- the turn
 
-module _ (bytes : List ℕ) (route : ℕ) (source : List ℕ) (o : ℕ) (l : Lent) (theirs : List ℕ) (b : ℕ) where
+module _ (bytes : List ℕ) (route : ℕ) (source : List ℕ) (o : ℕ) (l : TenantAreas) (theirs : List ℕ) (b : ℕ) where
   pub turn-read : (r : ℕ) → r ≡ firstOf (linesFor (routeOf route) bytes) → r ≢ 0 → answer r l ≡ turnCallFor bytes route source o l theirs b
   unfolding turnCallFor
   turn-read r e h = call-read (linesFor (routeOf route) bytes) (numbered-for (routeOf route) bytes) _ r _ l e h
@@ -212,7 +212,7 @@ module _ (bytes : List ℕ) (route : ℕ) (source : List ℕ) (o : ℕ) (l : Len
         (carryOutFor q source o l b (nextAction q (l .own) b)) l)
         (op .is)
 
-    -- where the lengths are right it is the office's turn
+    -- where the lengths are right it is the tenant's turn
     pub as-turn : areasFor p source l theirs ≡ true → turnFor p source o l theirs b ≡ turnCallFor bytes route source o l theirs b
     unfolding turnFor
     as-turn a =
@@ -228,10 +228,10 @@ module _ (bytes : List ℕ) (route : ℕ) (source : List ℕ) (o : ℕ) (l : Len
     -- the machine's turn on the own areas, and the shared word by the stage that it left
     pub turn-steps : Free p source o l theirs b → (r : Turned) (m u t engaged : List ℕ) → engaged ≡ wordsAfter (l .engaged) o b r
         → answer (r .number) (stateOf m u (recordsAfter (l .own .progress) b r) t) ≡ turn p source (l .own) b
-        → answer (r .number) (lentOf (stateOf m u (recordsAfter (l .own .progress) b r) t) engaged)
+        → answer (r .number) (tenantAreas (stateOf m u (recordsAfter (l .own .progress) b r) t) engaged)
         ≡ turnCallFor bytes route source o l theirs b
     turn-steps f r m u t engaged w a =
-        ap (λ (ws : List ℕ). answer (r .number) (lentOf (stateOf m u (recordsAfter (l .own .progress) b r) t) ws))
+        ap (λ (ws : List ℕ). answer (r .number) (tenantAreas (stateOf m u (recordsAfter (l .own .progress) b r) t) ws))
         (w ∙ words-by (l .own .progress) (l .engaged) o b (p .processors) r (f .lengths .own .progress) (f .low))
         ∙ ap whole a
         ∙ sym (turn-by p source o l theirs b (none .1) (f .free) (f .lengths .own .progress) (f .lengths .engaged))
@@ -240,23 +240,23 @@ module _ (bytes : List ℕ) (route : ℕ) (source : List ℕ) (o : ℕ) (l : Len
         none : (areasFor p source l theirs ≡ true) × Admits p o l theirs
         none = unfit-none p source o l theirs 0 (f .unfit) refl
 
-        whole : Answered State → Answered Lent
+        whole : Answered State → Answered TenantAreas
         whole x =
             answer (x .number)
-            (lentOf (x .after) (pick (eqb (x .number) 0) (set (l .engaged) b (wordFor o (stageOf (x .after) b))) (l .engaged)))
+            (tenantAreas (x .after) (pick (eqb (x .number) 0) (set (l .engaged) b (wordFor o (stageOf (x .after) b))) (l .engaged)))
 
 -- the same for the lists that the words read stand for
 pub turn-as : (bytes : List ℕ) (route : ℕ) (source : List ℕ) (o : ℕ) (m u t e own l other q : List ℕ) (b : ℕ) → own ≡ l → other ≡ q
     → (r : Turned) (m′ u′ t′ e′ : List ℕ)
-    → answer (r .number) (lentOf (stateOf m′ u′ (recordsAfter own b r) t′) e′)
-    ≡ turnCallFor bytes route source o (lentOf (stateOf m u own t) e) other b
-    → answer (r .number) (lentOf (stateOf m′ u′ (recordsAfter l b r) t′) e′)
-    ≡ turnCallFor bytes route source o (lentOf (stateOf m u l t) e) q b
+    → answer (r .number) (tenantAreas (stateOf m′ u′ (recordsAfter own b r) t′) e′)
+    ≡ turnCallFor bytes route source o (tenantAreas (stateOf m u own t) e) other b
+    → answer (r .number) (tenantAreas (stateOf m′ u′ (recordsAfter l b r) t′) e′)
+    ≡ turnCallFor bytes route source o (tenantAreas (stateOf m u l t) e) q b
 turn-as bytes route source o m u t e own l other q b a c r m′ u′ t′ e′ x = rw (sym a, sym c) x
 
 -- ---- the delivery
 
-module _ (bytes : List ℕ) (route : ℕ) (source : List ℕ) (o : ℕ) (l : Lent) (theirs : List ℕ) (m : ℕ) where
+module _ (bytes : List ℕ) (route : ℕ) (source : List ℕ) (o : ℕ) (l : TenantAreas) (theirs : List ℕ) (m : ℕ) where
   pub deliver-read : (r : ℕ) → r ≡ firstOf (linesFor (routeOf route) bytes) → r ≢ 0 → answer r l ≡ deliverCallFor bytes route source o l theirs m
   unfolding deliverCallFor
   deliver-read r e h = call-read (linesFor (routeOf route) bytes) (numbered-for (routeOf route) bytes) _ r _ l e h
@@ -286,12 +286,12 @@ module _ (bytes : List ℕ) (route : ℕ) (source : List ℕ) (o : ℕ) (l : Len
 
       -- the marks handed over
       pub deliver-over : r ≡ 0 → (n : ℕ) (status : List ℕ) → answer n status ≡ handedOver (l .own .status) m
-          → answer n (lentOf (stateOf (l .own .memories) (l .own .buffer) (l .own .progress) status) (l .engaged))
+          → answer n (tenantAreas (stateOf (l .own .memories) (l .own .buffer) (l .own .progress) status) (l .engaged))
           ≡ deliverCallFor bytes route source o l theirs m
       deliver-over z n status a = handed marked n m status (l .own .status) a _ same ∙ deliver-at
         where
-          marked : List ℕ → Lent
-          marked t = lentOf (stateOf (l .own .memories) (l .own .buffer) (l .own .progress) t) (l .engaged)
+          marked : List ℕ → TenantAreas
+          marked t = tenantAreas (stateOf (l .own .memories) (l .own .buffer) (l .own .progress) t) (l .engaged)
 
           rest : ℕ → List Line
           rest k = line 11 (not (ltb m k)) ∷ line 14 (not (eqb (getD (l .own .status) m 0) 1)) ∷ []
@@ -307,11 +307,11 @@ module _ (bytes : List ℕ) (route : ℕ) (source : List ℕ) (o : ℕ) (l : Len
 
 -- ---- collecting
 
-abbrev gridLines : Plan → List ℕ → ℕ → Lent → List ℕ → List ℕ → List Line
+abbrev gridLines : Plan → List ℕ → ℕ → TenantAreas → List ℕ → List ℕ → List Line
 gridLines p source o l theirs grid =
     line 9 (not (areasFor p source l theirs and eqb (length grid) (p .cells))) ∷ collectLinesFor p o l theirs
 
-module _ (bytes : List ℕ) (route : ℕ) (source : List ℕ) (o : ℕ) (l : Lent) (theirs grid : List ℕ) where
+module _ (bytes : List ℕ) (route : ℕ) (source : List ℕ) (o : ℕ) (l : TenantAreas) (theirs grid : List ℕ) where
   pub collect-read : (r : ℕ) → r ≡ firstOf (linesFor (routeOf route) bytes) → r ≢ 0 → answer r grid ≡ collectCallFor bytes route source o l theirs grid
   unfolding collectCallFor
   collect-read r e h = call-read (linesFor (routeOf route) bytes) (numbered-for (routeOf route) bytes) _ r _ grid e h

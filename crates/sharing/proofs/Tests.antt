@@ -1,4 +1,4 @@
--- Laws of the tests and stores below an office's calls, each over numbers and lists alone.
+-- Laws of the tests and stores below a tenant's calls, each over numbers and lists alone.
 use Prim.Native.Nat.{ℕ, _+_, _*_, _≤_, _<_}
 use mathlib.Core.Path.{_≡_, sym, ap, _∙_}
 use mathlib.Core.Logic.{_≢_}
@@ -11,7 +11,7 @@ use Rattle.base.specs.Tests.{_or_}
 use Rattle.base.proofs.Tests.{and-true, and-left, and-false, and-no, pick-true, pick-false, or-left}
 use Rattle.machine.specs.Plan.{Plan, tilesOf}
 use Rattle.machine.specs.Machine.{progressOnly, tilesLeft}
-use Rattle.tenants.specs.Offices.{lentOf, otherThan, stageAgrees, wordFor, fitWord, heldByOther}
+use Rattle.tenants.specs.Tenants.{tenantAreas, otherThan, stageAgrees, wordFor, fitWord, heldByOther}
 use Rattle.engine.specs.declared.core.Turned.{Turned}
 use Rattle.sharing.specs.Given.{wordsAfter}
 
@@ -38,7 +38,7 @@ module _ (holder o g : ℕ) where
 
 module _ (o : ℕ) (progress engaged theirs : List ℕ) (b : ℕ) where
   abbrev fits : Bool
-  fits = fitWord o (lentOf (progressOnly progress) engaged) theirs b
+  fits = fitWord o (tenantAreas (progressOnly progress) engaged) theirs b
 
   pub word-high : 2 < getD engaged b 0 → fits ≡ false
   unfolding fitWord
@@ -60,12 +60,12 @@ module _ (o : ℕ) (progress engaged theirs : List ℕ) (b : ℕ) where
 -- ---- line 19
 
 module _ (p : Plan) (o : ℕ) (progress engaged : List ℕ) (b : ℕ) where
-  pub held-over : length (tilesOf p b) ≤ getD progress (3 * b) 0 → false ≡ heldByOther p o (lentOf (progressOnly progress) engaged) b
+  pub held-over : length (tilesOf p b) ≤ getD progress (3 * b) 0 → false ≡ heldByOther p o (tenantAreas (progressOnly progress) engaged) b
   unfolding heldByOther tilesLeft
   held-over h = sym (and-false _ _ (le-ltb _ _ h))
 
   pub held-left : getD progress (3 * b) 0 < length (tilesOf p b) → (k : ℕ) → k ≡ otherThan o
-      → eqb (getD engaged b 0) k ≡ heldByOther p o (lentOf (progressOnly progress) engaged) b
+      → eqb (getD engaged b 0) k ≡ heldByOther p o (tenantAreas (progressOnly progress) engaged) b
   unfolding heldByOther tilesLeft
   held-left h k e = ap (eqb (getD engaged b 0)) e ∙ sym (and-left _ _ (lt-ltb _ _ h))
 

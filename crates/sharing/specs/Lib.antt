@@ -1,5 +1,5 @@
 pub mod Calls
 pub mod Given
 pub mod Demands
-pub mod look
-pub mod LookRows
+pub mod view
+pub mod ViewExamples

@@ -1,5 +1,5 @@
-// The calls for an office, each by the first true line, but for the stores into the records, as in engine's `core`: the records,
-// its own and the other office's, are read as words, and a turn gives its number and the record to be stored.
+// The calls for a tenant, each by the first true line, but for the stores into the records, as in engine's `core`: the records,
+// its own and the other tenant's, are read as words, and a turn gives its number and the record to be stored.
 ghost use mathlib.Core.Path.{_≡_};
 ghost use mathlib.Core.List.{List};
 ghost use Prim.Native.Nat.{ℕ, _+_, _*_, _<_};
@@ -8,16 +8,17 @@ ghost use Rattle.machine.specs.Machine.{stateOf, turn};
 ghost use Rattle.plan.specs.Shaped.{planOf};
 ghost use Rattle.layout.specs.Sizes.{Sized};
 ghost use Rattle.tables.specs.Tables.{Tabled};
-ghost use Rattle.records.specs.Records.{Carries};
+ghost use Rattle.records.specs.Records.{Flattens};
 ghost use Rattle.engine.specs.Calls.{answer};
 ghost use Rattle.engine.specs.Given.{MayTurn, recordsAfter, zerosAfter};
-ghost use Rattle.tenants.specs.Offices.{lentOf, rigOf, sourcesOf, wordFor};
-ghost use Rattle.sharing.specs.Calls.{turnCallFor, deliverCallFor, collectCallFor, freshRigCall};
+ghost use Rattle.tenants.specs.Tenants.{tenantAreas, sharingOf, sourcesOf, wordFor};
+ghost use Rattle.sharing.specs.Calls.{turnCallFor, deliverCallFor, collectCallFor, freshSharingCall};
 ghost use Rattle.sharing.specs.Given.{wordsAfter};
-use crate::admission::barred;
-use crate::admission::unfit;
-use crate::admission::unfit_both;
+use crate::admission::refusal_of_areas;
+use crate::admission::refusal_of_both;
+use crate::admission::refusal_of_turn;
 use base::fill_words;
+use base::refusals;
 use base::zero_bytes;
 use base::zero_words;
 use engine::core::Turned;
@@ -31,25 +32,26 @@ use recipe::open;
 use records::Flat;
 use stages::copy_cells;
 use stages::tiles_left;
+use tables::TABLE_WORDS;
 
-// The word that agrees with the stage of the office whose turn it was.
-fn word_for(office: u32, stage: u32) -> u32
-    ensures { λ r. ⌜ r ≡ wordFor office stage ⌝ }
+// The word that agrees with the stage of the tenant whose turn it was.
+fn word_for(tenant: u32, stage: u32) -> u32
+    ensures { λ r. ⌜ r ≡ wordFor tenant stage ⌝ }
 {
     if stage == 0 {
         return 2;
     }
-    office
+    tenant
 }
 
-// The shared word of processor b after its turn: the office's from the gather on, free once the tile is done.
-pub fn engage(engaged: &mut [u32], office: u32, b: usize, after: Turned)
+// The shared word of processor b after its turn: the tenant's from the gather on, free once the tile is done.
+pub fn engage(engaged: &mut [u32], tenant: u32, b: usize, after: Turned)
     requires { ⌜ b < length (now engaged) ⌝ }
-    ensures { λ _. ⌜ now (engaged .exit) ≡ wordsAfter (now (engaged .entry)) office b after ⌝ }
+    ensures { λ _. ⌜ now (engaged .exit) ≡ wordsAfter (now (engaged .entry)) tenant b after ⌝ }
 {
     let p = after.progress;
     if after.number == 0 {
-        engaged[b] = word_for(office, p.stage);
+        engaged[b] = word_for(tenant, p.stage);
     }
 }
 
@@ -57,20 +59,20 @@ pub fn engage(engaged: &mut [u32], office: u32, b: usize, after: Turned)
 pub fn step_for(
     nest: Nest,
     sizes: Sizes,
-    lens: &[u16; 9217],
+    lens: &[u16; TABLE_WORDS],
     source: &[u32],
     memories: &mut [u32],
     buffer: &mut [u32],
     progress: &[u32],
     status: &mut [u8],
     engaged: &mut [u32],
-    office: u32,
+    tenant: u32,
     b: usize,
 ) -> Turned
     requires { ⌜ Sized nest sizes × Tabled nest sizes (now lens) ⌝ }
     requires { ⌜ MayTurn (planOf (sizes .route) nest) (now source) (stateOf (now memories) (now buffer) (now progress) (now status)) b ⌝ }
     requires { ⌜ b < length (now engaged) ⌝ }
-    ensures { λ r. ⌜ (now (engaged .exit) ≡ wordsAfter (now (engaged .entry)) office b r)
+    ensures { λ r. ⌜ (now (engaged .exit) ≡ wordsAfter (now (engaged .entry)) tenant b r)
         × (answer (r .number) (stateOf (now (memories .exit)) (now (buffer .exit)) (recordsAfter (now (progress .entry)) b r) (now (status .exit)))
         ≡ turn (planOf (sizes .route) nest) (now (source .entry))
         (stateOf (now (memories .entry)) (now (buffer .entry)) (now (progress .entry)) (now (status .entry))) b) ⌝ }
@@ -86,11 +88,11 @@ pub fn step_for(
         status,
         b,
     );
-    engage(engaged, office, b, after);
+    engage(engaged, tenant, b, after);
     after
 }
 
-// One turn of a processor for an office.
+// One turn of a processor for a tenant.
 pub fn turn(
     encoded: &[u8],
     route: u32,
@@ -101,19 +103,19 @@ pub fn turn(
     status: &mut [u8],
     engaged: &mut [u32],
     theirs: Flat,
-    office: u32,
+    tenant: u32,
     processor: u32,
 ) -> Turned
     requires { ⌜ (length (progress .words) ≡ 192) × (length (theirs .words) ≡ 192) ⌝ }
-    ensures { λ r. ⌜ ((records others : List ℕ) → Carries progress records → Carries theirs others
+    ensures { λ r. ⌜ ((records others : List ℕ) → Flattens progress records → Flattens theirs others
         → answer (r .number)
-        (lentOf (stateOf (now (memories .exit)) (now (buffer .exit)) (recordsAfter records processor r) (now (status .exit)))
+        (tenantAreas (stateOf (now (memories .exit)) (now (buffer .exit)) (recordsAfter records processor r) (now (status .exit)))
         (now (engaged .exit)))
-        ≡ turnCallFor (now (encoded .entry)) route (now (source .entry)) office
-        (lentOf (stateOf (now (memories .entry)) (now (buffer .entry)) records (now (status .entry)))
+        ≡ turnCallFor (now (encoded .entry)) route (now (source .entry)) tenant
+        (tenantAreas (stateOf (now (memories .entry)) (now (buffer .entry)) records (now (status .entry)))
         (now (engaged .entry))) others processor) ⌝ }
 {
-    let mut lens = [0u16; 9217];
+    let mut lens = [0u16; TABLE_WORDS];
     let opening = open(encoded, route, &mut lens);
     let number = opening.number;
     if number != 0 {
@@ -122,7 +124,7 @@ pub fn turn(
     let nest = opening.nest;
     let sizes = opening.sizes;
     let b = processor as usize;
-    let n = barred(
+    let n = refusal_of_turn(
         nest,
         sizes,
         &lens,
@@ -133,7 +135,7 @@ pub fn turn(
         status,
         engaged,
         theirs,
-        office,
+        tenant,
         b,
     );
     if n != 0 {
@@ -151,7 +153,7 @@ pub fn turn(
         &words[0..count],
         status,
         engaged,
-        office,
+        tenant,
         b,
     )
 }
@@ -167,7 +169,7 @@ pub fn store_after(progress: &mut [u32], processor: u32, after: Turned)
     }
 }
 
-// The delivery of a message for an office.
+// The delivery of a message for a tenant.
 pub fn deliver(
     encoded: &[u8],
     route: u32,
@@ -178,17 +180,17 @@ pub fn deliver(
     status: &mut [u8],
     engaged: &[u32],
     theirs: Flat,
-    office: u32,
+    tenant: u32,
     message: u32,
 ) -> u32
     requires { ⌜ (length (progress .words) ≡ 192) × (length (theirs .words) ≡ 192) ⌝ }
-    ensures { λ r. ⌜ ((records others : List ℕ) → Carries progress records → Carries theirs others
-        → answer r (lentOf (stateOf (now (memories .entry)) (now (buffer .entry)) records (now (status .exit))) (now (engaged .entry)))
-        ≡ deliverCallFor (now (encoded .entry)) route (now (source .entry)) office
-        (lentOf (stateOf (now (memories .entry)) (now (buffer .entry)) records (now (status .entry)))
+    ensures { λ r. ⌜ ((records others : List ℕ) → Flattens progress records → Flattens theirs others
+        → answer r (tenantAreas (stateOf (now (memories .entry)) (now (buffer .entry)) records (now (status .exit))) (now (engaged .entry)))
+        ≡ deliverCallFor (now (encoded .entry)) route (now (source .entry)) tenant
+        (tenantAreas (stateOf (now (memories .entry)) (now (buffer .entry)) records (now (status .entry)))
         (now (engaged .entry))) others message) ⌝ }
 {
-    let mut lens = [0u16; 9217];
+    let mut lens = [0u16; TABLE_WORDS];
     let opening = open(encoded, route, &mut lens);
     let number = opening.number;
     if number != 0 {
@@ -196,7 +198,7 @@ pub fn deliver(
     }
     let nest = opening.nest;
     let sizes = opening.sizes;
-    let n = unfit(
+    let n = refusal_of_areas(
         nest,
         sizes,
         &lens,
@@ -207,7 +209,7 @@ pub fn deliver(
         status,
         engaged,
         theirs,
-        office,
+        tenant,
     );
     if n != 0 {
         return n;
@@ -215,7 +217,7 @@ pub fn deliver(
     hand_over(status, message)
 }
 
-// An office's grid, once all processors have finished for it.
+// A tenant's grid, once all processors have finished for it.
 pub fn collect(
     encoded: &[u8],
     route: u32,
@@ -226,17 +228,17 @@ pub fn collect(
     status: &[u8],
     engaged: &[u32],
     theirs: Flat,
-    office: u32,
+    tenant: u32,
     grid: &mut [u32],
 ) -> u32
     requires { ⌜ (length (progress .words) ≡ 192) × (length (theirs .words) ≡ 192) ⌝ }
-    ensures { λ r. ⌜ ((records others : List ℕ) → Carries progress records → Carries theirs others
+    ensures { λ r. ⌜ ((records others : List ℕ) → Flattens progress records → Flattens theirs others
         → answer r (now (grid .exit))
-        ≡ collectCallFor (now (encoded .entry)) route (now (source .entry)) office
-        (lentOf (stateOf (now (memories .entry)) (now (buffer .entry)) records (now (status .entry)))
+        ≡ collectCallFor (now (encoded .entry)) route (now (source .entry)) tenant
+        (tenantAreas (stateOf (now (memories .entry)) (now (buffer .entry)) records (now (status .entry)))
         (now (engaged .entry))) others (now (grid .entry))) ⌝ }
 {
-    let mut lens = [0u16; 9217];
+    let mut lens = [0u16; TABLE_WORDS];
     let opening = open(encoded, route, &mut lens);
     let number = opening.number;
     if number != 0 {
@@ -245,9 +247,9 @@ pub fn collect(
     let nest = opening.nest;
     let sizes = opening.sizes;
     if grid.len() != sizes.cells {
-        return 9;
+        return refusals::AREA;
     }
-    let n = unfit(
+    let n = refusal_of_areas(
         nest,
         sizes,
         &lens,
@@ -258,7 +260,7 @@ pub fn collect(
         status,
         engaged,
         theirs,
-        office,
+        tenant,
     );
     if n != 0 {
         return n;
@@ -266,13 +268,13 @@ pub fn collect(
     let words = progress.words;
     let count = progress.count;
     if tiles_left(nest, sizes, &lens, &words[0..count]) {
-        return 15;
+        return refusals::EARLY;
     }
     copy_cells(nest, sizes, memories, grid);
     0
 }
 
-// One office's memories, buffer and marks.
+// One tenant's memories, buffer and marks.
 fn clear(memories: &mut [u32], buffer: &mut [u32], status: &mut [u8])
     ensures { λ _. ⌜ (now (memories .exit) ≡ replicate (length (now (memories .entry))) 0)
         × ((now (buffer .exit) ≡ replicate (length (now (buffer .entry))) 0)
@@ -283,7 +285,7 @@ fn clear(memories: &mut [u32], buffer: &mut [u32], status: &mut [u8])
     zero_bytes(status);
 }
 
-// A fresh start of both offices together, but for the records, which have `words0` and `words1` words.
+// A fresh start of both tenants together, but for the records, which have `words0` and `words1` words.
 pub fn fresh(
     encoded: &[u8],
     route: u32,
@@ -300,13 +302,13 @@ pub fn fresh(
     engaged: &mut [u32],
 ) -> u32
     ensures { λ r. ⌜ ((records others : List ℕ) → words0 ≡ length records → words1 ≡ length others
-        → answer r (rigOf (stateOf (now (memories0 .exit)) (now (buffer0 .exit)) (zerosAfter records r) (now (status0 .exit)))
+        → answer r (sharingOf (stateOf (now (memories0 .exit)) (now (buffer0 .exit)) (zerosAfter records r) (now (status0 .exit)))
         (stateOf (now (memories1 .exit)) (now (buffer1 .exit)) (zerosAfter others r) (now (status1 .exit))) (now (engaged .exit)))
-        ≡ freshRigCall (now (encoded .entry)) route (sourcesOf (now (source0 .entry)) (now (source1 .entry)))
-        (rigOf (stateOf (now (memories0 .entry)) (now (buffer0 .entry)) records (now (status0 .entry)))
+        ≡ freshSharingCall (now (encoded .entry)) route (sourcesOf (now (source0 .entry)) (now (source1 .entry)))
+        (sharingOf (stateOf (now (memories0 .entry)) (now (buffer0 .entry)) records (now (status0 .entry)))
         (stateOf (now (memories1 .entry)) (now (buffer1 .entry)) others (now (status1 .entry))) (now (engaged .entry)))) ⌝ }
 {
-    let number = unfit_both(
+    let number = refusal_of_both(
         encoded,
         route,
         source0,
@@ -330,7 +332,7 @@ pub fn fresh(
     0
 }
 
-// The words of an office's records after a fresh start that gave this number.
+// The words of a tenant's records after a fresh start that gave this number.
 pub fn clear_records(progress: &mut [u32], number: u32)
     ensures { λ _. ⌜ now (progress .exit) ≡ zerosAfter (now (progress .entry)) number ⌝ }
 {

@@ -1,18 +1,18 @@
-// The calls for one of two offices on one rig (W-208), for programs, which keep the records as words, three a processor.
+// The calls for one of two tenants on the same processors (W-208), for programs, which keep the records as words, three a processor.
 // The rules of engaging and freeing a processor are crate `tenants`'; the stages are the engine's.
 ghost use mathlib.Core.Path.{_≡_};
 ghost use Rattle.machine.specs.Machine.{stateOf};
-ghost use Rattle.tenants.specs.Offices.{lentOf, rigOf, sourcesOf};
+ghost use Rattle.tenants.specs.Tenants.{tenantAreas, sharingOf, sourcesOf};
 ghost use Rattle.engine.specs.Calls.{answer};
-ghost use Rattle.sharing.specs.Calls.{turnCallFor, deliverCallFor, collectCallFor, freshRigCall};
+ghost use Rattle.sharing.specs.Calls.{turnCallFor, deliverCallFor, collectCallFor, freshSharingCall};
 
 pub mod admission; // admission.rt: what a call tests first, past the recipe's lines
 pub mod core; // core.rt: the calls without the stores into the records
-pub mod look; // look.rt: the look at a processor's memory, lent both offices' memories and nothing else
+pub mod view; // view.rt: the view at a processor's memory, lent both tenants' memories and nothing else
 
 use records::flat_of;
 
-// A fresh start of both offices together: each one's areas, and the shared words.
+// A fresh start of both tenants together: each one's areas, and the shared words.
 pub fn fresh(
     encoded: &[u8],
     route: u32,
@@ -28,10 +28,10 @@ pub fn fresh(
     status1: &mut [u8],
     engaged: &mut [u32],
 ) -> u32
-    ensures { λ r. ⌜ answer r (rigOf (stateOf (now (memories0 .exit)) (now (buffer0 .exit)) (now (progress0 .exit)) (now (status0 .exit)))
+    ensures { λ r. ⌜ answer r (sharingOf (stateOf (now (memories0 .exit)) (now (buffer0 .exit)) (now (progress0 .exit)) (now (status0 .exit)))
         (stateOf (now (memories1 .exit)) (now (buffer1 .exit)) (now (progress1 .exit)) (now (status1 .exit))) (now (engaged .exit)))
-        ≡ freshRigCall (now (encoded .entry)) route (sourcesOf (now (source0 .entry)) (now (source1 .entry)))
-        (rigOf (stateOf (now (memories0 .entry)) (now (buffer0 .entry)) (now (progress0 .entry)) (now (status0 .entry)))
+        ≡ freshSharingCall (now (encoded .entry)) route (sourcesOf (now (source0 .entry)) (now (source1 .entry)))
+        (sharingOf (stateOf (now (memories0 .entry)) (now (buffer0 .entry)) (now (progress0 .entry)) (now (status0 .entry)))
         (stateOf (now (memories1 .entry)) (now (buffer1 .entry)) (now (progress1 .entry)) (now (status1 .entry)))
         (now (engaged .entry))) ⌝ }
 {
@@ -55,7 +55,7 @@ pub fn fresh(
     number
 }
 
-// One turn of a processor for an office; `theirs` are the other office's records.
+// One turn of a processor for a tenant; `theirs` are the other tenant's records.
 pub fn turn(
     encoded: &[u8],
     route: u32,
@@ -66,13 +66,13 @@ pub fn turn(
     status: &mut [u8],
     engaged: &mut [u32],
     theirs: &[u32],
-    office: u32,
+    tenant: u32,
     processor: u32,
 ) -> u32
     ensures { λ r. ⌜ answer r
-        (lentOf (stateOf (now (memories .exit)) (now (buffer .exit)) (now (progress .exit)) (now (status .exit))) (now (engaged .exit)))
-        ≡ turnCallFor (now (encoded .entry)) route (now (source .entry)) office
-        (lentOf (stateOf (now (memories .entry)) (now (buffer .entry)) (now (progress .entry)) (now (status .entry)))
+        (tenantAreas (stateOf (now (memories .exit)) (now (buffer .exit)) (now (progress .exit)) (now (status .exit))) (now (engaged .exit)))
+        ≡ turnCallFor (now (encoded .entry)) route (now (source .entry)) tenant
+        (tenantAreas (stateOf (now (memories .entry)) (now (buffer .entry)) (now (progress .entry)) (now (status .entry)))
         (now (engaged .entry))) (now (theirs .entry)) processor ⌝ }
 {
     let after = core::turn(
@@ -85,14 +85,14 @@ pub fn turn(
         status,
         engaged,
         flat_of(theirs),
-        office,
+        tenant,
         processor,
     );
     core::store_after(progress, processor, after);
     after.number
 }
 
-// The delivery of a message for an office.
+// The delivery of a message for a tenant.
 pub fn deliver(
     encoded: &[u8],
     route: u32,
@@ -103,13 +103,13 @@ pub fn deliver(
     status: &mut [u8],
     engaged: &[u32],
     theirs: &[u32],
-    office: u32,
+    tenant: u32,
     message: u32,
 ) -> u32
     ensures { λ r. ⌜ answer r
-        (lentOf (stateOf (now (memories .entry)) (now (buffer .entry)) (now (progress .entry)) (now (status .exit))) (now (engaged .entry)))
-        ≡ deliverCallFor (now (encoded .entry)) route (now (source .entry)) office
-        (lentOf (stateOf (now (memories .entry)) (now (buffer .entry)) (now (progress .entry)) (now (status .entry)))
+        (tenantAreas (stateOf (now (memories .entry)) (now (buffer .entry)) (now (progress .entry)) (now (status .exit))) (now (engaged .entry)))
+        ≡ deliverCallFor (now (encoded .entry)) route (now (source .entry)) tenant
+        (tenantAreas (stateOf (now (memories .entry)) (now (buffer .entry)) (now (progress .entry)) (now (status .entry)))
         (now (engaged .entry))) (now (theirs .entry)) message ⌝ }
 {
     core::deliver(
@@ -122,12 +122,12 @@ pub fn deliver(
         status,
         engaged,
         flat_of(theirs),
-        office,
+        tenant,
         message,
     )
 }
 
-// An office's grid, once all processors have finished for it.
+// A tenant's grid, once all processors have finished for it.
 pub fn collect(
     encoded: &[u8],
     route: u32,
@@ -138,12 +138,12 @@ pub fn collect(
     status: &[u8],
     engaged: &[u32],
     theirs: &[u32],
-    office: u32,
+    tenant: u32,
     grid: &mut [u32],
 ) -> u32
     ensures { λ r. ⌜ answer r (now (grid .exit))
-        ≡ collectCallFor (now (encoded .entry)) route (now (source .entry)) office
-        (lentOf (stateOf (now (memories .entry)) (now (buffer .entry)) (now (progress .entry)) (now (status .entry)))
+        ≡ collectCallFor (now (encoded .entry)) route (now (source .entry)) tenant
+        (tenantAreas (stateOf (now (memories .entry)) (now (buffer .entry)) (now (progress .entry)) (now (status .entry)))
         (now (engaged .entry))) (now (theirs .entry)) (now (grid .entry)) ⌝ }
 {
     core::collect(
@@ -156,7 +156,7 @@ pub fn collect(
         status,
         engaged,
         flat_of(theirs),
-        office,
+        tenant,
         grid,
     )
 }

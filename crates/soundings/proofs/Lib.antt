@@ -1,4 +1,4 @@
 pub mod Best
 pub mod Sifting
 pub mod Returns
-pub mod Rows
+pub mod Examples

@@ -1,4 +1,4 @@
 pub mod Soundings
 pub mod Ground
 pub mod Sifting
-pub mod Rows
+pub mod Examples

@@ -11,6 +11,7 @@ ghost use Rattle.machine.specs.Machine.{answered};
 ghost use Rattle.nest.specs.Reader.{records};
 ghost use Rattle.soundings.specs.Soundings.{cellOf, soundedSource, raggedFile, offBox, filled, fillCall};
 ghost use Rattle.soundings.specs.Sifting.{depthIn, Zeros, Blank, Sifted, Noted};
+use base::refusals;
 use base::word_at;
 use base::word_index;
 
@@ -64,7 +65,7 @@ fn sift(file: &[u8], size: usize, best: &mut [u32; 49152]) -> bool
     let n = file.len() / 16;
     for r in 0..n {
         let cell = cell_of(file, r);
-        if surveys::outside(cell, size) {
+        if surveys::beyond_box(cell, size) {
             return true;
         }
         note(file, r, cell, best);
@@ -92,7 +93,7 @@ fn fill_source(file: &[u8], value: u32, source: &mut [u32]) -> u32
     let mut best = [0u32; 49152];
     set_out(value, size, &mut best);
     if sift(file, size, &mut best) {
-        return 22;
+        return refusals::OFF_THE_BOX;
     }
     copy(&best, source);
     0
@@ -114,7 +115,7 @@ pub fn fill(encoded: &[u8], file: &[u8], value: u32, source: &mut [u32]) -> u32
     let lengths = nest.lengths;
     let size = layout::product(lengths, nest.dimensions);
     if source.len() != size {
-        return 9;
+        return refusals::AREA;
     }
     fill_source(file, value, source)
 }

@@ -20,7 +20,7 @@ pub fn counts(day: u32, survey: u32, old_day: u32, old_survey: u32) -> bool
 }
 
 // Whether a cell lies outside a box of so many.
-pub fn outside(cell: usize, size: usize) -> bool
+pub fn beyond_box(cell: usize, size: usize) -> bool
     ensures { λ r. ⌜ r ≡ leb size cell ⌝ }
 {
     size <= cell

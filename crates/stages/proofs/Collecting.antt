@@ -9,7 +9,7 @@ use lib.ListN.{length, getD, take, drop}
 use lib.Seq.{getD-take, getD-drop}
 use borrow.Rule.Slice.PartMut.{putMid}
 use Rattle.base.specs.Tests.{pick}
-use Rattle.base.specs.Lists.{part, put}
+use Rattle.base.specs.Lists.{sublist, put}
 use Rattle.base.proofs.Lists.{length-put, part-length, part-put-same, part-put-before}
 use Rattle.machine.specs.Machine.{stateOf, collected}
 use Rattle.nest.specs.declared.Nest.{Nest}
@@ -62,13 +62,13 @@ module _ (x : Nest) (ok : Accepted x) (c : ℕ) (begins : c % rowLength x ≡ 0)
 
 -- ---- words
 
-at-part : (l : List ℕ) (i n k : ℕ) → k < n → getD (part l i n) k 0 ≡ getD l (i + k) 0
-unfolding part
+at-part : (l : List ℕ) (i n k : ℕ) → k < n → getD (sublist l i n) k 0 ≡ getD l (i + k) 0
+unfolding sublist
 at-part l i n k h = getD-take n (drop i l) k 0 h ∙ getD-drop i l k 0
 
 -- the word of cell c in the memory of its tile's processor
 abbrev pub cellWord : Nest → List ℕ → ℕ → ℕ
-cellWord x memories c = getD (part memories (processorOf x (boxTileOf x c) * cells x) (cells x)) c 0
+cellWord x memories c = getD (sublist memories (processorOf x (boxTileOf x c) * cells x) (cells x)) c 0
 
 cell-word : (x : Nest) (memories : List ℕ) (c b : ℕ) → c < cells x → b ≡ processorOf x (boxTileOf x c)
     → getD memories (b * cells x + c) 0 ≡ cellWord x memories c
@@ -81,7 +81,7 @@ module _ (f : ℕ → ℕ) (old new s : List ℕ) (c : ℕ) (g : Stored f old ne
   before j h =
       sym (front (put new c s)) ∙ ap (λ (z : List ℕ). getD z j 0) (part-put-before new c s fits 0 c (omega arith)) ∙ front new ∙ g .each j h
     where
-      front : (l : List ℕ) → getD (part l 0 c) j 0 ≡ getD l j 0
+      front : (l : List ℕ) → getD (sublist l 0 c) j 0 ≡ getD l j 0
       front l = at-part l 0 c j h ∙ ap (λ (i : ℕ). getD l i 0) (zero-add j)
 
   within : (y : ℕ) → y < length s → getD (put new c s) (c + y) 0 ≡ f (c + y)
@@ -130,7 +130,7 @@ row-at {x} {z} {memories} {old} {new} {c} {b} s long g l h =
 
 module _ {x : Nest} {memories old new : List ℕ} {c b k : ℕ} (g : Copied x memories old new c) (r : Row x memories new c b k) where
   abbrev words : List ℕ
-  words = part memories (b * k + c) (rowLength x)
+  words = sublist memories (b * k + c) (rowLength x)
 
   words-long : length words ≡ rowLength x
   words-long = part-length memories (b * k + c) (rowLength x) (r .room)

@@ -11,7 +11,7 @@ use lib.Seq.{drop-cons}
 use lib.Dec.{eqb}
 use borrow.Author.Tests.{eq-eqb, ne-eqb}
 use borrow.Rule.Slice.PartMut.{putMid}
-use Rattle.base.specs.Lists.{part, put, setAll, allAt, unpack, pack}
+use Rattle.base.specs.Lists.{sublist, put, setAll, allAt, unpack, pack}
 use Rattle.base.proofs.Tests.{and-left, and-false}
 use Rattle.base.proofs.Lists.{part-length, piece-fits}
 use Rattle.machine.specs.Plan.{Plan, offset, words, heldBy, duesOf}
@@ -19,13 +19,13 @@ use Rattle.machine.specs.Machine.{placeOf, unpackAll}
 use Rattle.nest.specs.declared.Nest.{Nest}
 use Rattle.plan.specs.declared.Route.{Route}
 use Rattle.plan.specs.Shaped.{planOf}
-use Rattle.tables.specs.declared.scans.Place.{Place}
+use Rattle.tables.specs.declared.scans.MessageSlot.{MessageSlot}
 use Rattle.tables.specs.Tables.{FoundIn}
 
 -- ---- parts
 
-pub mid-is : (l : List ℕ) (a k : ℕ) → take (a + k - a) (drop a l) ≡ part l a k
-unfolding part
+pub mid-is : (l : List ℕ) (a k : ℕ) → take (a + k - a) (drop a l) ≡ sublist l a k
+unfolding sublist
 mid-is l a k = let e : a + k - a ≡ k = omega arith in rw e
 
 pub mid-length : (l : List ℕ) (a k : ℕ) → a + k ≤ length l → length (take (a + k - a) (drop a l)) ≡ k
@@ -37,14 +37,14 @@ put-is l ys a k e = let z : a + k - a ≡ length ys = omega arith in rw z
 
 -- a lent part that comes back as f of it
 pub back : (l ys : List ℕ) (f : List ℕ → List ℕ) (a k : ℕ) → a + k ≤ length l → length ys ≡ length (take (a + k - a) (drop a l))
-    → ys ≡ f (take (a + k - a) (drop a l)) → putMid a (a + k - a) l ys ≡ put l a (f (part l a k))
+    → ys ≡ f (take (a + k - a) (drop a l)) → putMid a (a + k - a) l ys ≡ put l a (f (sublist l a k))
 back l ys f a k h n e = put-is l ys a k (n ∙ mid-length l a k h) ∙ ap (put l a) (e ∙ ap f (mid-is l a k))
 
 -- the same of piece b of pieces as long as n, which the code has as c
 pub piece-back : (l ys : List ℕ) (f : List ℕ → List ℕ) (b c n : ℕ) → c ≡ n → b * c + c ≤ length l
     → length ys ≡ length (take (b * c + c - b * c) (drop (b * c) l)) → ys ≡ f (take (b * c + c - b * c) (drop (b * c) l))
-    → putMid (b * c) (b * c + c - b * c) l ys ≡ put l (b * n) (f (part l (b * n) n))
-piece-back l ys f b c n e h k q = back l ys f (b * c) c h k q ∙ ap (λ (i : ℕ). put l (b * i) (f (part l (b * i) i))) e
+    → putMid (b * c) (b * c + c - b * c) l ys ≡ put l (b * n) (f (sublist l (b * n) n))
+piece-back l ys f b c n e h k q = back l ys f (b * c) c h k q ∙ ap (λ (i : ℕ). put l (b * i) (f (sublist l (b * i) i))) e
 
 pub room : (n b c m l : ℕ) → b < n → c ≡ m → l ≡ n * m → b * c + c ≤ l
 room n b c m l h e q = rw (q, e) (piece-fits m n b h)
@@ -87,11 +87,11 @@ module _ (route : Route) (x : Nest) where
   abbrev p : Plan
   p = planOf route x
 
-  module _ (m : ℕ) (r : Place) (q : FoundIn route x m r) where
+  module _ (m : ℕ) (r : MessageSlot) (q : FoundIn route x m r) where
     pub placed-self : FoundIn route x (r .number) r
     placed-self = subst (λ (k : ℕ). FoundIn route x k r) (sym (q .number)) q
 
-    place-is : (buffer : List ℕ) → placeOf p buffer m ≡ part buffer (r .offset) (r .words)
+    place-is : (buffer : List ℕ) → placeOf p buffer m ≡ sublist buffer (r .offset) (r .words)
     place-is buffer = rw (← q .offset, ← q .words)
 
     pub mid-words : (buffer : List ℕ) → length buffer ≡ words p
@@ -124,7 +124,7 @@ module _ (route : Route) (x : Nest) where
     pub gather-start : m ≡ length (duesOf p tile) → Gathering tile buffer memory₀ status₀ memory₀ status₀ m 0
     gather-start e = record { low = omega arith; all = e; long = refl; longStatus = refl; memories = refl; statuses = refl }
 
-    pub gather-again : (memory memory′ status : List ℕ) (j : ℕ) (r : Place) → Gathering tile buffer memory₀ status₀ memory status m j → j < m
+    pub gather-again : (memory memory′ status : List ℕ) (j : ℕ) (r : MessageSlot) → Gathering tile buffer memory₀ status₀ memory status m j → j < m
         → FoundIn route x (getD (duesOf p tile) j 0) r → length memory′ ≡ length memory
         → memory′ ≡ unpack memory (heldBy p (r .number)) (placeOf p buffer (r .number))
         → Gathering tile buffer memory₀ status₀ memory′ (set status (r .number) 3) m (j + 1)
@@ -157,7 +157,7 @@ module _ (route : Route) (x : Nest) where
     pub is : allAt status 2 (drop j (duesOf p tile)) ≡ allAt status 2 (duesOf p tile)
 
   module _ (tile : ℕ) (status : List ℕ) (m j : ℕ) (g : Looking tile status m j) where
-    pub look-again : (r : Place) → j < m → FoundIn route x (getD (duesOf p tile) j 0) r → getD status (r .number) 0 ≡ 2 → Looking tile status m (j + 1)
+    pub look-again : (r : MessageSlot) → j < m → FoundIn route x (getD (duesOf p tile) j 0) r → getD status (r .number) 0 ≡ 2 → Looking tile status m (j + 1)
     look-again r l q e =
         record {
           low = omega arith;
@@ -165,7 +165,7 @@ module _ (route : Route) (x : Nest) where
           is = all-turn (duesOf p tile) j status 2 (omega (arith, g .all)) (ap (λ (i : ℕ). getD status i 0) (sym (q .number)) ∙ e) ∙ g .is;
         }
 
-    pub look-no : (r : Place) → j < m → FoundIn route x (getD (duesOf p tile) j 0) r → getD status (r .number) 0 ≢ 2
+    pub look-no : (r : MessageSlot) → j < m → FoundIn route x (getD (duesOf p tile) j 0) r → getD status (r .number) 0 ≢ 2
         → false ≡ allAt status 2 (duesOf p tile)
     look-no r l q e =
         sym (all-no (duesOf p tile) j status 2 (omega (arith, g .all)) (λ z. e (ap (λ (i : ℕ). getD status i 0) (q .number) ∙ z))) ∙ g .is

@@ -19,7 +19,7 @@ use Rattle.nest.specs.declared.Nest.{Nest}
 use Rattle.nest.specs.Nest.{cells}
 use Rattle.plan.specs.declared.Route.{Route}
 use Rattle.plan.specs.Shaped.{planOf}
-use Rattle.tables.specs.declared.scans.Place.{Place}
+use Rattle.tables.specs.declared.scans.MessageSlot.{MessageSlot}
 use Rattle.tables.specs.Tables.{FoundIn}
 use Rattle.stages.specs.Progress.{progressOnly}
 use Rattle.stages.proofs.Parts.{piece-back, mid-is}
@@ -50,7 +50,7 @@ module _ (route : Route) (x : Nest) where
     calculated source ys progress n h l q c g =
         rw (g, c, piece-back (s .memories) ys (λ z. storeAll (p .value source) z (p .cellsOf t)) b k (cells x) e h l q)
 
-    pub sent-is : (sent n : ℕ) (r : Place) (ys progress : List ℕ) → sent ≡ sentOf s b → sent < length (sendsOf p t)
+    pub sent-is : (sent n : ℕ) (r : MessageSlot) (ys progress : List ℕ) → sent ≡ sentOf s b → sent < length (sendsOf p t)
         → FoundIn route x (getD (sendsOf p t) sent 0) r → n ≡ length (sendsOf p t)
         → ys ≡ put (s .buffer) (offset (p .messages) (r .number))
         (pack (take (b * k + k - b * k) (drop (b * k) (s .memories))) (heldBy p (r .number)))

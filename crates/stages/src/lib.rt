@@ -21,10 +21,11 @@ use layout::processor_of;
 use layout::tile_of;
 use nest::Nest;
 use records::Progress;
+use tables::TABLE_WORDS;
 use tables::count_at;
 use tables::nth_at;
 use tables::pack;
-use tables::scans::Place;
+use tables::scans::MessageSlot;
 use tables::tile_at;
 use tables::tile_count;
 use tables::unpack;
@@ -33,10 +34,10 @@ use tables::unpack;
 pub fn take_message(
     nest: Nest,
     sizes: Sizes,
-    lens: &[u16; 9217],
+    lens: &[u16; TABLE_WORDS],
     memory: &mut [u32],
     buffer: &[u32],
-    place: Place,
+    place: MessageSlot,
 )
     requires { ⌜ Sized nest sizes × (Tabled nest sizes (now lens) × FoundIn (sizes .route) nest (place .number) place) ⌝ }
     requires { ⌜ (length (now memory) ≡ cells nest) × (length (now buffer) ≡ words (planOf (sizes .route) nest)) ⌝ }
@@ -53,7 +54,7 @@ pub fn take_message(
 fn gather(
     nest: Nest,
     sizes: Sizes,
-    lens: &[u16; 9217],
+    lens: &[u16; TABLE_WORDS],
     memory: &mut [u32],
     buffer: &[u32],
     status: &mut [u8],
@@ -78,7 +79,13 @@ fn gather(
 }
 
 // All messages due at the tile are delivered.
-pub fn ready(nest: Nest, sizes: Sizes, lens: &[u16; 9217], status: &[u8], tile: usize) -> bool
+pub fn ready(
+    nest: Nest,
+    sizes: Sizes,
+    lens: &[u16; TABLE_WORDS],
+    status: &[u8],
+    tile: usize,
+) -> bool
     requires { ⌜ Sized nest sizes × (Tabled nest sizes (now lens) × (tile < planOf (sizes .route) nest .tiles)) ⌝ }
     requires { ⌜ length (now status) ≡ count (planOf (sizes .route) nest) ⌝ }
     ensures { λ r. ⌜ r ≡ allAt (now (status .entry)) 2 (duesOf (planOf (sizes .route) nest) tile) ⌝ }
@@ -100,7 +107,7 @@ pub fn ready(nest: Nest, sizes: Sizes, lens: &[u16; 9217], status: &[u8], tile: 
 pub fn gather_stage(
     nest: Nest,
     sizes: Sizes,
-    lens: &[u16; 9217],
+    lens: &[u16; TABLE_WORDS],
     memories: &mut [u32],
     buffer: &[u32],
     status: &mut [u8],
@@ -157,7 +164,7 @@ pub fn next_record(finished: u32, sent: usize, n: usize) -> Progress
 pub fn calculate(
     nest: Nest,
     sizes: Sizes,
-    lens: &[u16; 9217],
+    lens: &[u16; TABLE_WORDS],
     source: &[u32],
     memory: &mut [u32],
     tile: usize,
@@ -179,7 +186,7 @@ pub fn calculate(
 pub fn calculate_stage(
     nest: Nest,
     sizes: Sizes,
-    lens: &[u16; 9217],
+    lens: &[u16; TABLE_WORDS],
     source: &[u32],
     memories: &mut [u32],
     processor: usize,
@@ -204,10 +211,10 @@ pub fn calculate_stage(
 pub fn put_message(
     nest: Nest,
     sizes: Sizes,
-    lens: &[u16; 9217],
+    lens: &[u16; TABLE_WORDS],
     memory: &[u32],
     buffer: &mut [u32],
-    place: Place,
+    place: MessageSlot,
 )
     requires { ⌜ Sized nest sizes × (Tabled nest sizes (now lens) × FoundIn (sizes .route) nest (place .number) place) ⌝ }
     requires { ⌜ (length (now memory) ≡ cells nest) × (length (now buffer) ≡ words (planOf (sizes .route) nest)) ⌝ }
@@ -224,7 +231,7 @@ pub fn put_message(
 pub fn send_stage(
     nest: Nest,
     sizes: Sizes,
-    lens: &[u16; 9217],
+    lens: &[u16; TABLE_WORDS],
     memories: &[u32],
     buffer: &mut [u32],
     status: &mut [u8],
@@ -257,7 +264,7 @@ pub fn send_stage(
 fn fit_record(
     nest: Nest,
     sizes: Sizes,
-    lens: &[u16; 9217],
+    lens: &[u16; TABLE_WORDS],
     progress: &[u32],
     processor: usize,
 ) -> bool
@@ -289,7 +296,7 @@ fn fit_record(
 }
 
 // All records are fit.
-pub fn fit_records(nest: Nest, sizes: Sizes, lens: &[u16; 9217], progress: &[u32]) -> bool
+pub fn fit_records(nest: Nest, sizes: Sizes, lens: &[u16; TABLE_WORDS], progress: &[u32]) -> bool
     requires { ⌜ Sized nest sizes × (Tabled nest sizes (now lens) × (length (now progress) ≡ 3 * processors nest)) ⌝ }
     ensures { λ r. ⌜ r ≡ every (fitRecord (planOf (sizes .route) nest) (progressOnly (now (progress .entry)))) (processors nest) ⌝ }
 {
@@ -319,7 +326,7 @@ pub fn fit_status(status: &[u8]) -> bool
 }
 
 // Some processor has tiles left.
-pub fn tiles_left(nest: Nest, sizes: Sizes, lens: &[u16; 9217], progress: &[u32]) -> bool
+pub fn tiles_left(nest: Nest, sizes: Sizes, lens: &[u16; TABLE_WORDS], progress: &[u32]) -> bool
     requires { ⌜ Sized nest sizes × (Tabled nest sizes (now lens) × (length (now progress) ≡ 3 * processors nest)) ⌝ }
     ensures { λ r. ⌜ r ≡ some (tilesLeft (planOf (sizes .route) nest) (progressOnly (now (progress .entry)))) (processors nest) ⌝ }
 {

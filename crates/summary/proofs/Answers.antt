@@ -28,7 +28,7 @@ use Rattle.plan.specs.Messages.{two, directions, ahead, ways, slotTile, slotDir
 use Rattle.plan.specs.Shaped.{boxTile, shapedParcel, slotBox, shapedSlotTaker, shapedHome, shapedSlotParcel, planOf}
 use Rattle.conformance.specs.ExactShape.{standsAt}
 use Rattle.plan.specs.Hops.{hops}
-use Rattle.conformance.specs.Rows.{refused, figuresIf}
+use Rattle.conformance.specs.Examples.{refused, figuresIf}
 use Rattle.plan.proofs.Slots.{full-in, parcel-cells, unless-in}
 use Rattle.plan.proofs.Parcels.{slotTile-low, slotDirection-low, slotDirection-pos}
 use Rattle.conformance.proofs.Ways.{slot-cells, slot-to, taker-at}
@@ -37,11 +37,12 @@ use Rattle.plan.proofs.ShapedSlots.{shapedDirection-low}
 use Rattle.plan.proofs.ShapedBox.{boxTile-is, planOf-box}
 use Rattle.plan.proofs.ShapedSound.{sound}
 use Rattle.layout.specs.declared.Sizes.{Sizes}
-use Rattle.layout.specs.Sizes.{Sized, endAt, routeOf}
+use Rattle.layout.specs.Sizes.{Sized, endAt}
+use Rattle.layout.specs.RouteWords.{routeOf}
 use Rattle.recipe.specs.Routes.{linesFor}
 use Rattle.recipe.specs.Given.{Opened}
 use Rattle.recipe.proofs.Laws.{numbered-for, direct-lines}
-use Rattle.tables.specs.declared.scans.Place.{Place}
+use Rattle.tables.specs.declared.scans.MessageSlot.{MessageSlot}
 use Rattle.tables.proofs.boxes.Scans as boxes
 use Rattle.tables.proofs.shaped_table.Laws as shapes
 use Rattle.tables.specs.Tables.{FoundIn}
@@ -50,7 +51,7 @@ use Rattle.summary.specs.Summary.{directionOf, Directed, noHops, hopsIf,
 
 -- ---- the line of a message
 
-module _ (r : Route) (n : Nest) (m : ℕ) (at : Place) (a : Accepted n) (p : FoundIn r n m at) where
+module _ (r : Route) (n : Nest) (m : ℕ) (at : MessageSlot) (a : Accepted n) (p : FoundIn r n m at) where
   pub found-self : FoundIn r n (at .number) at
   found-self = subst (λ (k : ℕ). FoundIn r n k at) (sym (p .number)) p
 
@@ -147,7 +148,7 @@ directed n =
     }
 
 -- without bounds, and with them
-module _ (n : Nest) (m : ℕ) (at : Place) (a : Accepted n) (p : FoundIn Direct n m at) where
+module _ (n : Nest) (m : ℕ) (at : MessageSlot) (a : Accepted n) (p : FoundIn Direct n m at) where
   abbrev s : ℕ
   s = at .slot
 
@@ -201,7 +202,7 @@ module _ (n : Nest) (m : ℕ) (at : Place) (a : Accepted n) (p : FoundIn Direct 
       go (no z) = shape-direction z
 
 -- the same by what the code has
-pub slot-hops : (n : Nest) (z : Sizes) (m : ℕ) → Sized n z → z .route ≡ Direct → (at : Place) → FoundIn (z .route) n m at
+pub slot-hops : (n : Nest) (z : Sizes) (m : ℕ) → Sized n z → z .route ≡ Direct → (at : MessageSlot) → FoundIn (z .route) n m at
     → (k : ℕ) → k ≡ hops n (at .slot % z .ways + 1) → k ≡ hops n (directionOf n m)
 slot-hops n z m h e at p k q =
     q ∙ ap (λ (w : ℕ). hops n (at .slot % w + 1)) (rw e at (h .ways)) ∙ ap (hops n) (sym (direction-is n m at (h .accepted) (rw e at p)))

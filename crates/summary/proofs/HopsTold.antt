@@ -29,19 +29,19 @@ use Rattle.plan.specs.Messages.{two, directions, ahead, reaches, crosses, parce
 use Rattle.plan.specs.Shaped.{planOf}
 use Rattle.plan.proofs.ShapedBox.{boxTile-is, planOf-box}
 use Rattle.conformance.specs.ExactShape.{standsAt}
-use Rattle.conformance.specs.Rows.{rowLine}
+use Rattle.conformance.specs.Examples.{rowLine}
 use Rattle.conformance.proofs.AToH.{rows}
 use Rattle.conformance.proofs.RowNests.{nestC, isC, nestLine, isLine}
 use Rattle.conformance.proofs.SingleCounts.{single-counts}
 use Rattle.conformance.proofs.InOrder.{in-order}
 use Rattle.conformance.proofs.ShapedExact.{message}
-use Rattle.layout.specs.Sizes.{routeOf}
+use Rattle.layout.specs.RouteWords.{routeOf}
 use Rattle.summary.specs.declared.HopCount.{HopCount}
 use Rattle.summary.specs.Summary.{directionOf, noHops, hopsIf, hopsLines, hopsOf}
-use Rattle.summary.specs.HopsTold.{HopsTold, hopsOfFirst, told, HopsRows}
+use Rattle.summary.specs.HopsTold.{HopsTold, hopsOfFirst, told, HopsExamples}
 use Rattle.recipe.proofs.Laws.{direct-opened}
 use Rattle.summary.proofs.Answers.{directed, hops-none, hops-is}
-use Rattle.summary.proofs.Rows.{box-read, box-many, rowC-small, rowC-none, rowLine-small, rowLine-none}
+use Rattle.summary.proofs.Examples.{box-read, box-many, rowC-small, rowC-none, rowLine-small, rowLine-none}
 
 -- the number of what is told is the first line's
 told-number : (n : ℕ) (x : Nest) (m : ℕ) → hopsIf n x m .number ≡ n
@@ -143,7 +143,7 @@ unfolding tabulate hops hopsAlong _and_ _or_ pick every some keep product tileCo
     directions ahead reaches crosses parcel taker slotCells slotTaker atHome slotParcel messagesTo processorOf
 hopsLine = refl
 
-pub hops-rows : HopsRows
+pub hops-rows : HopsExamples
 unfolding routeOf
 hops-rows =
     record {

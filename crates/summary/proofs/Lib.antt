@@ -1,4 +1,4 @@
 pub mod Answers
 pub mod Ones
-pub mod Rows
+pub mod Examples
 pub mod HopsTold

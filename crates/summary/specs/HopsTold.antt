@@ -5,7 +5,7 @@ use mathlib.Core.Path.{_≡_}
 use mathlib.Core.List.{List, [], _∷_, _++_}
 use Rattle.nest.specs.Reader.{nestOf}
 use Rattle.nest.specs.Recipes.{rowC}
-use Rattle.conformance.specs.Rows.{rowLine}
+use Rattle.conformance.specs.Examples.{rowLine}
 use Rattle.summary.specs.declared.HopCount.{HopCount}
 use Rattle.summary.specs.Summary.{noHops, hopsOf}
 
@@ -22,7 +22,7 @@ hopsOfFirst bytes (suc m) = hopsOfFirst bytes m ++ (hopsOf bytes m ∷ [])
 abbrev pub told : ℕ → HopCount
 told n = record { number = 0; hops = n }
 
-pub record HopsRows : Type 0 where
+pub record HopsExamples : Type 0 where
   -- row C: tiles 0 and 1 send in directions (0,1), (1,0) and (1,1), the others in one of the first two; and no such message behind the last
   pub C : hopsOfFirst rowC 11
       ≡ told 1 ∷ told 1 ∷ told 2 ∷ told 1 ∷ told 1 ∷ told 2 ∷ told 1 ∷ told 1 ∷ told 1 ∷ told 1 ∷ noHops 11 ∷ []

@@ -1,3 +1,3 @@
 pub mod Summary
-pub mod Rows
+pub mod Examples
 pub mod HopsTold

@@ -20,8 +20,8 @@ use Rattle.plan.specs.Messages.{two}
 use Rattle.plan.specs.Shaped.{planOf}
 use Rattle.conformance.specs.ExactShape.{standsAt, CarriesShape}
 use Rattle.plan.specs.Hops.{hops}
-use Rattle.conformance.specs.Rows as rows
-use Rattle.conformance.specs.Rows.{accepted, refused, figuresIf}
+use Rattle.conformance.specs.Examples as rows
+use Rattle.conformance.specs.Examples.{accepted, refused, figuresIf}
 use Rattle.recipe.specs.Routes.{linesFor}
 use Rattle.summary.specs.declared.Figures.{Figures}
 use Rattle.summary.specs.declared.MessageLine.{MessageLine}

@@ -9,14 +9,16 @@ ghost use Rattle.plan.specs.declared.Route.the-variants.{Direct};
 ghost use Rattle.plan.specs.Messages.{two};
 ghost use Rattle.plan.specs.Shaped.{planOf};
 ghost use Rattle.plan.specs.Hops.{hops};
-ghost use Rattle.conformance.specs.Rows.{refused};
-ghost use Rattle.layout.specs.Sizes.{routeOf, Sized};
+ghost use Rattle.conformance.specs.Examples.{refused};
+ghost use Rattle.layout.specs.Sizes.{Sized};
+ghost use Rattle.layout.specs.RouteWords.{routeOf};
 ghost use Rattle.tables.specs.Tables.{Tabled, FoundIn};
 ghost use Rattle.summary.specs.Summary.{asFigures, figuresOf, summaryOf, lineOf, noLine, messageLineOf, directionOf, many, noHops, hopsOf};
 use layout::Sizes;
 use nest::Nest;
 use plan::Route;
-use tables::scans::Place;
+use tables::TABLE_WORDS;
+use tables::scans::MessageSlot;
 use tables::totals;
 
 // What is said of a plan as a whole; number is 0, or why the recipe is refused.
@@ -48,7 +50,7 @@ pub struct HopCount {
 }
 
 // The plan's figures.
-pub fn figures_of(nest: Nest, sizes: Sizes, lens: &[u16; 9217]) -> Figures
+pub fn figures_of(nest: Nest, sizes: Sizes, lens: &[u16; TABLE_WORDS]) -> Figures
     requires { ⌜ Sized nest sizes × Tabled nest sizes (now lens) ⌝ }
     ensures { λ r. ⌜ r ≡ figuresOf (planOf (sizes .route) nest) ⌝ }
 {
@@ -64,7 +66,7 @@ pub fn figures_of(nest: Nest, sizes: Sizes, lens: &[u16; 9217]) -> Figures
 }
 
 // The line of a message of a nest without bounds.
-fn box_line(nest: Nest, sizes: Sizes, place: Place) -> MessageLine
+fn box_line(nest: Nest, sizes: Sizes, place: MessageSlot) -> MessageLine
     requires { ⌜ Sized nest sizes × ((nest .bounds ≡ 0) × FoundIn (sizes .route) nest (place .number) place) ⌝ }
     ensures { λ r. ⌜ r ≡ lineOf (planOf (sizes .route) nest) (place .number) ⌝ }
 {
@@ -84,7 +86,12 @@ fn box_line(nest: Nest, sizes: Sizes, place: Place) -> MessageLine
 }
 
 // The line of a message of a nest with bounds.
-fn shape_line(nest: Nest, sizes: Sizes, lens: &[u16; 9217], place: Place) -> MessageLine
+fn shape_line(
+    nest: Nest,
+    sizes: Sizes,
+    lens: &[u16; TABLE_WORDS],
+    place: MessageSlot,
+) -> MessageLine
     requires { ⌜ Sized nest sizes × (Tabled nest sizes (now lens) × (nest .bounds ≢ 0)) ⌝ }
     requires { ⌜ FoundIn (sizes .route) nest (place .number) place ⌝ }
     ensures { λ r. ⌜ r ≡ lineOf (planOf (sizes .route) nest) (place .number) ⌝ }
@@ -105,7 +112,12 @@ fn shape_line(nest: Nest, sizes: Sizes, lens: &[u16; 9217], place: Place) -> Mes
 }
 
 // The line of the message found at a place.
-pub fn line_at(nest: Nest, sizes: Sizes, lens: &[u16; 9217], place: Place) -> MessageLine
+pub fn line_at(
+    nest: Nest,
+    sizes: Sizes,
+    lens: &[u16; TABLE_WORDS],
+    place: MessageSlot,
+) -> MessageLine
     requires { ⌜ Sized nest sizes × Tabled nest sizes (now lens) ⌝ }
     requires { ⌜ FoundIn (sizes .route) nest (place .number) place ⌝ }
     ensures { λ r. ⌜ r ≡ lineOf (planOf (sizes .route) nest) (place .number) ⌝ }
@@ -117,7 +129,7 @@ pub fn line_at(nest: Nest, sizes: Sizes, lens: &[u16; 9217], place: Place) -> Me
 }
 
 // The line of message m.
-pub fn line_of(nest: Nest, sizes: Sizes, lens: &[u16; 9217], m: usize) -> MessageLine
+pub fn line_of(nest: Nest, sizes: Sizes, lens: &[u16; TABLE_WORDS], m: usize) -> MessageLine
     requires { ⌜ Sized nest sizes × Tabled nest sizes (now lens) ⌝ }
     requires { ⌜ m < count (planOf (sizes .route) nest) ⌝ }
     ensures { λ r. ⌜ r ≡ lineOf (planOf (sizes .route) nest) m ⌝ }
@@ -165,7 +177,7 @@ fn no_hops(number: u32) -> HopCount
 pub fn summary(encoded: &[u8], route: u32) -> Figures
     ensures { λ r. ⌜ r ≡ summaryOf (routeOf route) (now (encoded .entry)) ⌝ }
 {
-    let mut lens = [0u16; 9217];
+    let mut lens = [0u16; TABLE_WORDS];
     let opening = recipe::open(encoded, route, &mut lens);
     if opening.number != 0 {
         return no_figures(opening.number);
@@ -177,7 +189,7 @@ pub fn summary(encoded: &[u8], route: u32) -> Figures
 pub fn message(encoded: &[u8], route: u32, m: u32) -> MessageLine
     ensures { λ r. ⌜ r ≡ messageLineOf (routeOf route) (now (encoded .entry)) m ⌝ }
 {
-    let mut lens = [0u16; 9217];
+    let mut lens = [0u16; TABLE_WORDS];
     let opening = recipe::open(encoded, route, &mut lens);
     if opening.number != 0 {
         return no_line(opening.number);
@@ -219,7 +231,7 @@ fn hops_along(nest: Nest, direction: u32) -> u32
 }
 
 // The hops of message m of the direct plan: those of its slot's direction.
-fn hops_at(nest: Nest, sizes: Sizes, lens: &[u16; 9217], m: usize) -> u32
+fn hops_at(nest: Nest, sizes: Sizes, lens: &[u16; TABLE_WORDS], m: usize) -> u32
     requires { ⌜ Sized nest sizes × (Tabled nest sizes (now lens) × (sizes .route ≡ Direct)) ⌝ }
     requires { ⌜ m < count (planOf (sizes .route) nest) ⌝ }
     ensures { λ r. ⌜ r ≡ hops nest (directionOf nest m) ⌝ }
@@ -233,7 +245,7 @@ fn hops_at(nest: Nest, sizes: Sizes, lens: &[u16; 9217], m: usize) -> u32
 pub fn hops(encoded: &[u8], m: u32) -> HopCount
     ensures { λ r. ⌜ r ≡ hopsOf (now (encoded .entry)) m ⌝ }
 {
-    let mut lens = [0u16; 9217];
+    let mut lens = [0u16; TABLE_WORDS];
     let opening = recipe::open(encoded, 0, &mut lens);
     if opening.number != 0 {
         return no_hops(opening.number);

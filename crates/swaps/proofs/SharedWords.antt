@@ -13,11 +13,11 @@ use Rattle.machine.specs.Machine.{State, finishedOf, stageOf, sentOf, actionAt}
 use Rattle.machine.specs.Runs.{Event, turnOf, deliveryOf, act}
 use Rattle.machine.proofs.Records.{SameRecord}
 use Rattle.machine.proofs.Deeds.{turn-away, delivery-away}
-use Rattle.tenants.specs.Offices.{Lent, holderOf, freedAfter, engagedAfter, carryOutFor, Rig, Sources, sourceFor, ownOf, otherOf, lentTo}
-use Rattle.tenants.specs.Offices.{returned, actFor, actOn}
+use Rattle.tenants.specs.Tenants.{TenantAreas, holderOf, freedAfter, engagedAfter, carryOutFor, Sharing, Sources, sourceFor, ownOf, otherOf, lentTo}
+use Rattle.tenants.specs.Tenants.{returned, actFor, actOn}
 use Rattle.tenants.proofs.OneCall.{turn-done, deliver-words}
 
--- by the office, the processor, and the office's record there: tiles finished, stage, messages sent
+-- by the tenant, the processor, and the tenant's record there: tiles finished, stage, messages sent
 unfoldable pub touchAt : Plan → ℕ → ℕ → ℕ → ℕ → ℕ → List ℕ → List ℕ
 touchAt p o b f zero n l = set l b o
 touchAt p o b f (suc zero) n l = freedAfter p l b (getD (tilesOf p b) f 0) 0
@@ -27,19 +27,19 @@ unfoldable pub wordsBy : Plan → ℕ → State → Event → List ℕ → List 
 wordsBy p o s (turnOf b) l = touchAt p o b (finishedOf s b) (stageOf s b) (sentOf s b) l
 wordsBy p o s (deliveryOf m) l = l
 
-is-touch : (p : Plan) (o : ℕ) (l : Lent) (b f g : ℕ)
+is-touch : (p : Plan) (o : ℕ) (l : TenantAreas) (b f g : ℕ)
     → engagedAfter p o l b (actionAt p g (getD (tilesOf p b) f 0) (sentOf (l .own) b)) ≡ touchAt p o b f g (sentOf (l .own) b) (l .engaged)
 unfolding engagedAfter actionAt touchAt
 is-touch p o l b f zero = refl
 is-touch p o l b f (suc zero) = refl
 is-touch p o l b f (suc (suc g)) = refl
 
-pub words-after : (p : Plan) (sources : Sources) (r : Rig) (o : ℕ) (e : Event)
-    → actOn p sources r (record { office = o; event = e }) .number ≡ 0
-    → actOn p sources r (record { office = o; event = e }) .after .engaged ≡ wordsBy p o (ownOf r o) e (r .engaged)
+pub words-after : (p : Plan) (sources : Sources) (r : Sharing) (o : ℕ) (e : Event)
+    → actOn p sources r (record { tenant = o; event = e }) .number ≡ 0
+    → actOn p sources r (record { tenant = o; event = e }) .after .engaged ≡ wordsBy p o (ownOf r o) e (r .engaged)
 unfolding actOn actFor returned carryOutFor wordsBy
 words-after p sources r o (turnOf b) z =
-    ap (λ (l : Lent). l .engaged) (turn-done p o (lentTo r o) (otherOf r o .progress) (sourceFor sources o) b z)
+    ap (λ (l : TenantAreas). l .engaged) (turn-done p o (lentTo r o) (otherOf r o .progress) (sourceFor sources o) b z)
     ∙ is-touch p o (lentTo r o) b (finishedOf (ownOf r o) b) (stageOf (ownOf r o) b)
 words-after p sources r o (deliveryOf m) z = deliver-words p o (lentTo r o) (otherOf r o .progress) m
 
@@ -114,7 +114,7 @@ unfolding wordsBy
 words-same p o s s′ (turnOf b) l h = let r = h b refl in rw (r .finished, r .stage, r .sent)
 words-same p o s s′ (deliveryOf m) l h = refl
 
--- an event of the single office leaves the record of every processor but the one it turns
+-- an event of the single tenant leaves the record of every processor but the one it turns
 pub record-kept : (p : Plan) (source : List ℕ) (s : State) (e : Event) (b : ℕ) → e ≢ turnOf b
     → SameRecord b (act p source s e .after .progress) (s .progress)
 unfolding act

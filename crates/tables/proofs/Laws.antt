@@ -19,7 +19,7 @@ use Rattle.plan.specs.Messages.{ways, directions, slotDirection, slotParcel, sl
 use Rattle.plan.specs.Shaped.{boxTile, slotBox, shapedParcel, shapedHome, shapedSlotParcel, shapedMessage, shapedSlots, planOf}
 use Rattle.plan.proofs.ShapedBox.{planOf-box}
 use Rattle.layout.specs.declared.Sizes.{Sizes}
-use Rattle.tables.specs.declared.scans.Place.{Place}
+use Rattle.tables.specs.declared.scans.MessageSlot.{MessageSlot}
 use Rattle.tables.specs.scans.Scans.{Sheet, Lengths, Found}
 use Rattle.tables.specs.boxes.Table.{Table, FoundAt, atEnd}
 use Rattle.tables.specs.shaped_table.Table as shaped
@@ -62,7 +62,7 @@ module _ (x : Nest) (ok : Accepted x) (r : Route) where
     pub box-under : (side t j : ℕ) → j < length (atEnd side (planOf r x) t) → j < length (atEnd side (boxPlan r x) t)
     box-under side t j h = let z = ap (λ (q : Plan). length (atEnd side q t)) is in omega arith
 
-    pub box-found : (m n : ℕ) (p : Place) → m ≡ n → FoundAt r x m p → FoundIn r x n p
+    pub box-found : (m n : ℕ) (p : MessageSlot) → m ≡ n → FoundAt r x m p → FoundIn r x n p
     box-found m n p q f =
         let one : message (planOf r x) m ≡ slotMessage r x (p .slot) = ap (λ (z : Plan). message z m) is ∙ f .is in
         rw (← q) (record {
@@ -77,10 +77,10 @@ module _ (x : Nest) (ok : Accepted x) (r : Route) where
         })
 
     -- what a message holds, by its slot
-    pub box-held : (m : ℕ) (p : Place) → FoundIn r x m p → heldBy (planOf r x) m ≡ slotParcel r x (p .slot)
+    pub box-held : (m : ℕ) (p : MessageSlot) → FoundIn r x m p → heldBy (planOf r x) m ≡ slotParcel r x (p .slot)
     box-held m p f = ap (λ (z : Message). z .cells) (f .box e .1)
 
-    pub box-long : (m n : ℕ) (p : Place) → FoundIn r x m p → n ≡ p .words → (n ≡ length (slotParcel r x (p .slot))) × (0 < n)
+    pub box-long : (m n : ℕ) (p : MessageSlot) → FoundIn r x m p → n ≡ p .words → (n ≡ length (slotParcel r x (p .slot))) × (0 < n)
     box-long m n p f q = (q ∙ (f .words ∙ ap length (box-held m p f)), omega (arith, f .full))
 
     pub box-below : (m : ℕ) → m < count (planOf r x) → m < count (boxPlan r x)
@@ -122,7 +122,7 @@ module _ (x : Nest) (ok : Accepted x) (r : Route) where
     pub shape-under : (side t j : ℕ) → j < length (atEnd side (planOf r x) t) → j < length (shaped.atEnd side (planOf Direct x) t)
     shape-under side t j h = let k : j < length (atEnd side (planOf Direct x) t) = rw d at h in rw (ends side t) k
 
-    made : (m : ℕ) (p : Place) → Found (shapedMessage x) (shapedSlots x) m p → FoundIn Direct x m p
+    made : (m : ℕ) (p : MessageSlot) → Found (shapedMessage x) (shapedSlots x) m p → FoundIn Direct x m p
     made m p f =
         record {
           number = f .number;
@@ -135,7 +135,7 @@ module _ (x : Nest) (ok : Accepted x) (r : Route) where
           shape = λ h. (f .slot, f .is);
         }
 
-    pub shape-found : (side t j : ℕ) (p : Place) → Found (shapedMessage x) (shapedSlots x) (getD (shaped.atEnd side (planOf Direct x) t) j 0) p
+    pub shape-found : (side t j : ℕ) (p : MessageSlot) → Found (shapedMessage x) (shapedSlots x) (getD (shaped.atEnd side (planOf Direct x) t) j 0) p
         → FoundIn r x (getD (atEnd side (planOf r x) t) j 0) p
     shape-found side t j p f = rw d (rw (← ends side t) (made (getD (shaped.atEnd side (planOf Direct x) t) j 0) p f))
 
@@ -153,7 +153,7 @@ module _ (x : Nest) (ok : Accepted x) (r : Route) where
       pub slots-sheet : (lens : List ℕ) → ShapedTable x lens → Sheet lens (k * w)
       slots-sheet lens f = table.sheet x ok lens f (k * w) (omega (arith, slots-are))
 
-      pub shape-nth : (lens : List ℕ) → ShapedTable x lens → (m : ℕ) (p : Place) → m < count (planOf r x)
+      pub shape-nth : (lens : List ℕ) → ShapedTable x lens → (m : ℕ) (p : MessageSlot) → m < count (planOf r x)
           → ((f : ℕ → Message) → Lengths f (k * w) lens → m < length (messagesOf f (k * w)) → Found f (k * w) m p) → FoundIn r x m p
       shape-nth lens f m p l h = rw d (made m p (subst (λ (z : ℕ). Found (shapedMessage x) z m p) slots-are found))
         where
@@ -167,7 +167,7 @@ module _ (x : Nest) (ok : Accepted x) (r : Route) where
     shape-count k h = rw d h
 
     -- a message's slot by the numbers of the code: w ways
-    module _ (m : ℕ) (p : Place) (f : FoundIn r x m p) (w : ℕ) (q : w ≡ ways r x) where
+    module _ (m : ℕ) (p : MessageSlot) (f : FoundIn r x m p) (w : ℕ) (q : w ≡ ways r x) where
       ways-are : w ≡ directions x
       ways-are = q ∙ ap (λ (z : Route). ways z x) d
 

@@ -15,7 +15,7 @@ use Rattle.plan.specs.Messages.{slots, slotMessage}
 use Rattle.plan.specs.Shaped.{shapedSlots, shapedMessage, planOf}
 use Rattle.layout.specs.declared.Sizes.{Sizes}
 use Rattle.layout.specs.Sizes.{Sized}
-use Rattle.tables.specs.declared.scans.Place.{Place}
+use Rattle.tables.specs.declared.scans.MessageSlot.{MessageSlot}
 use Rattle.tables.specs.boxes.Table.{Table}
 use Rattle.tables.specs.shaped_table.Table.{ShapedTable}
 
@@ -33,7 +33,7 @@ abbrev pub Planned : Nest → Sizes → List ℕ → Type 0
 Planned x z lens = Sized x z × Tabled x z lens
 
 -- message m of the nest's plan is found at p, being that of p's slot
-pub record FoundIn (r : Route) (x : Nest) (m : ℕ) (p : Place) : Type 0 where
+pub record FoundIn (r : Route) (x : Nest) (m : ℕ) (p : MessageSlot) : Type 0 where
   pub number : p .number ≡ m
   pub low : m < count (planOf r x)
   pub offset : p .offset ≡ machine.offset (planOf r x .messages) m

@@ -8,7 +8,8 @@ ghost use Rattle.nest.specs.Nest.{boxTiles};
 ghost use Rattle.plan.specs.Messages.{ways, slots, slotParcel, boxPlan};
 ghost use Rattle.layout.specs.Sizes.{Sized, Stepped};
 ghost use Rattle.tables.specs.boxes.Table.{Table, Filling, Likes, Twins, Summing, Only, Ends, FoundAt, atEnd, countBelow};
-use crate::scans::Place;
+use crate::TABLE_WORDS;
+use crate::scans::MessageSlot;
 use crate::scans::Total;
 use layout::Sizes;
 use nest::Nest;
@@ -71,7 +72,7 @@ fn run_from(nest: Nest, sizes: Sizes, tile: usize) -> Run
 fn length_back(
     nest: Nest,
     sizes: Sizes,
-    lens: &[u16; 9217],
+    lens: &[u16; TABLE_WORDS],
     tile: usize,
     run: Run,
     slot: usize,
@@ -84,7 +85,7 @@ fn length_back(
 }
 
 // The lengths of the parcels of a run's tiles, as their twins'.
-fn copy_run(nest: Nest, sizes: Sizes, lens: &mut [u16; 9217], tile: usize, run: Run)
+fn copy_run(nest: Nest, sizes: Sizes, lens: &mut [u16; TABLE_WORDS], tile: usize, run: Run)
     requires { ⌜ Sized nest sizes × (Twins (sizes .route) nest tile (run .back) (run .tiles) × Filling (sizes .route) nest (now lens) (tile * sizes .ways)) ⌝ }
     ensures { λ _. ⌜ Filling (sizes .route) nest (now (lens .exit)) ((tile + run .tiles) * sizes .ways) ⌝ }
 {
@@ -97,7 +98,7 @@ fn copy_run(nest: Nest, sizes: Sizes, lens: &mut [u16; 9217], tile: usize, run: 
 }
 
 // The lengths of a tile's parcels, counted.
-fn count_tile(nest: Nest, sizes: Sizes, lens: &mut [u16; 9217], tile: usize)
+fn count_tile(nest: Nest, sizes: Sizes, lens: &mut [u16; TABLE_WORDS], tile: usize)
     requires { ⌜ Sized nest sizes × ((tile < boxTiles nest) × Filling (sizes .route) nest (now lens) (tile * sizes .ways)) ⌝ }
     ensures { λ _. ⌜ Filling (sizes .route) nest (now (lens .exit)) ((tile + 1) * sizes .ways) ⌝ }
 {
@@ -111,7 +112,7 @@ fn count_tile(nest: Nest, sizes: Sizes, lens: &mut [u16; 9217], tile: usize)
 }
 
 // The lengths of the parcels of a tile and, where it begins a run, of the run's other tiles: the tile to go on from.
-fn fill_from(nest: Nest, sizes: Sizes, lens: &mut [u16; 9217], tile: usize) -> usize
+fn fill_from(nest: Nest, sizes: Sizes, lens: &mut [u16; TABLE_WORDS], tile: usize) -> usize
     requires { ⌜ Sized nest sizes × ((tile < boxTiles nest) × Filling (sizes .route) nest (now lens) (tile * sizes .ways)) ⌝ }
     ensures { λ r. ⌜ (tile < r) × Filling (sizes .route) nest (now (lens .exit)) (r * sizes .ways) ⌝ }
 {
@@ -125,7 +126,7 @@ fn fill_from(nest: Nest, sizes: Sizes, lens: &mut [u16; 9217], tile: usize) -> u
 }
 
 // The length of each slot's parcel.
-pub fn fill(nest: Nest, sizes: Sizes, lens: &mut [u16; 9217])
+pub fn fill(nest: Nest, sizes: Sizes, lens: &mut [u16; TABLE_WORDS])
     requires { ⌜ Sized nest sizes × ((nest .bounds ≡ 0) × (length (now lens) ≡ 9217)) ⌝ }
     ensures { λ _. ⌜ Table (sizes .route) nest (now (lens .exit)) ⌝ }
 {
@@ -137,7 +138,7 @@ pub fn fill(nest: Nest, sizes: Sizes, lens: &mut [u16; 9217])
 }
 
 // The length of a slot's parcel, by the table.
-fn length_at(nest: Nest, sizes: Sizes, lens: &[u16; 9217], slot: usize) -> usize
+fn length_at(nest: Nest, sizes: Sizes, lens: &[u16; TABLE_WORDS], slot: usize) -> usize
     requires { ⌜ Sized nest sizes × (Table (sizes .route) nest (now lens) × (slot < slots (sizes .route) nest)) ⌝ }
     ensures { λ r. ⌜ (r ≡ length (slotParcel (sizes .route) nest slot)) × (r ≤ 16384) ⌝ }
 {
@@ -145,7 +146,7 @@ fn length_at(nest: Nest, sizes: Sizes, lens: &[u16; 9217], slot: usize) -> usize
 }
 
 // How many messages and words the slots before `end` have.
-fn sums_to(nest: Nest, sizes: Sizes, lens: &[u16; 9217], end: usize) -> Total
+fn sums_to(nest: Nest, sizes: Sizes, lens: &[u16; TABLE_WORDS], end: usize) -> Total
     requires { ⌜ Sized nest sizes × (Table (sizes .route) nest (now lens) × (end ≤ slots (sizes .route) nest)) ⌝ }
     ensures { λ r. ⌜ Summing (sizes .route) nest end (r .messages) (r .words) ⌝ }
 {
@@ -167,7 +168,7 @@ fn sums_to(nest: Nest, sizes: Sizes, lens: &[u16; 9217], end: usize) -> Total
 }
 
 // How many messages and words there are.
-pub fn totals(nest: Nest, sizes: Sizes, lens: &[u16; 9217]) -> Total
+pub fn totals(nest: Nest, sizes: Sizes, lens: &[u16; TABLE_WORDS]) -> Total
     requires { ⌜ Sized nest sizes × Table (sizes .route) nest (now lens) ⌝ }
     ensures { λ r. ⌜ (r .messages ≡ count (boxPlan (sizes .route) nest)) × ((r .words ≡ words (boxPlan (sizes .route) nest))
         × ((r .messages ≤ 7168) × (r .words ≤ 117440512))) ⌝ }
@@ -179,7 +180,7 @@ pub fn totals(nest: Nest, sizes: Sizes, lens: &[u16; 9217]) -> Total
 fn slot_at(
     nest: Nest,
     sizes: Sizes,
-    lens: &[u16; 9217],
+    lens: &[u16; TABLE_WORDS],
     steps: [usize; 8],
     tile: usize,
     way: usize,
@@ -204,7 +205,13 @@ fn slot_at(
 }
 
 // That slot for each way: no other slot has such a message. 0 is the sender's end, else the taker's.
-fn slots_at(nest: Nest, sizes: Sizes, lens: &[u16; 9217], tile: usize, side: usize) -> [usize; 8]
+fn slots_at(
+    nest: Nest,
+    sizes: Sizes,
+    lens: &[u16; TABLE_WORDS],
+    tile: usize,
+    side: usize,
+) -> [usize; 8]
     requires { ⌜ Sized nest sizes × Table (sizes .route) nest (now lens) ⌝ }
     ensures { λ r. ⌜ Ends (sizes .route) nest side tile r ⌝ }
 {
@@ -232,7 +239,13 @@ fn count_below(ends: [usize; 8], n: usize, slot: usize) -> usize
 }
 
 // How many messages have the tile at this end: 0 the sender, else the taker.
-pub fn count_at(nest: Nest, sizes: Sizes, lens: &[u16; 9217], tile: usize, side: usize) -> usize
+pub fn count_at(
+    nest: Nest,
+    sizes: Sizes,
+    lens: &[u16; TABLE_WORDS],
+    tile: usize,
+    side: usize,
+) -> usize
     requires { ⌜ Sized nest sizes × Table (sizes .route) nest (now lens) ⌝ }
     ensures { λ r. ⌜ (r ≡ length (atEnd side (boxPlan (sizes .route) nest) tile)) × (r ≤ 7168) ⌝ }
 {
@@ -245,11 +258,11 @@ pub fn count_at(nest: Nest, sizes: Sizes, lens: &[u16; 9217], tile: usize, side:
 pub fn nth_at(
     nest: Nest,
     sizes: Sizes,
-    lens: &[u16; 9217],
+    lens: &[u16; TABLE_WORDS],
     tile: usize,
     side: usize,
     j: usize,
-) -> Place
+) -> MessageSlot
     requires { ⌜ Sized nest sizes × Table (sizes .route) nest (now lens) ⌝ }
     requires { ⌜ j < length (atEnd side (boxPlan (sizes .route) nest) tile) ⌝ }
     ensures { λ r. ⌜ FoundAt (sizes .route) nest (getD (atEnd side (boxPlan (sizes .route) nest) tile) j 0) r ⌝ }
@@ -262,7 +275,7 @@ pub fn nth_at(
         if slot < slots {
             if count_below(ends, n, slot) == j {
                 let before = sums_to(nest, sizes, lens, slot);
-                return Place {
+                return MessageSlot {
                     slot: slot,
                     number: before.messages,
                     offset: before.words,
@@ -271,7 +284,7 @@ pub fn nth_at(
             }
         }
     }
-    Place {
+    MessageSlot {
         slot: 0,
         number: 0,
         offset: 0,
@@ -280,7 +293,7 @@ pub fn nth_at(
 }
 
 // Message m.
-pub fn nth(nest: Nest, sizes: Sizes, lens: &[u16; 9217], m: usize) -> Place
+pub fn nth(nest: Nest, sizes: Sizes, lens: &[u16; TABLE_WORDS], m: usize) -> MessageSlot
     requires { ⌜ Sized nest sizes × Table (sizes .route) nest (now lens) ⌝ }
     requires { ⌜ m < count (boxPlan (sizes .route) nest) ⌝ }
     ensures { λ r. ⌜ FoundAt (sizes .route) nest m r ⌝ }
@@ -293,7 +306,7 @@ pub fn nth(nest: Nest, sizes: Sizes, lens: &[u16; 9217], m: usize) -> Place
         let w = length_at(nest, sizes, lens, slot);
         if w != 0 {
             if number == m {
-                return Place {
+                return MessageSlot {
                     slot: slot,
                     number: m,
                     offset: offset,
@@ -305,7 +318,7 @@ pub fn nth(nest: Nest, sizes: Sizes, lens: &[u16; 9217], m: usize) -> Place
         offset += w;
         slot += 1;
     }
-    Place {
+    MessageSlot {
         slot: 0,
         number: 0,
         offset: 0,

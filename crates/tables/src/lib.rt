@@ -10,7 +10,7 @@ ghost use Rattle.plan.specs.Shaped.{planOf};
 ghost use Rattle.layout.specs.Sizes.{Sized};
 ghost use Rattle.tables.specs.boxes.Table.{atEnd};
 ghost use Rattle.tables.specs.Tables.{Routed, Tabled, FoundIn};
-use crate::scans::Place;
+use crate::scans::MessageSlot;
 use crate::scans::Total;
 use layout::Sizes;
 use nest::Nest;
@@ -18,10 +18,20 @@ use nest::Nest;
 pub mod scans; // scans.rt: numbers, offsets and totals of messages by a table of lengths, whatever the slots hold
 pub mod boxes; // boxes.rt: the table of a nest without bounds
 pub mod shaped_table; // shaped_table.rt: the table of a nest with bounds
-pub mod held; // held.rt: the cells of a message, listed in the order of its words
+pub mod message_cells; // message_cells.rt: the cells of a message, listed in the order of its words
+
+// Words of the table: a length for each slot, 7,168 at most; with bounds behind them each tile's number in the box and each tile's processor, 1,024
+// of each, and one word more: how many tiles there are.
+pub const TABLE_WORDS: usize = 9217;
+
+// Where the processors begin there.
+pub const OWNERS_AT: usize = 8192;
+
+// Where the table says how many tiles there are.
+pub const COUNT_AT: usize = 9216;
 
 // The length of each slot's parcel and, with bounds, what else is found once.
-pub fn fill(nest: Nest, sizes: Sizes, lens: &mut [u16; 9217])
+pub fn fill(nest: Nest, sizes: Sizes, lens: &mut [u16; TABLE_WORDS])
     requires { ⌜ Sized nest sizes × (Routed nest sizes × (length (now lens) ≡ 9217)) ⌝ }
     ensures { λ _. ⌜ Tabled nest sizes (now (lens .exit)) ⌝ }
 {
@@ -33,7 +43,7 @@ pub fn fill(nest: Nest, sizes: Sizes, lens: &mut [u16; 9217])
 }
 
 // How many messages and words there are.
-pub fn totals(nest: Nest, sizes: Sizes, lens: &[u16; 9217]) -> Total
+pub fn totals(nest: Nest, sizes: Sizes, lens: &[u16; TABLE_WORDS]) -> Total
     requires { ⌜ Sized nest sizes × Tabled nest sizes (now lens) ⌝ }
     ensures { λ r. ⌜ (r .messages ≡ count (planOf (sizes .route) nest)) × ((r .words ≡ words (planOf (sizes .route) nest))
         × ((r .messages ≤ 7168) × (r .words ≤ 117440512))) ⌝ }
@@ -45,7 +55,7 @@ pub fn totals(nest: Nest, sizes: Sizes, lens: &[u16; 9217]) -> Total
 }
 
 // How many tiles the processor has.
-pub fn tile_count(nest: Nest, sizes: Sizes, lens: &[u16; 9217], processor: usize) -> usize
+pub fn tile_count(nest: Nest, sizes: Sizes, lens: &[u16; TABLE_WORDS], processor: usize) -> usize
     requires { ⌜ Sized nest sizes × Tabled nest sizes (now lens) ⌝ }
     ensures { λ r. ⌜ (r ≡ length (tilesOf (planOf (sizes .route) nest) processor)) × (r ≤ 16384) ⌝ }
 {
@@ -59,7 +69,7 @@ pub fn tile_count(nest: Nest, sizes: Sizes, lens: &[u16; 9217], processor: usize
 pub fn tile_at(
     nest: Nest,
     sizes: Sizes,
-    lens: &[u16; 9217],
+    lens: &[u16; TABLE_WORDS],
     processor: usize,
     finished: usize,
 ) -> usize
@@ -73,7 +83,13 @@ pub fn tile_at(
 }
 
 // How many messages have the tile at this end: 0 the sender, else the taker.
-pub fn count_at(nest: Nest, sizes: Sizes, lens: &[u16; 9217], tile: usize, side: usize) -> usize
+pub fn count_at(
+    nest: Nest,
+    sizes: Sizes,
+    lens: &[u16; TABLE_WORDS],
+    tile: usize,
+    side: usize,
+) -> usize
     requires { ⌜ Sized nest sizes × (Tabled nest sizes (now lens) × (tile < (planOf (sizes .route) nest) .tiles)) ⌝ }
     ensures { λ r. ⌜ (r ≡ length (atEnd side (planOf (sizes .route) nest) tile)) × (r ≤ 7168) ⌝ }
 {
@@ -87,11 +103,11 @@ pub fn count_at(nest: Nest, sizes: Sizes, lens: &[u16; 9217], tile: usize, side:
 pub fn nth_at(
     nest: Nest,
     sizes: Sizes,
-    lens: &[u16; 9217],
+    lens: &[u16; TABLE_WORDS],
     tile: usize,
     side: usize,
     j: usize,
-) -> Place
+) -> MessageSlot
     requires { ⌜ Sized nest sizes × (Tabled nest sizes (now lens) × (tile < (planOf (sizes .route) nest) .tiles)) ⌝ }
     requires { ⌜ j < length (atEnd side (planOf (sizes .route) nest) tile) ⌝ }
     ensures { λ r. ⌜ FoundIn (sizes .route) nest (getD (atEnd side (planOf (sizes .route) nest) tile) j 0) r ⌝ }
@@ -103,7 +119,7 @@ pub fn nth_at(
 }
 
 // Message m.
-pub fn nth(nest: Nest, sizes: Sizes, lens: &[u16; 9217], m: usize) -> Place
+pub fn nth(nest: Nest, sizes: Sizes, lens: &[u16; TABLE_WORDS], m: usize) -> MessageSlot
     requires { ⌜ Sized nest sizes × (Tabled nest sizes (now lens) × (m < count (planOf (sizes .route) nest))) ⌝ }
     ensures { λ r. ⌜ FoundIn (sizes .route) nest m r ⌝ }
 {
@@ -115,7 +131,7 @@ pub fn nth(nest: Nest, sizes: Sizes, lens: &[u16; 9217], m: usize) -> Place
 }
 
 // How many tiles there are.
-pub fn tiles_of(nest: Nest, sizes: Sizes, lens: &[u16; 9217]) -> usize
+pub fn tiles_of(nest: Nest, sizes: Sizes, lens: &[u16; TABLE_WORDS]) -> usize
     requires { ⌜ Sized nest sizes × Tabled nest sizes (now lens) ⌝ }
     ensures { λ r. ⌜ (r ≡ planOf (sizes .route) nest .tiles) × (r ≤ 1024) ⌝ }
 {
@@ -129,8 +145,8 @@ pub fn tiles_of(nest: Nest, sizes: Sizes, lens: &[u16; 9217]) -> usize
 pub fn pack(
     nest: Nest,
     sizes: Sizes,
-    lens: &[u16; 9217],
-    place: Place,
+    lens: &[u16; TABLE_WORDS],
+    place: MessageSlot,
     words: &mut [u32],
     memory: &[u32],
 )
@@ -151,8 +167,8 @@ pub fn pack(
 pub fn unpack(
     nest: Nest,
     sizes: Sizes,
-    lens: &[u16; 9217],
-    place: Place,
+    lens: &[u16; TABLE_WORDS],
+    place: MessageSlot,
     memory: &mut [u32],
     words: &[u32],
 )

@@ -5,9 +5,10 @@ ghost use lib.ListN.{length};
 ghost use Rattle.machine.specs.Plan.{Message};
 ghost use Rattle.plan.specs.Messages.{messagesOf};
 ghost use Rattle.tables.specs.scans.Scans.{Sheet, Lengths, Summing, Found};
+use crate::TABLE_WORDS;
 
 // Where a message is found: its slot, its number, its place in the buffer.
-pub struct Place {
+pub struct MessageSlot {
     pub slot: usize,
     pub number: usize,
     pub offset: usize,
@@ -20,7 +21,7 @@ pub struct Total {
 }
 
 // How many messages and words the slots before `end` have.
-pub fn sums_to(lens: &[u16; 9217], end: usize) -> Total
+pub fn sums_to(lens: &[u16; TABLE_WORDS], end: usize) -> Total
     requires { ⌜ Sheet (now lens) end ⌝ }
     ensures { λ r. ⌜ (r .messages ≤ 7168) × ((r .words ≤ 117440512)
         × ((f : ℕ → Message) → Lengths f end (now (lens .entry)) → Summing f end (r .messages) (r .words))) ⌝ }
@@ -43,7 +44,7 @@ pub fn sums_to(lens: &[u16; 9217], end: usize) -> Total
 }
 
 // Message m of so many slots.
-pub fn nth(lens: &[u16; 9217], slots: usize, m: usize) -> Place
+pub fn nth(lens: &[u16; TABLE_WORDS], slots: usize, m: usize) -> MessageSlot
     requires { ⌜ Sheet (now lens) slots ⌝ }
     ensures { λ r. ⌜ ((f : ℕ → Message) → Lengths f slots (now (lens .entry)) → m < length (messagesOf f slots) → Found f slots m r) ⌝ }
 {
@@ -54,7 +55,7 @@ pub fn nth(lens: &[u16; 9217], slots: usize, m: usize) -> Place
         let w = base::half_index(lens[slot]);
         if w != 0 {
             if number == m {
-                return Place {
+                return MessageSlot {
                     slot: slot,
                     number: m,
                     offset: offset,
@@ -66,7 +67,7 @@ pub fn nth(lens: &[u16; 9217], slots: usize, m: usize) -> Place
         offset += w;
         slot += 1;
     }
-    Place {
+    MessageSlot {
         slot: 0,
         number: 0,
         offset: 0,

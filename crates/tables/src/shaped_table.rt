@@ -20,17 +20,22 @@ ghost use Rattle.layout.specs.Places.{Has};
 ghost use Rattle.tables.specs.scans.Scans.{Found};
 ghost use Rattle.parcels.specs.shaped.Parcels.{Farthest};
 ghost use Rattle.tables.specs.shaped_table.Table.{Marks, Tiles, Owned, Like, Filling, ShapedTable, Steps, endOf, Ranged, atEnd};
-ghost use Rattle.tables.specs.shaped_table.Lines.{Held, Lined};
+ghost use Rattle.tables.specs.shaped_table.Lines.{OneProcessor, Lined};
 ghost use Rattle.tables.specs.shaped_table.Moves.{Moves};
 
 mod rows; // rows.rt: rows of tiles, and which of their tiles are like an earlier one
 
-use crate::scans::Place;
+use crate::COUNT_AT;
+use crate::OWNERS_AT;
+use crate::TABLE_WORDS;
+use crate::scans::MessageSlot;
 use crate::scans::Total;
 use layout::Sizes;
+use nest::MOST_CELLS;
+use nest::MOST_MESSAGES;
 use nest::Nest;
-use rows::Line;
 use rows::Move;
+use rows::TileRow;
 use rows::line_of;
 use rows::move_of;
 
@@ -66,7 +71,7 @@ fn is_marked(nest: Nest, marks: &[u8], u: usize) -> bool
 }
 
 // Lists the marked tiles, and says how many there are.
-fn list_tiles(nest: Nest, sizes: Sizes, marks: &[u8], lens: &mut [u16; 9217])
+fn list_tiles(nest: Nest, sizes: Sizes, marks: &[u8], lens: &mut [u16; TABLE_WORDS])
     requires { ⌜ Sized nest sizes × (Marks nest (now marks) × (length (now lens) ≡ 9217)) ⌝ }
     ensures { λ _. ⌜ Tiles nest (now (lens .exit)) ⌝ }
 {
@@ -74,41 +79,41 @@ fn list_tiles(nest: Nest, sizes: Sizes, marks: &[u8], lens: &mut [u16; 9217])
     let mut count = 0;
     for u in 0..n {
         if is_marked(nest, marks, u) {
-            lens[7168 + count] = u as u16;
+            lens[MOST_MESSAGES + count] = u as u16;
             count += 1;
         }
     }
-    lens[9216] = count as u16;
+    lens[COUNT_AT] = count as u16;
 }
 
 // How many tiles there are, by the table.
-pub fn tiles_of(nest: Nest, lens: &[u16; 9217]) -> usize
+pub fn tiles_of(nest: Nest, lens: &[u16; TABLE_WORDS]) -> usize
     requires { ⌜ Accepted nest × Tiles nest (now lens) ⌝ }
     ensures { λ r. ⌜ (r ≡ tiles nest) × (r ≤ 1024) ⌝ }
 {
-    lens[9216] as usize
+    lens[COUNT_AT] as usize
 }
 
 // A tile's number in the box.
-pub fn box_of(nest: Nest, lens: &[u16; 9217], tile: usize) -> usize
+pub fn box_of(nest: Nest, lens: &[u16; TABLE_WORDS], tile: usize) -> usize
     requires { ⌜ Accepted nest × (Tiles nest (now lens) × (tile < tiles nest)) ⌝ }
     ensures { λ r. ⌜ (r ≡ boxTile nest tile) × (r < boxTiles nest) ⌝ }
 {
-    lens[7168 + tile] as usize
+    lens[MOST_MESSAGES + tile] as usize
 }
 
 // A tile's processor.
-pub fn owner_of(nest: Nest, lens: &[u16; 9217], tile: usize) -> usize
+pub fn owner_of(nest: Nest, lens: &[u16; TABLE_WORDS], tile: usize) -> usize
     requires { ⌜ Accepted nest × (Owned nest (now lens) (tiles nest) × (tile < tiles nest)) ⌝ }
     ensures { λ r. ⌜ (r ≡ processorOf nest (boxTile nest tile)) × (r < processors nest) ⌝ }
 {
-    lens[8192 + tile] as usize
+    lens[OWNERS_AT + tile] as usize
 }
 
 // The processor of a tile of the box, and the end of its row; from this tile on those below the old end have the old one.
 fn owner_at(nest: Nest, sizes: Sizes, old: Owner, tile: usize) -> Owner
-    requires { ⌜ Sized nest sizes × ((tile < boxTiles nest) × Held nest tile (old .number) (old .end)) ⌝ }
-    ensures { λ r. ⌜ (r .number ≡ processorOf nest tile) × ((r .number < processors nest) × Held nest tile (r .number) (r .end)) ⌝ }
+    requires { ⌜ Sized nest sizes × ((tile < boxTiles nest) × OneProcessor nest tile (old .number) (old .end)) ⌝ }
+    ensures { λ r. ⌜ (r .number ≡ processorOf nest tile) × ((r .number < processors nest) × OneProcessor nest tile (r .number) (r .end)) ⌝ }
 {
     if tile < old.end {
         return old;
@@ -122,7 +127,7 @@ fn owner_at(nest: Nest, sizes: Sizes, old: Owner, tile: usize) -> Owner
 }
 
 // The processor of each tile: along the last dimension, which is not spread, it is the same.
-fn fill_owners(nest: Nest, sizes: Sizes, lens: &mut [u16; 9217])
+fn fill_owners(nest: Nest, sizes: Sizes, lens: &mut [u16; TABLE_WORDS])
     requires { ⌜ Sized nest sizes × Tiles nest (now lens) ⌝ }
     ensures { λ _. ⌜ Owned nest (now (lens .exit)) (tiles nest) ⌝ }
 {
@@ -131,7 +136,7 @@ fn fill_owners(nest: Nest, sizes: Sizes, lens: &mut [u16; 9217])
     for t in 0..n {
         let tile = box_of(nest, lens, t);
         owner = owner_at(nest, sizes, owner, tile);
-        lens[8192 + t] = owner.number as u16;
+        lens[OWNERS_AT + t] = owner.number as u16;
     }
 }
 
@@ -156,14 +161,20 @@ fn slot_length(
         return 0;
     }
     let across = sizes.across;
-    if parcels::outside(across, at, ahead, nest.spread) {
+    if parcels::beyond_last(across, at, ahead, nest.spread) {
         return 0;
     }
     parcels::shaped::count_of(nest, sizes, most, tile, at, way)
 }
 
 // The lengths of a tile's parcels, counted.
-fn count_tile(nest: Nest, sizes: Sizes, lens: &mut [u16; 9217], most: [usize; 4], tile: usize)
+fn count_tile(
+    nest: Nest,
+    sizes: Sizes,
+    lens: &mut [u16; TABLE_WORDS],
+    most: [usize; 4],
+    tile: usize,
+)
     requires { ⌜ Sized nest sizes × ((sizes .route ≡ Direct) × Farthest nest most) ⌝ }
     requires { ⌜ (tile < tiles nest) × Filling nest (now lens) (tile * directions nest) ⌝ }
     ensures { λ _. ⌜ Filling nest (now (lens .exit)) ((tile + 1) * directions nest) ⌝ }
@@ -178,7 +189,14 @@ fn count_tile(nest: Nest, sizes: Sizes, lens: &mut [u16; 9217], most: [usize; 4]
 }
 
 // The row of a tile of the box: the old one, where it is not at its end.
-fn line_at(nest: Nest, sizes: Sizes, most: [usize; 4], by: Move, old: Line, tile: usize) -> Line
+fn line_at(
+    nest: Nest,
+    sizes: Sizes,
+    most: [usize; 4],
+    by: Move,
+    old: TileRow,
+    tile: usize,
+) -> TileRow
     requires { ⌜ Sized nest sizes × ((tile < boxTiles nest) × (Farthest nest most × Moves nest (by .steps) (by .far))) ⌝ }
     requires { ⌜ Lined nest (old .far) (old .from) (old .to) ⌝ }
     ensures { λ r. ⌜ Lined nest (r .far) (r .from) (r .to) ⌝ }
@@ -190,7 +208,7 @@ fn line_at(nest: Nest, sizes: Sizes, most: [usize; 4], by: Move, old: Line, tile
 }
 
 // The first tile from one on, before another, that is not further before it in the box than so far; the other, if there is none.
-fn back_of(nest: Nest, lens: &[u16; 9217], far: usize, from: usize, tile: usize) -> usize
+fn back_of(nest: Nest, lens: &[u16; TABLE_WORDS], far: usize, from: usize, tile: usize) -> usize
     requires { ⌜ Accepted nest × ((tile < tiles nest) × (Tiles nest (now lens) × ((far ≤ 65536) × (from ≤ tile)))) ⌝ }
     ensures { λ r. ⌜ r ≤ tile ⌝ }
 {
@@ -219,7 +237,7 @@ fn model_of(far: usize, tile: usize, back: usize) -> usize
 }
 
 // Whether a tile's parcels are known to be as long as those of tile p: its row says so of the tile so far before it.
-fn is_like(nest: Nest, lens: &[u16; 9217], line: Line, tile: usize, p: usize) -> bool
+fn is_like(nest: Nest, lens: &[u16; TABLE_WORDS], line: TileRow, tile: usize, p: usize) -> bool
     requires { ⌜ Accepted nest × ((tile < tiles nest) × (Tiles nest (now lens) × (Lined nest (line .far) (line .from) (line .to) × (p ≤ tile)))) ⌝ }
     ensures { λ r. ⌜ (r ≡ true → Like nest tile p) ⌝ }
 {
@@ -238,7 +256,14 @@ fn is_like(nest: Nest, lens: &[u16; 9217], line: Line, tile: usize, p: usize) ->
 }
 
 // The length of a tile's parcel along a way, as that of tile p, which is in the table.
-fn length_as(nest: Nest, sizes: Sizes, lens: &[u16; 9217], tile: usize, p: usize, way: usize) -> u16
+fn length_as(
+    nest: Nest,
+    sizes: Sizes,
+    lens: &[u16; TABLE_WORDS],
+    tile: usize,
+    p: usize,
+    way: usize,
+) -> u16
     requires { ⌜ Sized nest sizes × ((sizes .route ≡ Direct) × Like nest tile p) ⌝ }
     requires { ⌜ (tile < tiles nest) × ((way < directions nest) × Filling nest (now lens) (tile * directions nest + way)) ⌝ }
     ensures { λ r. ⌜ r ≡ length (shapedSlotParcel nest (tile * directions nest + way)) ⌝ }
@@ -247,7 +272,7 @@ fn length_as(nest: Nest, sizes: Sizes, lens: &[u16; 9217], tile: usize, p: usize
 }
 
 // The lengths of a tile's parcels, as those of tile p.
-fn copy_tile(nest: Nest, sizes: Sizes, lens: &mut [u16; 9217], tile: usize, p: usize)
+fn copy_tile(nest: Nest, sizes: Sizes, lens: &mut [u16; TABLE_WORDS], tile: usize, p: usize)
     requires { ⌜ Sized nest sizes × ((sizes .route ≡ Direct) × Like nest tile p) ⌝ }
     requires { ⌜ (tile < tiles nest) × Filling nest (now lens) (tile * directions nest) ⌝ }
     ensures { λ _. ⌜ Filling nest (now (lens .exit)) ((tile + 1) * directions nest) ⌝ }
@@ -262,9 +287,9 @@ fn copy_tile(nest: Nest, sizes: Sizes, lens: &mut [u16; 9217], tile: usize, p: u
 fn fill_tile(
     nest: Nest,
     sizes: Sizes,
-    lens: &mut [u16; 9217],
+    lens: &mut [u16; TABLE_WORDS],
     most: [usize; 4],
-    line: Line,
+    line: TileRow,
     tile: usize,
     back: usize,
 )
@@ -281,18 +306,18 @@ fn fill_tile(
 }
 
 // The whole table.
-pub fn fill(nest: Nest, sizes: Sizes, lens: &mut [u16; 9217])
+pub fn fill(nest: Nest, sizes: Sizes, lens: &mut [u16; TABLE_WORDS])
     requires { ⌜ Sized nest sizes × ((sizes .route ≡ Direct) × (length (now lens) ≡ 9217)) ⌝ }
     ensures { λ _. ⌜ ShapedTable nest (now (lens .exit)) ⌝ }
 {
-    let mut marks = [0u8; 16384];
+    let mut marks = [0u8; MOST_CELLS];
     mark_tiles(nest, &mut marks);
     list_tiles(nest, sizes, &marks, lens);
     fill_owners(nest, sizes, lens);
     let most = parcels::shaped::farthest(nest);
     let n = tiles_of(nest, lens);
     let by = move_of(nest, sizes);
-    let mut line = Line {
+    let mut line = TileRow {
         from: 0,
         to: 0,
         far: 0,
@@ -308,7 +333,7 @@ pub fn fill(nest: Nest, sizes: Sizes, lens: &mut [u16; 9217])
 }
 
 // How many messages and words there are.
-pub fn totals(nest: Nest, sizes: Sizes, lens: &[u16; 9217]) -> Total
+pub fn totals(nest: Nest, sizes: Sizes, lens: &[u16; TABLE_WORDS]) -> Total
     requires { ⌜ Sized nest sizes × ((sizes .route ≡ Direct) × ShapedTable nest (now lens)) ⌝ }
     ensures { λ r. ⌜ (r .messages ≡ count (planOf Direct nest)) × ((r .words ≡ words (planOf Direct nest))
         × ((r .messages ≤ 7168) × (r .words ≤ 117440512))) ⌝ }
@@ -318,7 +343,7 @@ pub fn totals(nest: Nest, sizes: Sizes, lens: &[u16; 9217]) -> Total
 }
 
 // How many tiles the processor has.
-pub fn tile_count(nest: Nest, lens: &[u16; 9217], processor: usize) -> usize
+pub fn tile_count(nest: Nest, lens: &[u16; TABLE_WORDS], processor: usize) -> usize
     requires { ⌜ Accepted nest × ShapedTable nest (now lens) ⌝ }
     ensures { λ r. ⌜ (r ≡ length (tilesOf (planOf Direct nest) processor)) × (r ≤ 1024) ⌝ }
 {
@@ -334,7 +359,7 @@ pub fn tile_count(nest: Nest, lens: &[u16; 9217], processor: usize) -> usize
 }
 
 // Its tile after so many finished ones.
-pub fn tile_at(nest: Nest, lens: &[u16; 9217], processor: usize, finished: usize) -> usize
+pub fn tile_at(nest: Nest, lens: &[u16; TABLE_WORDS], processor: usize, finished: usize) -> usize
     requires { ⌜ Accepted nest × ShapedTable nest (now lens) ⌝ }
     requires { ⌜ finished < length (tilesOf (planOf Direct nest) processor) ⌝ }
     ensures { λ r. ⌜ (r ≡ getD (tilesOf (planOf Direct nest) processor) finished 0) × (r < tiles nest) ⌝ }
@@ -365,7 +390,7 @@ fn steps_of(nest: Nest, sizes: Sizes) -> [usize; 8]
 fn has_end(
     nest: Nest,
     sizes: Sizes,
-    lens: &[u16; 9217],
+    lens: &[u16; TABLE_WORDS],
     steps: [usize; 8],
     slot: usize,
     tile: usize,
@@ -396,7 +421,7 @@ fn has_end(
 fn sends_at(
     nest: Nest,
     sizes: Sizes,
-    lens: &[u16; 9217],
+    lens: &[u16; TABLE_WORDS],
     steps: [usize; 8],
     slot: usize,
     tile: usize,
@@ -431,7 +456,13 @@ fn range_of(nest: Nest, sizes: Sizes, tile: usize, side: usize) -> Range
 }
 
 // How many messages have the tile at this end.
-pub fn count_at(nest: Nest, sizes: Sizes, lens: &[u16; 9217], tile: usize, side: usize) -> usize
+pub fn count_at(
+    nest: Nest,
+    sizes: Sizes,
+    lens: &[u16; TABLE_WORDS],
+    tile: usize,
+    side: usize,
+) -> usize
     requires { ⌜ Sized nest sizes × ((sizes .route ≡ Direct) × (ShapedTable nest (now lens) × (tile < tiles nest))) ⌝ }
     ensures { λ r. ⌜ (r ≡ length (atEnd side (planOf Direct nest) tile)) × (r ≤ 7168) ⌝ }
 {
@@ -451,11 +482,11 @@ pub fn count_at(nest: Nest, sizes: Sizes, lens: &[u16; 9217], tile: usize, side:
 pub fn nth_at(
     nest: Nest,
     sizes: Sizes,
-    lens: &[u16; 9217],
+    lens: &[u16; TABLE_WORDS],
     tile: usize,
     side: usize,
     j: usize,
-) -> Place
+) -> MessageSlot
     requires { ⌜ Sized nest sizes × ((sizes .route ≡ Direct) × (ShapedTable nest (now lens) × (tile < tiles nest))) ⌝ }
     requires { ⌜ j < length (atEnd side (planOf Direct nest) tile) ⌝ }
     ensures { λ r. ⌜ Found (shapedMessage nest) (shapedSlots nest) (getD (atEnd side (planOf Direct nest) tile) j 0) r ⌝ }
@@ -468,7 +499,7 @@ pub fn nth_at(
         if sends_at(nest, sizes, lens, steps, s, tile, side) {
             if seen == j {
                 let before = crate::scans::sums_to(lens, s);
-                return Place {
+                return MessageSlot {
                     slot: s,
                     number: before.messages,
                     offset: before.words,
@@ -478,7 +509,7 @@ pub fn nth_at(
             seen += 1;
         }
     }
-    Place {
+    MessageSlot {
         slot: 0,
         number: 0,
         offset: 0,
@@ -487,7 +518,7 @@ pub fn nth_at(
 }
 
 // The tile that takes a slot's message.
-pub fn taker_of(nest: Nest, sizes: Sizes, lens: &[u16; 9217], slot: usize) -> usize
+pub fn taker_of(nest: Nest, sizes: Sizes, lens: &[u16; TABLE_WORDS], slot: usize) -> usize
     requires { ⌜ Sized nest sizes × ((sizes .route ≡ Direct) × (ShapedTable nest (now lens) × (slot < shapedSlots nest))) ⌝ }
     ensures { λ r. ⌜ (0 < length (shapedSlotParcel nest slot) → r ≡ endOf 1 (shapedMessage nest slot)) ⌝ }
 {

@@ -1,5 +1,5 @@
--- A turn of an office, for code that has the machine's turn: record and shared word go by the same test, so one word stored
--- after it, by the stage that it left, is all that an office's turn has more.
+-- A turn of a tenant, for code that has the machine's turn: record and shared word go by the same test, so one word stored
+-- after it, by the stage that it left, is all that a tenant's turn has more.
 use Prim.Native.Nat.{ℕ, _*_, _≤_, _<_}
 use mathlib.Core.Path.{_≡_, sym, ap, _∙_}
 use mathlib.Core.Logic.{_≢_}
@@ -15,12 +15,12 @@ use Rattle.machine.specs.Plan.{Plan}
 use Rattle.machine.specs.Machine.{State, stageOf, Answered}
 use Rattle.machine.specs.Machine.{turn}
 use Rattle.machine.proofs.Turns.{can, by-next}
-use Rattle.tenants.specs.Offices.{Lent, lentOf, holderOf, wordFor, fitWord, fitFor, heldByOther}
-use Rattle.tenants.specs.Offices.{carryOutFor, turnFor}
+use Rattle.tenants.specs.Tenants.{TenantAreas, tenantAreas, holderOf, wordFor, fitWord, fitFor, heldByOther}
+use Rattle.tenants.specs.Tenants.{carryOutFor, turnFor}
 use Rattle.tenants.proofs.OneCall.{Admits, turn-number, turn-own, turn-done}
 use Rattle.tenants.proofs.SharedWords.{begun-held, acted}
 
-module _ (p : Plan) (source : List ℕ) (o : ℕ) (l : Lent) (theirs : List ℕ) (b : ℕ) (admits : Admits p o l theirs)
+module _ (p : Plan) (source : List ℕ) (o : ℕ) (l : TenantAreas) (theirs : List ℕ) (b : ℕ) (admits : Admits p o l theirs)
     (free : heldByOther p o l b ≡ false) (len : length (l .own .progress) ≡ 3 * p .processors)
     (wide : length (l .engaged) ≡ p .processors) where
   abbrev a : Answered State
@@ -36,7 +36,7 @@ module _ (p : Plan) (source : List ℕ) (o : ℕ) (l : Lent) (theirs : List ℕ)
   words-done : a .number ≡ 0 → turnFor p source o l theirs b .after .engaged ≡ set (l .engaged) b (wordFor o (stageOf (a .after) b))
   unfolding carryOutFor
   words-done z =
-      ap (λ (x : Lent). x .engaged) (turn-done p o l theirs source b (same ∙ z))
+      ap (λ (x : TenantAreas). x .engaged) (turn-done p o l theirs source b (same ∙ z))
       ∙ acted p source o l b low len wide _ _ _ (holds low) .word
       ∙ ap (λ (s : State). set (l .engaged) b (wordFor o (stageOf s b))) (sym (by-next p source (l .own) b z))
     where
@@ -45,7 +45,7 @@ module _ (p : Plan) (source : List ℕ) (o : ℕ) (l : Lent) (theirs : List ℕ)
 
   words-kept : a .number ≢ 0 → turnFor p source o l theirs b .after .engaged ≡ l .engaged
   unfolding turnFor
-  words-kept n = ap (λ (x : Lent). x .engaged) (pick-false _ _ _ (ne-eqb _ 0 (λ z. n (sym same ∙ z))))
+  words-kept n = ap (λ (x : TenantAreas). x .engaged) (pick-false _ _ _ (ne-eqb _ 0 (λ z. n (sym same ∙ z))))
 
   words : turnFor p source o l theirs b .after .engaged
       ≡ pick (eqb (a .number) 0) (set (l .engaged) b (wordFor o (stageOf (a .after) b))) (l .engaged)
@@ -59,10 +59,10 @@ module _ (p : Plan) (source : List ℕ) (o : ℕ) (l : Lent) (theirs : List ℕ)
   pub turn-by : turnFor p source o l theirs b
       ≡ record {
         number = a .number;
-        after = lentOf (a .after) (pick (eqb (a .number) 0) (set (l .engaged) b (wordFor o (stageOf (a .after) b))) (l .engaged));
+        after = tenantAreas (a .after) (pick (eqb (a .number) 0) (set (l .engaged) b (wordFor o (stageOf (a .after) b))) (l .engaged));
       }
   turn-by = alike same (turn-own p o l theirs source b admits free) words
     where
-      alike : {x : Answered Lent} {n : ℕ} {s : State} {ws : List ℕ} → x .number ≡ n → x .after .own ≡ s → x .after .engaged ≡ ws
-          → x ≡ record { number = n; after = lentOf s ws }
+      alike : {x : Answered TenantAreas} {n : ℕ} {s : State} {ws : List ℕ} → x .number ≡ n → x .after .own ≡ s → x .after .engaged ≡ ws
+          → x ≡ record { number = n; after = tenantAreas s ws }
       alike e f g = rw (sym e, sym f, sym g)

@@ -1,4 +1,4 @@
--- The shared words agree with both offices' stages after every call: the invariant of a rig.
+-- The shared words agree with both tenants' stages after every call: the invariant of a sharing.
 use Prim.Native.Nat.{ℕ, _≤_, _<_}
 use mathlib.Core.Path.{_≡_, sym, ap, _∙_}
 use mathlib.Core.Logic.{_≢_}
@@ -17,24 +17,24 @@ use Rattle.machine.proofs.Turns.{Can, can}
 use Rattle.machine.proofs.Kept.{Inv, inv-fit}
 use Rattle.machine.proofs.Fresh.{inv-fresh, stage-fresh}
 use Rattle.machine.proofs.Along.{next-inv}
-use Rattle.tenants.specs.Offices.{Lent, holderOf, otherThan, stageAgrees, wordFor, fitWord, fitFor, heldByOther}
-use Rattle.tenants.specs.Offices.{carryOutFor, turnFor, deliverFor, actFor}
-use Rattle.tenants.specs.Offices.{Rig, Sources, sourceFor, ownOf, otherOf, lentTo, returned, freshRig, Call, actOn}
+use Rattle.tenants.specs.Tenants.{TenantAreas, holderOf, otherThan, stageAgrees, wordFor, fitWord, fitFor, heldByOther}
+use Rattle.tenants.specs.Tenants.{carryOutFor, turnFor, deliverFor, actFor}
+use Rattle.tenants.specs.Tenants.{Sharing, Sources, sourceFor, ownOf, otherOf, lentTo, returned, freshSharing, Call, actOn}
 use Rattle.tenants.proofs.OneCall.{Admits, turn-admits, turn-number, turn-done, deliver-words, deliver-records, act-own}
 use Rattle.tenants.proofs.SharedWords.{agrees-free, free-zero, begun-held, word-low, word-agrees, word-other, Acted, acted}
-use Rattle.tenants.proofs.OneCall.{office-both, office-other, returned-own, returned-other, call-refused, call-office}
+use Rattle.tenants.proofs.OneCall.{tenant-both, tenant-other, returned-own, returned-other, call-refused, call-tenant}
 
 -- ---- the invariant
-pub record RigInv (p : Plan) (sources : Sources) (r : Rig) : Type 0 where
+pub record SharingInv (p : Plan) (sources : Sources) (r : Sharing) : Type 0 where
   pub inv : (o : ℕ) → o ≤ 1 → Inv p (sourceFor sources o) (ownOf r o)
   pub wide : length (r .engaged) ≡ p .processors
   pub words : (b : ℕ) → b < p .processors → holderOf (r .engaged) b ≤ 2
   pub stages : (b : ℕ) → b < p .processors → (o : ℕ) → o ≤ 1 → stageAgrees (holderOf (r .engaged) b) o (stageOf (ownOf r o) b) ≡ true
 
--- a rig with the invariant is fit for either office
-module _ (p : Plan) (sources : Sources) (r : Rig) (inv : RigInv p sources r) (o : ℕ) (h : o ≤ 1) where
+-- a sharing with the invariant is fit for either tenant
+module _ (p : Plan) (sources : Sources) (r : Sharing) (inv : SharingInv p sources r) (o : ℕ) (h : o ≤ 1) where
   pub other-is : otherOf r o ≡ ownOf r (otherThan o)
-  other-is = office-other o (otherThan o) (r .second) (r .first) h (omega arith) (λ e. omega arith)
+  other-is = tenant-other o (otherThan o) (r .second) (r .first) h (omega arith) (λ e. omega arith)
 
   word-fits : (b : ℕ) → b < p .processors → fitWord o (lentTo r o) (otherOf r o .progress) b ≡ true
   unfolding fitWord
@@ -42,52 +42,52 @@ module _ (p : Plan) (sources : Sources) (r : Rig) (inv : RigInv p sources r) (o 
       and-true (le-leb _ _ (inv .words b k))
       (and-true (inv .stages b k o h) (rw other-is (inv .stages b k (otherThan o) (omega arith))))
 
-  pub rig-fit : fitFor p o (lentTo r o) (otherOf r o .progress) ≡ true
+  pub sharing-fit : fitFor p o (lentTo r o) (otherOf r o .progress) ≡ true
   unfolding fitFor fitRecord tilesLeft
-  rig-fit =
+  sharing-fit =
       and-true (inv-fit p _ (ownOf r o) (inv .inv o h))
       (and-true (every-all _ (p .processors) (λ b k. rw other-is (inv .inv (otherThan o) (omega arith) .shape .records b k)))
       (every-all _ (p .processors) word-fits))
 
 -- ---- a fresh start has it
 module _ (p : Plan) (b : ℕ) (low : b < p .processors) where
-  none-holds : holderOf (freshRig p .engaged) b ≡ 2
-  unfolding freshRig
+  none-holds : holderOf (freshSharing p .engaged) b ≡ 2
+  unfolding freshSharing
   none-holds = getD-replicate {A = ℕ} (p .processors) b 2 0 low
 
-  none-begun : (o : ℕ) → stageOf (ownOf (freshRig p) o) b ≡ 0
-  unfolding freshRig
-  none-begun o = ap (λ (s : State). stageOf s b) (office-both o (fresh p)) ∙ stage-fresh p b
+  none-begun : (o : ℕ) → stageOf (ownOf (freshSharing p) o) b ≡ 0
+  unfolding freshSharing
+  none-begun o = ap (λ (s : State). stageOf s b) (tenant-both o (fresh p)) ∙ stage-fresh p b
 
-pub inv-start : (p : Plan) (sources : Sources) → RigInv p sources (freshRig p)
-unfolding freshRig
+pub inv-start : (p : Plan) (sources : Sources) → SharingInv p sources (freshSharing p)
+unfolding freshSharing
 inv-start p sources =
     record {
-      inv = λ o h. rw (office-both o (fresh p)) (inv-fresh p (sourceFor sources o));
+      inv = λ o h. rw (tenant-both o (fresh p)) (inv-fresh p (sourceFor sources o));
       wide = length-replicate _ _;
       words = λ b k. omega (arith, none-holds p b k);
       stages = λ b k o h. agrees-free _ o _ (λ e. omega (arith, none-holds p b k)) (none-begun p b k o);
     }
 
--- ---- a call of office q leaves it
-module _ (p : Plan) (so : Sound p) (sources : Sources) (r : Rig) (inv : RigInv p sources r) (q : ℕ) (hq : q ≤ 1) where
+-- ---- a call of tenant q leaves it
+module _ (p : Plan) (so : Sound p) (sources : Sources) (r : Sharing) (inv : SharingInv p sources r) (q : ℕ) (hq : q ≤ 1) where
   abbrev source : List ℕ
   source = sourceFor sources q
 
-  abbrev lent : Lent
+  abbrev lent : TenantAreas
   lent = lentTo r q
 
   abbrev theirs : List ℕ
   theirs = otherOf r q .progress
 
-  -- processor b's word after the call, against its office's stage and the other's, which stays
-  record Fits (l : Lent) (b : ℕ) : Type 0 where
+  -- processor b's word after the call, against its tenant's stage and the other's, which stays
+  record Fits (l : TenantAreas) (b : ℕ) : Type 0 where
     word : holderOf (l .engaged) b ≤ 2
     own : stageAgrees (holderOf (l .engaged) b) q (stageOf (l .own) b) ≡ true
     other : (o : ℕ) → o ≤ 1 → o ≢ q → stageAgrees (holderOf (l .engaged) b) o (stageOf (ownOf r o) b) ≡ true
 
-  inv-returned : (l : Lent) → Inv p source (l .own) → length (l .engaged) ≡ p .processors → ((b : ℕ) → b < p .processors → Fits l b)
-      → RigInv p sources (returned r q l)
+  inv-returned : (l : TenantAreas) → Inv p source (l .own) → length (l .engaged) ≡ p .processors → ((b : ℕ) → b < p .processors → Fits l b)
+      → SharingInv p sources (returned r q l)
   unfolding returned
   inv-returned l own wide f =
       record {
@@ -98,7 +98,7 @@ module _ (p : Plan) (so : Sound p) (sources : Sources) (r : Rig) (inv : RigInv p
       }
     where
       away : (o : ℕ) → o ≤ 1 → o ≢ q → ownOf (returned r q l) o ≡ ownOf r o
-      away o h n = office-other o q _ _ h hq n ∙ returned-other r q l ∙ sym (office-other o q _ _ h hq n)
+      away o h n = tenant-other o q _ _ h hq n ∙ returned-other r q l ∙ sym (tenant-other o q _ _ h hq n)
 
       its-inv : (o : ℕ) → o ≤ 1 → Dec (o ≡ q) → Inv p (sourceFor sources o) (ownOf (returned r q l) o)
       its-inv o h (yes e) = rw (e, returned-own r q l) own
@@ -115,7 +115,7 @@ module _ (p : Plan) (so : Sound p) (sources : Sources) (r : Rig) (inv : RigInv p
 
   -- a turn of processor b that gave 0
   module _ (b : ℕ) (z : turnFor p source q lent theirs b .number ≡ 0) where
-    abbrev turned : Lent
+    abbrev turned : TenantAreas
     turned = turnFor p source q lent theirs b .after
 
     admits : Admits p q lent theirs × (heldByOther p q lent b ≡ false)
@@ -133,7 +133,7 @@ module _ (p : Plan) (so : Sound p) (sources : Sources) (r : Rig) (inv : RigInv p
         rw (turn-done p q lent theirs source b z)
         (acted p source q lent b low (inv .inv q hq .shape .progress) (inv .wide) _ _ _ (λ k. begun-held _ q _ (inv .stages b low q hq) k))
 
-    -- the other office doesn't hold it, so its stage there is 0
+    -- the other tenant doesn't hold it, so its stage there is 0
     none-other : (o : ℕ) → o ≤ 1 → o ≢ q → stageOf (ownOf r o) b ≡ 0
     unfolding heldByOther tilesLeft
     none-other o h n =
@@ -169,15 +169,15 @@ module _ (p : Plan) (so : Sound p) (sources : Sources) (r : Rig) (inv : RigInv p
     wide-after : length (turned .engaged) ≡ length (lent .engaged)
     wide-after = ap length (left .word) ∙ length-set (lent .engaged) b _
 
-    after-turn : Inv p source (turned .own) → RigInv p sources (returned r q turned)
+    after-turn : Inv p source (turned .own) → SharingInv p sources (returned r q turned)
     after-turn own = inv-returned turned own (wide-after ∙ inv .wide) (λ c k. fits-after c k (ℕ-discrete c b))
 
   -- a delivery
   module _ (m : ℕ) where
-    abbrev brought : Lent
+    abbrev brought : TenantAreas
     brought = deliverFor p q lent theirs m .after
 
-    after-delivery : Inv p source (brought .own) → RigInv p sources (returned r q brought)
+    after-delivery : Inv p source (brought .own) → SharingInv p sources (returned r q brought)
     after-delivery own = inv-returned brought own (ap length (deliver-words p q lent theirs m) ∙ inv .wide) fits-after
       where
         fits-after : (c : ℕ) → c < p .processors → Fits brought c
@@ -189,28 +189,28 @@ module _ (p : Plan) (so : Sound p) (sources : Sources) (r : Rig) (inv : RigInv p
             }
 
   after-event : (e : Event) → actFor p source q lent theirs e .number ≡ 0 → Inv p source (actFor p source q lent theirs e .after .own)
-      → RigInv p sources (returned r q (actFor p source q lent theirs e .after))
+      → SharingInv p sources (returned r q (actFor p source q lent theirs e .after))
   unfolding actFor
   after-event (turnOf b) z own = after-turn b z own
   after-event (deliveryOf m) z own = after-delivery m own
 
   after-own : (e : Event) → actFor p source q lent theirs e .number ≡ 0
-      → RigInv p sources (returned r q (actFor p source q lent theirs e .after))
+      → SharingInv p sources (returned r q (actFor p source q lent theirs e .after))
   after-own e z = after-event e z (rw (act-own p q lent theirs source e z) (next-inv p so source (ownOf r q) (inv .inv q hq) e))
 
 module _ (p : Plan) (so : Sound p) (sources : Sources) where
-  after-done : (r : Rig) → RigInv p sources r → (c : Call) → actOn p sources r c .number ≡ 0 → RigInv p sources (actOn p sources r c .after)
+  after-done : (r : Sharing) → SharingInv p sources r → (c : Call) → actOn p sources r c .number ≡ 0 → SharingInv p sources (actOn p sources r c .after)
   unfolding actOn
-  after-done r inv c z = after-own p so sources r inv (c .office) (call-office p sources r c z) (c .event) z
+  after-done r inv c z = after-own p so sources r inv (c .tenant) (call-tenant p sources r c z) (c .event) z
 
-  pub inv-next : (r : Rig) → RigInv p sources r → (c : Call) → RigInv p sources (actOn p sources r c .after)
+  pub inv-next : (r : Sharing) → SharingInv p sources r → (c : Call) → SharingInv p sources (actOn p sources r c .after)
   inv-next r inv c = go (ℕ-discrete (actOn p sources r c .number) 0)
     where
-      go : Dec (actOn p sources r c .number ≡ 0) → RigInv p sources (actOn p sources r c .after)
+      go : Dec (actOn p sources r c .number ≡ 0) → SharingInv p sources (actOn p sources r c .after)
       go (yes z) = after-done r inv c z
       go (no n) = rw (call-refused p sources r c n) inv
 
-  pub inv-run : (cs : List Call) (r : Rig) → RigInv p sources r → RigInv p sources (stateAfter (actOn p sources) r cs)
+  pub inv-run : (cs : List Call) (r : Sharing) → SharingInv p sources r → SharingInv p sources (stateAfter (actOn p sources) r cs)
   unfolding stateAfter
   inv-run [] r inv = inv
   inv-run (c ∷ cs) r inv = inv-run cs _ (inv-next r inv c)

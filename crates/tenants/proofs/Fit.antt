@@ -13,7 +13,7 @@ use Rattle.base.proofs.Tests.{both, either, and-true, pick-true, pick-false, ev
 use Rattle.machine.specs.Plan.{Plan}
 use Rattle.machine.specs.Machine.{progressOnly, stageOf, tilesLeft, fitRecord, waiting}
 use Rattle.machine.proofs.Fit.{tests, none-left, some-left}
-use Rattle.tenants.specs.Offices.{Lent, holderOf, otherThan, stageAgrees, fitWord, fitFor, heldByOther, turnFor}
+use Rattle.tenants.specs.Tenants.{TenantAreas, holderOf, otherThan, stageAgrees, fitWord, fitFor, heldByOther, turnFor}
 use Rattle.tenants.specs.Fit.{FitWord, FitFor, Engaged, TestsFor, TurnNumberFor, NumbersFor}
 use Rattle.tenants.proofs.SharedWords.{agrees-held, agrees-free, free-zero}
 
@@ -32,7 +32,7 @@ agrees w o g held free = go (ℕ-discrete w o)
     go (yes e) = agrees-held w o g e (held e)
     go (no n) = agrees-free w o g n (free n)
 
-module _ (p : Plan) (o : ℕ) (l : Lent) (theirs : List ℕ) where
+module _ (p : Plan) (o : ℕ) (l : TenantAreas) (theirs : List ℕ) where
   word-only : (b : ℕ) → fitWord o l theirs b ≡ true
       → FitWord o (holderOf (l .engaged) b) (stageOf (l .own) b) (stageOf (progressOnly theirs) b)
   unfolding fitWord
@@ -93,7 +93,7 @@ module _ (p : Plan) (o : ℕ) (l : Lent) (theirs : List ℕ) where
       → TurnNumberFor p o l theirs b
       (firstOf (line 11 (not i) ∷ line 10 (not t) ∷ line 11 (not c) ∷ line 19 h ∷ line 12 w ∷ line 13 (not r) ∷ []))
   unfolding firstOf not pick
-  turn-number b false t c h w r a0 a1 a2 a3 a4 a5 = TurnNumberFor.no-office (leb-false _ _ a0)
+  turn-number b false t c h w r a0 a1 a2 a3 a4 a5 = TurnNumberFor.no-tenant (leb-false _ _ a0)
   turn-number b true false c h w r a0 a1 a2 a3 a4 a5 = TurnNumberFor.unfit (leb-true _ _ a0) (λ q. never-both (all-whenever q) a1)
   turn-number b true true false h w r a0 a1 a2 a3 a4 a5 = TurnNumberFor.no-such (leb-true _ _ a0) (all-only a1) (ltb-false _ _ a2)
   turn-number b true true true true w r a0 a1 a2 a3 a4 a5 =
@@ -107,7 +107,7 @@ module _ (p : Plan) (o : ℕ) (l : Lent) (theirs : List ℕ) where
       TurnNumberFor.done (leb-true _ _ a0) (all-only a1) (ltb-true _ _ a2) (some-left p (l .own) b a5)
       (λ q. never-both (engaged-whenever b q) a3) (λ q. never-both (tests p (l .own) .waits b .whenever q) a4)
 
-pub numbers-for : (p : Plan) (source : List ℕ) (o : ℕ) (l : Lent) (theirs : List ℕ) → NumbersFor p source o l theirs
+pub numbers-for : (p : Plan) (source : List ℕ) (o : ℕ) (l : TenantAreas) (theirs : List ℕ) → NumbersFor p source o l theirs
 unfolding turnFor
 numbers-for p source o l theirs =
     record {

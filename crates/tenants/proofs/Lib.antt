@@ -1,10 +1,10 @@
 pub mod Computed
 pub mod OneCall
-pub mod OfficeTurns
+pub mod TenantTurns
 pub mod SharedWords
 pub mod Fit
 pub mod Engaged
-pub mod OneOffice
+pub mod OneTenant
 pub mod Theorem208
 pub mod ByStep
 pub mod AnyCalls

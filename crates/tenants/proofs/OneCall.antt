@@ -1,4 +1,4 @@
--- One call of one office: past line 11 for the office, line 10 and line 19 it is the machine's call on the office's own areas.
+-- One call of one tenant: past line 11 for the tenant, line 10 and line 19 it is the machine's call on the tenant's own areas.
 use Prim.Native.Nat.{ℕ, _≤_}
 use mathlib.Core.Path.{_≡_, refl, sym, ap, _∙_}
 use mathlib.Core.Logic.{_≢_, _⊎_, inl, inr}
@@ -15,12 +15,12 @@ use Rattle.base.proofs.Numbers.{first-false, first-cons, none-first}
 use Rattle.machine.specs.Plan.{Plan}
 use Rattle.machine.specs.Machine.{State, fit, answered, nextAction, collected, turnLines, turn, deliverLines, deliver, collect}
 use Rattle.machine.specs.Runs.{Event, turnOf, deliveryOf, act}
-use Rattle.tenants.specs.Offices.{Lent, fitFor, heldByOther, turnLinesFor, carryOutFor, turnFor}
-use Rattle.tenants.specs.Offices.{deliverLinesFor, deliveredFor, deliverFor, collectFor, actFor}
-use Rattle.tenants.specs.Offices.{ofOffice, Rig, rigOf, Sources, sourceFor, ownOf, otherOf, lentTo, returned, Call, actOn}
+use Rattle.tenants.specs.Tenants.{TenantAreas, fitFor, heldByOther, turnLinesFor, carryOutFor, turnFor}
+use Rattle.tenants.specs.Tenants.{deliverLinesFor, deliveredFor, deliverFor, collectFor, actFor}
+use Rattle.tenants.specs.Tenants.{ofTenant, Sharing, sharingOf, Sources, sourceFor, ownOf, otherOf, lentTo, returned, Call, actOn}
 
 -- ---- what an answer leaves, by part
-own-after : (n k : ℕ) (x y : Lent) → n ≡ k → pick (eqb n 0) x y .own ≡ pick (eqb k 0) (x .own) (y .own)
+own-after : (n k : ℕ) (x y : TenantAreas) → n ≡ k → pick (eqb n 0) x y .own ≡ pick (eqb k 0) (x .own) (y .own)
 unfolding pick
 own-after n k x y e = ap (λ (i : ℕ). pick (eqb i 0) x y .own) e ∙ go (eqb k 0)
   where
@@ -33,12 +33,12 @@ unfolding pick
 either-way f true x y e = e
 either-way f false x y e = refl
 
--- ---- the lines before the machine's own: the office's number, and line 10 over all that is lent
-pub record Admits (p : Plan) (o : ℕ) (l : Lent) (theirs : List ℕ) : Type 0 where
-  pub office : leb o 1 ≡ true
+-- ---- the lines before the machine's own: the tenant's number, and line 10 over all that is lent
+pub record Admits (p : Plan) (o : ℕ) (l : TenantAreas) (theirs : List ℕ) : Type 0 where
+  pub tenant : leb o 1 ≡ true
   pub fits : fitFor p o l theirs ≡ true
 
-module _ (p : Plan) (o : ℕ) (l : Lent) (theirs : List ℕ) where
+module _ (p : Plan) (o : ℕ) (l : TenantAreas) (theirs : List ℕ) where
   abbrev behind : List Line → List Line
   behind ls = line 11 (not (leb o 1)) ∷ line 10 (not (fitFor p o l theirs)) ∷ ls
 
@@ -46,7 +46,7 @@ module _ (p : Plan) (o : ℕ) (l : Lent) (theirs : List ℕ) where
   admitted ls z =
       let a = none-first 11 _ _ (λ k. omega arith) z in
       let b = none-first 10 _ _ (λ k. omega arith) (a .1) in
-      (record { office = true-not (a .0); fits = true-not (b .0) }, b .1)
+      (record { tenant = true-not (a .0); fits = true-not (b .0) }, b .1)
 
   pub own-fits : fitFor p o l theirs ≡ true → fit p (l .own) ≡ true
   unfolding fitFor
@@ -55,7 +55,7 @@ module _ (p : Plan) (o : ℕ) (l : Lent) (theirs : List ℕ) where
   -- the machine has its line 10 there
   own-lines : Admits p o l theirs → (ls : List Line) → firstOf (behind ls) ≡ firstOf (line 10 (not (fit p (l .own))) ∷ ls)
   own-lines a ls =
-      first-false 11 _ _ (not-true (a .office)) ∙ first-false 10 _ _ (not-true (a .fits))
+      first-false 11 _ _ (not-true (a .tenant)) ∙ first-false 10 _ _ (not-true (a .fits))
       ∙ sym (first-false 10 _ ls (not-true (own-fits (a .fits))))
 
   -- ---- a turn
@@ -105,11 +105,11 @@ module _ (p : Plan) (o : ℕ) (l : Lent) (theirs : List ℕ) where
     -- the shared words and the records stay, whatever the number
     pub deliver-words : deliverFor p o l theirs m .after .engaged ≡ l .engaged
     unfolding deliverFor
-    deliver-words = either-way (λ (x : Lent). x .engaged) _ _ _ refl
+    deliver-words = either-way (λ (x : TenantAreas). x .engaged) _ _ _ refl
 
     pub deliver-records : deliverFor p o l theirs m .after .own .progress ≡ l .own .progress
     unfolding deliverFor
-    deliver-records = either-way (λ (x : Lent). x .own .progress) _ _ _ refl
+    deliver-records = either-way (λ (x : TenantAreas). x .own .progress) _ _ _ refl
 
   -- ---- collecting
   module _ (grid : List ℕ) where
@@ -144,23 +144,23 @@ module _ (p : Plan) (o : ℕ) (l : Lent) (theirs : List ℕ) where
     act-refused (turnOf b) n = pick-false _ _ _ (ne-eqb _ 0 n)
     act-refused (deliveryOf m) n = pick-false _ _ _ (ne-eqb _ 0 n)
 
--- ---- of two things, an office's
+-- ---- of two things, a tenant's
 
-pub office-cases : (o : ℕ) → o ≤ 1 → (o ≡ 0) ⊎ (o ≡ 1)
-office-cases o h = go (ℕ-discrete o 0)
+pub tenant-cases : (o : ℕ) → o ≤ 1 → (o ≡ 0) ⊎ (o ≡ 1)
+tenant-cases o h = go (ℕ-discrete o 0)
   where
     go : Dec (o ≡ 0) → (o ≡ 0) ⊎ (o ≡ 1)
     go (yes e) = inl e
     go (no n) = inr (omega arith)
 
-pub office-both : {A : Type 0} (o : ℕ) (a : A) → ofOffice o a a ≡ a
-unfolding ofOffice
-office-both {A = A} o a = either-way (λ (x : A). x) (eqb o 0) a a refl
+pub tenant-both : {A : Type 0} (o : ℕ) (a : A) → ofTenant o a a ≡ a
+unfolding ofTenant
+tenant-both {A = A} o a = either-way (λ (x : A). x) (eqb o 0) a a refl
 
--- one office's is the other's other
-pub office-other : {A : Type 0} (o c : ℕ) (a b : A) → o ≤ 1 → c ≤ 1 → o ≢ c → ofOffice o a b ≡ ofOffice c b a
-unfolding ofOffice pick
-office-other o c a b h k n = go (office-cases o h) (office-cases c k)
+-- one tenant's is the other's other
+pub tenant-other : {A : Type 0} (o c : ℕ) (a b : A) → o ≤ 1 → c ≤ 1 → o ≢ c → ofTenant o a b ≡ ofTenant c b a
+unfolding ofTenant pick
+tenant-other o c a b h k n = go (tenant-cases o h) (tenant-cases c k)
   where
     go : (o ≡ 0) ⊎ (o ≡ 1) → (c ≡ 0) ⊎ (c ≡ 1) → pick (eqb o 0) a b ≡ pick (eqb c 0) b a
     go (inl e) (inl f) = absurd (n (e ∙ sym f))
@@ -168,19 +168,19 @@ office-other o c a b h k n = go (office-cases o h) (office-cases c k)
     go (inr e) (inl f) = rw (e, f)
     go (inr e) (inr f) = absurd (n (e ∙ sym f))
 
--- ---- the rig after a call
+-- ---- the sharing after a call
 
-module _ (r : Rig) (o : ℕ) where
-  pub returned-own : (l : Lent) → ownOf (returned r o l) o ≡ l .own
-  unfolding returned ofOffice pick
+module _ (r : Sharing) (o : ℕ) where
+  pub returned-own : (l : TenantAreas) → ownOf (returned r o l) o ≡ l .own
+  unfolding returned ofTenant pick
   returned-own l = go (eqb o 0)
     where
       go : (t : Bool) → pick t (pick t (l .own) (r .first)) (pick t (r .second) (l .own)) ≡ l .own
       go true = refl
       go false = refl
 
-  pub returned-other : (l : Lent) → otherOf (returned r o l) o ≡ otherOf r o
-  unfolding returned ofOffice pick
+  pub returned-other : (l : TenantAreas) → otherOf (returned r o l) o ≡ otherOf r o
+  unfolding returned ofTenant pick
   returned-other l = go (eqb o 0)
     where
       go : (t : Bool) → pick t (pick t (r .second) (l .own)) (pick t (l .own) (r .first)) ≡ pick t (r .second) (r .first)
@@ -188,20 +188,20 @@ module _ (r : Rig) (o : ℕ) where
       go false = refl
 
   pub returned-same : returned r o (lentTo r o) ≡ r
-  unfolding returned ofOffice pick
+  unfolding returned ofTenant pick
   returned-same = go (eqb o 0)
     where
       own : Bool → State
       own t = pick t (r .first) (r .second)
 
-      go : (t : Bool) → rigOf (pick t (own t) (r .first)) (pick t (r .second) (own t)) (r .engaged) ≡ r
+      go : (t : Bool) → sharingOf (pick t (own t) (r .first)) (pick t (r .second) (own t)) (r .engaged) ≡ r
       go true = refl
       go false = refl
 
--- what a call does to either office's areas
-module _ (p : Plan) (sources : Sources) (r : Rig) (c : Call) where
+-- what a call does to either tenant's areas
+module _ (p : Plan) (sources : Sources) (r : Sharing) (c : Call) where
   abbrev o : ℕ
-  o = c .office
+  o = c .tenant
 
   abbrev theirs : List ℕ
   theirs = otherOf r o .progress
@@ -214,28 +214,28 @@ module _ (p : Plan) (sources : Sources) (r : Rig) (c : Call) where
   unfolding actOn
   call-refused n = ap (returned r o) (act-refused p o (lentTo r o) theirs source (c .event) n) ∙ returned-same r o
 
-  pub call-office : actOn p sources r c .number ≡ 0 → c .office ≤ 1
+  pub call-tenant : actOn p sources r c .number ≡ 0 → c .tenant ≤ 1
   unfolding actOn
-  call-office z = leb-true _ _ (act-admits p o (lentTo r o) theirs source (c .event) z .office)
+  call-tenant z = leb-true _ _ (act-admits p o (lentTo r o) theirs source (c .event) z .tenant)
 
   -- one that gives 0 is the machine's on its own areas
-  pub call-number : actOn p sources r c .number ≡ 0 → act p (sourceFor sources (c .office)) (ownOf r (c .office)) (c .event) .number ≡ 0
+  pub call-number : actOn p sources r c .number ≡ 0 → act p (sourceFor sources (c .tenant)) (ownOf r (c .tenant)) (c .event) .number ≡ 0
   unfolding actOn
   call-number z = act-number p o (lentTo r o) theirs source (c .event) z
 
   pub call-own : actOn p sources r c .number ≡ 0
-      → ownOf (actOn p sources r c .after) (c .office) ≡ act p (sourceFor sources (c .office)) (ownOf r (c .office)) (c .event) .after
+      → ownOf (actOn p sources r c .after) (c .tenant) ≡ act p (sourceFor sources (c .tenant)) (ownOf r (c .tenant)) (c .event) .after
   unfolding actOn
   call-own z = returned-own r o _ ∙ act-own p o (lentTo r o) theirs source (c .event) z
 
-  pub call-other : otherOf (actOn p sources r c .after) (c .office) ≡ otherOf r (c .office)
+  pub call-other : otherOf (actOn p sources r c .after) (c .tenant) ≡ otherOf r (c .tenant)
   unfolding actOn
   call-other = returned-other r o _
 
-  -- another office's areas stay
-  pub call-away : (q : ℕ) → q ≤ 1 → q ≢ c .office → ownOf (actOn p sources r c .after) q ≡ ownOf r q
+  -- another tenant's areas stay
+  pub call-away : (q : ℕ) → q ≤ 1 → q ≢ c .tenant → ownOf (actOn p sources r c .after) q ≡ ownOf r q
   call-away q h n = go (ℕ-discrete (actOn p sources r c .number) 0)
     where
       go : Dec (actOn p sources r c .number ≡ 0) → ownOf (actOn p sources r c .after) q ≡ ownOf r q
-      go (yes z) = office-other q o _ _ h (call-office z) n ∙ call-other ∙ sym (office-other q o _ _ h (call-office z) n)
-      go (no k) = ap (λ (x : Rig). ownOf x q) (call-refused k)
+      go (yes z) = tenant-other q o _ _ h (call-tenant z) n ∙ call-other ∙ sym (tenant-other q o _ _ h (call-tenant z) n)
+      go (no k) = ap (λ (x : Sharing). ownOf x q) (call-refused k)

@@ -1,4 +1,4 @@
--- A processor's shared word against an office's stage there, and what an action of an office leaves of both: the record and the
+-- A processor's shared word against a tenant's stage there, and what an action of a tenant leaves of both: the record and the
 -- word go by the same test, so the word is set by the stage that is left.
 use Prim.Native.Nat.{ℕ, zero, suc, _+_, _*_, _≤_, _<_}
 use mathlib.Core.Path.{_≡_, refl, sym, ap, _∙_}
@@ -15,7 +15,7 @@ use Rattle.base.proofs.Tests.{either, or-left, or-right, pick-true, pick-false}
 use Rattle.machine.specs.Plan.{Plan, sendsOf}
 use Rattle.machine.specs.Machine.{State, stateOf, finishedOf, stageOf, sentOf, setProgress, afterSends, carryOut, actionAt}
 use Rattle.machine.proofs.Records.{stage-same, stage-other}
-use Rattle.tenants.specs.Offices.{Lent, holderOf, stageAgrees, wordFor, freedAfter, engagedAfter}
+use Rattle.tenants.specs.Tenants.{TenantAreas, holderOf, stageAgrees, wordFor, freedAfter, engagedAfter}
 
 -- ---- the test of one word against one stage
 module _ (w o g : ℕ) where
@@ -76,7 +76,7 @@ module _ (o g : ℕ) where
         go (no n) (yes e) = agrees-held _ o g (word-held n) (inl e)
         go (no n) (no m) = agrees-held _ o g (word-held n) (inr (omega arith))
 
-    -- against an office that has not begun
+    -- against a tenant that has not begun
     pub word-other : (c k : ℕ) → c ≤ 1 → c ≢ o → k ≡ 0 → stageAgrees (wordFor o g) c k ≡ true
     word-other c k h ne e = go (ℕ-discrete g 0)
       where
@@ -84,18 +84,18 @@ module _ (o g : ℕ) where
         go (yes z) = agrees-free _ c k (λ q. omega (arith, word-free z)) e
         go (no n) = agrees-free _ c k (λ q. ne (sym q ∙ word-held n)) e
 
--- ---- after an action of office o on processor b
+-- ---- after an action of tenant o on processor b
 set-same : (l : List ℕ) (i v : ℕ) → i < length l → getD l i 0 ≡ v → set l i v ≡ l
 set-same [] i v h e = absurd (omega arith)
 set-same (x ∷ l) zero v h e = rw e
 set-same (x ∷ l) (suc i) v h e = ap (λ (k : List ℕ). x ∷ k) (set-same l i v (omega arith) e)
 
-pub record Acted (o : ℕ) (l : Lent) (b : ℕ) (own : State) (engaged : List ℕ) : Type 0 where
+pub record Acted (o : ℕ) (l : TenantAreas) (b : ℕ) (own : State) (engaged : List ℕ) : Type 0 where
   pub word : engaged ≡ set (l .engaged) b (wordFor o (stageOf own b))
   pub stage-low : stageOf own b ≤ 2
   pub stages : (c : ℕ) → c ≢ b → stageOf own c ≡ stageOf (l .own) c
 
-module _ (p : Plan) (source : List ℕ) (o : ℕ) (l : Lent) (b : ℕ) (low : b < p .processors)
+module _ (p : Plan) (source : List ℕ) (o : ℕ) (l : TenantAreas) (b : ℕ) (low : b < p .processors)
     (len : length (l .own .progress) ≡ 3 * p .processors) (wide : length (l .engaged) ≡ p .processors) where
   -- the record set anew with stage g, and the word as it then should be
   recorded-with : (f g n : ℕ) (x y z engaged : List ℕ) → g ≤ 2 → engaged ≡ set (l .engaged) b (wordFor o g)

@@ -1,4 +1,4 @@
--- Request W-208 for every sound plan, two sources and every list of calls: demand 3 for each office, progress; and isolation.
+-- Request W-208 for every sound plan, two sources and every list of calls: demand 3 for each tenant, progress; and isolation.
 use Prim.Native.Nat.{ℕ, _≤_, _<_}
 use mathlib.Core.Path.{_≡_, sym, ap, _∙_}
 use mathlib.Core.Logic.{_≢_, _⊎_, inl, inr}
@@ -20,17 +20,17 @@ use Rattle.machine.proofs.Kept.{Inv, inv-fit}
 use Rattle.machine.proofs.Theorem.{theorem, named-next}
 use Rattle.machine.proofs.RunLaws.{Passed, ends, steps-same, turns-same, one-end}
 use Rattle.machine.proofs.Once.{once-passed, collects-like}
-use Rattle.tenants.specs.Offices.{Lent, holderOf, otherThan, heldByOther, carryOutFor, engagedAfter}
-use Rattle.tenants.specs.Offices.{Rig, Sources, sourceFor, ownOf, otherOf, lentTo, returned, freshRig}
-use Rattle.tenants.specs.Offices.{Call, turnBy, deliveryBy, actFor, actOn, collectOn}
-use Rattle.tenants.specs.Demand208.{eventsOf, CarriedOutFor, answersFor, stepsFor, OfficeDemand, Demand208, Isolated}
+use Rattle.tenants.specs.Tenants.{TenantAreas, holderOf, otherThan, heldByOther, carryOutFor, engagedAfter}
+use Rattle.tenants.specs.Tenants.{Sharing, Sources, sourceFor, ownOf, otherOf, lentTo, returned, freshSharing}
+use Rattle.tenants.specs.Tenants.{Call, turnBy, deliveryBy, actFor, actOn, collectOn}
+use Rattle.tenants.specs.Demand208.{eventsOf, CarriedOutFor, answersFor, stepsFor, TenantDemand, Demand208, Isolated}
 use Rattle.tenants.proofs.OneCall.{Admits, turn-number, turn-done, deliver-number, collect-is}
-use Rattle.tenants.proofs.OneCall.{office-cases, office-both, call-office, call-number, call-own, call-other}
+use Rattle.tenants.proofs.OneCall.{tenant-cases, tenant-both, call-tenant, call-number, call-own, call-other}
 use Rattle.tenants.proofs.SharedWords.{held-begun}
-use Rattle.tenants.proofs.Engaged.{RigInv, rig-fit, inv-start, inv-run}
-use Rattle.tenants.proofs.OneOffice.{matched}
+use Rattle.tenants.proofs.Engaged.{SharingInv, sharing-fit, inv-start, inv-run}
+use Rattle.tenants.proofs.OneTenant.{matched}
 
--- an office that has begun a tile can go on with it
+-- a tenant that has begun a tile can go on with it
 begun-goes : (p : Plan) (source : List ℕ) (s : State) (b : ℕ) → Inv p source s → b < p .processors → 1 ≤ stageOf s b
     → turn p source s b .number ≡ 0
 begun-goes p source s b inv low h =
@@ -47,123 +47,123 @@ begun-goes p source s b inv low h =
     has-left = go (decLt (finishedOf s b) (length (tilesOf p b)))
 
 -- the shared words after a turn that gave 0
-words-after : (p : Plan) (sources : Sources) (r : Rig) (o b : ℕ) → actOn p sources r (turnBy o b) .number ≡ 0
+words-after : (p : Plan) (sources : Sources) (r : Sharing) (o b : ℕ) → actOn p sources r (turnBy o b) .number ≡ 0
     → actOn p sources r (turnBy o b) .after .engaged ≡ engagedAfter p o (lentTo r o) b (nextAction p (ownOf r o) b)
 unfolding actOn actFor returned carryOutFor
 words-after p sources r o b z =
-    ap (λ (l : Lent). l .engaged) (turn-done p o (lentTo r o) (otherOf r o .progress) (sourceFor sources o) b z)
+    ap (λ (l : TenantAreas). l .engaged) (turn-done p o (lentTo r o) (otherOf r o .progress) (sourceFor sources o) b z)
 
--- ---- one office, any list of calls
+-- ---- one tenant, any list of calls
 module _ (p : Plan) (so : Sound p) (sources : Sources) (o : ℕ) (low : o ≤ 1) (cs : List Call) where
   abbrev source : List ℕ
   source = sourceFor sources o
 
-  abbrev rig : Rig
-  rig = last (actOn p sources) (freshRig p) cs
+  abbrev sharing : Sharing
+  sharing = last (actOn p sources) (freshSharing p) cs
 
   abbrev numbers : List ℕ
-  numbers = answersFor (actOn p sources) (freshRig p) cs o
+  numbers = answersFor (actOn p sources) (freshSharing p) cs o
 
-  rig-inv : RigInv p sources rig
-  rig-inv = inv-run p so sources cs (freshRig p) (inv-start p sources)
+  sharing-inv : SharingInv p sources sharing
+  sharing-inv = inv-run p so sources cs (freshSharing p) (inv-start p sources)
 
-  admits : Admits p o (lentTo rig o) (otherOf rig o .progress)
-  admits = record { office = le-leb _ _ low; fits = rig-fit p sources rig rig-inv o low }
+  admits : Admits p o (lentTo sharing o) (otherOf sharing o .progress)
+  admits = record { tenant = le-leb _ _ low; fits = sharing-fit p sources sharing sharing-inv o low }
 
-  own-fresh : ownOf (freshRig p) o ≡ fresh p
-  unfolding freshRig
-  own-fresh = office-both o (fresh p)
+  own-fresh : ownOf (freshSharing p) o ≡ fresh p
+  unfolding freshSharing
+  own-fresh = tenant-both o (fresh p)
 
   -- its events that gave 0: a run of the machine
   passed : List Event
-  passed = matched p sources o low cs (freshRig p) .0
+  passed = matched p sources o low cs (freshSharing p) .0
 
-  as-single : Passed (act p source) (fresh p) (eventsOf o cs) numbers passed (ownOf rig o)
+  as-single : Passed (act p source) (fresh p) (eventsOf o cs) numbers passed (ownOf sharing o)
   unfolding passed
-  as-single = rw own-fresh at (matched p sources o low cs (freshRig p) .1)
+  as-single = rw own-fresh at (matched p sources o low cs (freshSharing p) .1)
 
-  led-to : stateAfter (act p source) (fresh p) passed ≡ ownOf rig o
+  led-to : stateAfter (act p source) (fresh p) passed ≡ ownOf sharing o
   led-to = ends (act p source) as-single
 
   single : Demand3 (act p source) (fresh p) passed p source (collect p)
   single = theorem p so source passed
 
-  same-steps : steps (act p source) (fresh p) passed ≡ stepsFor (actOn p sources) (freshRig p) cs o
+  same-steps : steps (act p source) (fresh p) passed ≡ stepsFor (actOn p sources) (freshSharing p) cs o
   same-steps = steps-same (act p source) as-single
 
   same-turns : (b : ℕ) → turnsOf b (eventsOf o cs) numbers ≡ turnsOf b passed (answersTo (act p source) (fresh p) passed)
   same-turns b = turns-same (act p source) b as-single
 
   -- ---- a turn that gives 0 is the next of its program
-  module _ (b : ℕ) (z : actOn p sources rig (turnBy o b) .number ≡ 0) where
-    zero-alone : turn p source (ownOf rig o) b .number ≡ 0
+  module _ (b : ℕ) (z : actOn p sources sharing (turnBy o b) .number ≡ 0) where
+    zero-alone : turn p source (ownOf sharing o) b .number ≡ 0
     unfolding act
-    zero-alone = call-number p sources rig (turnBy o b) z
+    zero-alone = call-number p sources sharing (turnBy o b) z
 
     next : (turnsOf b (eventsOf o cs) numbers < length (program p b))
-        × (getD (program p b) (turnsOf b (eventsOf o cs) numbers) (gather 0) ≡ nextAction p (ownOf rig o) b)
+        × (getD (program p b) (turnsOf b (eventsOf o cs) numbers) (gather 0) ≡ nextAction p (ownOf sharing o) b)
     unfolding act
     next = rw (same-turns b, sym led-to) (named-next p so source passed b (rw led-to zero-alone))
 
-    own-after : ownOf (actOn p sources rig (turnBy o b) .after) o ≡ turn p source (ownOf rig o) b .after
+    own-after : ownOf (actOn p sources sharing (turnBy o b) .after) o ≡ turn p source (ownOf sharing o) b .after
     unfolding act
-    own-after = call-own p sources rig (turnBy o b) z
+    own-after = call-own p sources sharing (turnBy o b) z
 
-    carried : CarriedOutFor p source rig (actOn p sources rig (turnBy o b) .after) o b (turnsOf b (eventsOf o cs) numbers)
+    carried : CarriedOutFor p source sharing (actOn p sources sharing (turnBy o b) .after) o b (turnsOf b (eventsOf o cs) numbers)
     carried =
         record {
           own =
               record {
                 named = next .0;
-                by-rule = own-after ∙ by-next p source (ownOf rig o) b zero-alone ∙ ap (carryOut p source (ownOf rig o) b) (sym (next .1));
+                by-rule = own-after ∙ by-next p source (ownOf sharing o) b zero-alone ∙ ap (carryOut p source (ownOf sharing o) b) (sym (next .1));
               };
-          shared = words-after p sources rig o b z ∙ ap (engagedAfter p o (lentTo rig o) b) (sym (next .1));
-          others = call-other p sources rig (turnBy o b);
+          shared = words-after p sources sharing o b z ∙ ap (engagedAfter p o (lentTo sharing o) b) (sym (next .1));
+          others = call-other p sources sharing (turnBy o b);
         }
 
   -- ---- collecting
   module _ (grid : List ℕ) where
-    collects-same : collectOn p rig o grid ≡ collect p (stateAfter (act p source) (fresh p) passed) grid
+    collects-same : collectOn p sharing o grid ≡ collect p (stateAfter (act p source) (fresh p) passed) grid
     unfolding collectOn
-    collects-same = rw led-to (collect-is p o (lentTo rig o) (otherOf rig o .progress) grid admits)
+    collects-same = rw led-to (collect-is p o (lentTo sharing o) (otherOf sharing o .progress) grid admits)
 
   -- ---- progress
 
-  -- a call of this office gives 0: it has fewer steps
-  fewer : (e : Event) → act p source (ownOf rig o) e .number ≡ 0 → stepsFor (actOn p sources) (freshRig p) cs o < total p
+  -- a call of this tenant gives 0: it has fewer steps
+  fewer : (e : Event) → act p source (ownOf sharing o) e .number ≡ 0 → stepsFor (actOn p sources) (freshSharing p) cs o < total p
   fewer e z = let k = single .then-fewer e (rw led-to z) in omega (arith, same-steps)
 
-  -- what the machine would do the office can, where the other doesn't hold the processor
-  delivers : (m : ℕ) → act p source (ownOf rig o) (deliveryOf m) .number ≡ 0 → actOn p sources rig (deliveryBy o m) .number ≡ 0
+  -- what the machine would do the tenant can, where the other doesn't hold the processor
+  delivers : (m : ℕ) → act p source (ownOf sharing o) (deliveryOf m) .number ≡ 0 → actOn p sources sharing (deliveryBy o m) .number ≡ 0
   unfolding actOn actFor act
-  delivers m z = deliver-number p o (lentTo rig o) (otherOf rig o .progress) m admits ∙ z
+  delivers m z = deliver-number p o (lentTo sharing o) (otherOf sharing o .progress) m admits ∙ z
 
-  turns : (b : ℕ) → holderOf (rig .engaged) b ≢ otherThan o → act p source (ownOf rig o) (turnOf b) .number ≡ 0
-      → actOn p sources rig (turnBy o b) .number ≡ 0
+  turns : (b : ℕ) → holderOf (sharing .engaged) b ≢ otherThan o → act p source (ownOf sharing o) (turnOf b) .number ≡ 0
+      → actOn p sources sharing (turnBy o b) .number ≡ 0
   unfolding actOn actFor act heldByOther
-  turns b n z = turn-number p o (lentTo rig o) (otherOf rig o .progress) source b admits (and-no _ _ (ne-eqb _ _ n)) ∙ z
+  turns b n z = turn-number p o (lentTo sharing o) (otherOf sharing o .progress) source b admits (and-no _ _ (ne-eqb _ _ n)) ∙ z
 
-  -- and the office that holds it is at stage 1 or 2, where it never waits
-  holder-turns : (b : ℕ) → b < p .processors → holderOf (rig .engaged) b ≡ o → actOn p sources rig (turnBy o b) .number ≡ 0
+  -- and the tenant that holds it is at stage 1 or 2, where it never waits
+  holder-turns : (b : ℕ) → b < p .processors → holderOf (sharing .engaged) b ≡ o → actOn p sources sharing (turnBy o b) .number ≡ 0
   unfolding act
   holder-turns b k w =
       turns b (λ e. omega arith)
-      (begun-goes p source (ownOf rig o) b (rig-inv .inv o low) k (held-begun _ o _ (rig-inv .stages b k o low) w))
+      (begun-goes p source (ownOf sharing o) b (sharing-inv .inv o low) k (held-begun _ o _ (sharing-inv .stages b k o low) w))
 
-  -- a turn of this office, or of the other
-  act-low : (b : ℕ) → act p source (ownOf rig o) (turnOf b) .number ≡ 0 → b < p .processors
+  -- a turn of this tenant, or of the other
+  act-low : (b : ℕ) → act p source (ownOf sharing o) (turnOf b) .number ≡ 0 → b < p .processors
   unfolding act
-  act-low b z = can p source (ownOf rig o) b z .low
+  act-low b z = can p source (ownOf sharing o) b z .low
 
--- ---- both offices
+-- ---- both tenants
 module _ (p : Plan) (so : Sound p) (sources : Sources) (cs : List Call) where
-  abbrev after : Rig
-  after = last (actOn p sources) (freshRig p) cs
+  abbrev after : Sharing
+  after = last (actOn p sources) (freshSharing p) cs
 
   abbrev stepsOn : ℕ → ℕ
-  stepsOn o = stepsFor (actOn p sources) (freshRig p) cs o
+  stepsOn o = stepsFor (actOn p sources) (freshSharing p) cs o
 
-  -- an office with fewer steps: a call of it gives 0, or of the other, which holds the processor
+  -- a tenant with fewer steps: a call of it gives 0, or of the other, which holds the processor
   goes : (o : ℕ) → o ≤ 1 → stepsOn o < total p → (c : Call) × (actOn p sources after c .number ≡ 0)
   goes o low h = start (single p so sources o low cs .goes-on (omega (arith, same-steps p so sources o low cs)))
     where
@@ -190,17 +190,17 @@ module _ (p : Plan) (so : Sound p) (sources : Sources) (cs : List Call) where
   either-goes (inr h) = goes 1 (omega arith) h
 
   one-fewer : (c : Call) → actOn p sources after c .number ≡ 0 → (stepsOn 0 < total p) ⊎ (stepsOn 1 < total p)
-  one-fewer c z = go (office-cases (c .office) low) (fewer p so sources (c .office) low cs (c .event) (call-number p sources after c z))
+  one-fewer c z = go (tenant-cases (c .tenant) low) (fewer p so sources (c .tenant) low cs (c .event) (call-number p sources after c z))
     where
-      low : c .office ≤ 1
-      low = call-office p sources after c z
+      low : c .tenant ≤ 1
+      low = call-tenant p sources after c z
 
-      go : (c .office ≡ 0) ⊎ (c .office ≡ 1) → stepsOn (c .office) < total p → (stepsOn 0 < total p) ⊎ (stepsOn 1 < total p)
+      go : (c .tenant ≡ 0) ⊎ (c .tenant ≡ 1) → stepsOn (c .tenant) < total p → (stepsOn 0 < total p) ⊎ (stepsOn 1 < total p)
       go (inl e) h = inl (rw e at h)
       go (inr e) h = inr (rw e at h)
 
-  office-demand : (o : ℕ) → o ≤ 1 → OfficeDemand (actOn p sources) (freshRig p) cs p o (sourceFor sources o) (collectOn p)
-  office-demand o low =
+  tenant-demand : (o : ℕ) → o ≤ 1 → TenantDemand (actOn p sources) (freshSharing p) cs p o (sourceFor sources o) (collectOn p)
+  tenant-demand o low =
       record {
         once = once-passed p (act p source) (as-single p so sources o low cs) (D .once);
         collecting =
@@ -219,20 +219,20 @@ module _ (p : Plan) (so : Sound p) (sources : Sources) (cs : List Call) where
       same = same-steps p so sources o low cs
 
 pub theorem208 : (p : Plan) → Sound p → (sources : Sources) (calls : List Call)
-    → Demand208 (actOn p sources) (freshRig p) calls p sources (collectOn p)
+    → Demand208 (actOn p sources) (freshSharing p) calls p sources (collectOn p)
 theorem208 p so sources calls =
     record {
-      each = office-demand p so sources calls;
+      each = tenant-demand p so sources calls;
       goes-on = either-goes p so sources calls;
       then-fewer = one-fewer p so sources calls;
     }
 
--- for every plan, sound or not, and two runs with one source for this office
+-- for every plan, sound or not, and two runs with one source for this tenant
 pub isolated : (p : Plan) (o : ℕ) → o ≤ 1 → (sources sources′ : Sources) → sourceFor sources o ≡ sourceFor sources′ o
-    → Isolated o (actOn p sources) (actOn p sources′) (freshRig p) (freshRig p)
+    → Isolated o (actOn p sources) (actOn p sources′) (freshSharing p) (freshSharing p)
 isolated p o low sources sources′ same =
     record {
       same-words = λ calls calls′ e1 e2.
-          one-end (act p (sourceFor sources′ o)) (rw (same, e1, e2) at (matched p sources o low calls (freshRig p) .1))
-          (matched p sources′ o low calls′ (freshRig p) .1);
+          one-end (act p (sourceFor sources′ o)) (rw (same, e1, e2) at (matched p sources o low calls (freshSharing p) .1))
+          (matched p sources′ o low calls′ (freshSharing p) .1);
     }

@@ -1,4 +1,4 @@
-pub mod Offices
+pub mod Tenants
 pub mod Demand208
 pub mod Fit
 pub mod AnyCalls

@@ -1,1 +1,1 @@
-// Two offices on one rig are all definitions and theorems, no code: specs/ states them, proofs/ proves them.
+// Two tenants on the same processors are all definitions and theorems, no code: specs/ states them, proofs/ proves them.

@@ -7,7 +7,7 @@ use native.Mathlib.Omega.{arith}
 use Rattle.base.specs.Lists.{In}
 use Rattle.base.proofs.Select.{in-append}
 use Rattle.text.specs.Decimal.{digit, digitsIn, decimal, signed}
-use Rattle.text.specs.Denotes.{denotes, IsDecimal, Decimals, DecimalRows}
+use Rattle.text.specs.Denotes.{denotes, IsDecimal, Decimals, DecimalExamples}
 use Rattle.text.proofs.Decimals.{decimal-small, decimal-more, by-digits}
 
 -- ---- a decimal is one
@@ -103,7 +103,7 @@ decimals =
       signed-neg = λ n. refl;
     }
 
-pub decimal-rows : DecimalRows
+pub decimal-rows : DecimalExamples
 unfolding decimal digitsIn
 decimal-rows =
     record {

@@ -29,7 +29,7 @@ pub record Decimals : Type 0 where
   pub signed-neg : (n : ℕ) → signed (negsuc n) ≡ 45 ∷ decimal (suc n)
 
 -- "0", "7", "10", "305", "4294967295", computed
-pub record DecimalRows : Type 0 where
+pub record DecimalExamples : Type 0 where
   pub zero : decimal 0 ≡ 48 ∷ []
   pub seven : decimal 7 ≡ 55 ∷ []
   pub ten : decimal 10 ≡ 49 ∷ 48 ∷ []

@@ -18,7 +18,7 @@ use Rattle.nest.specs.Reader.{readLines}
 use Rattle.nest.proofs.Numbered.{numbered}
 use Rattle.recipe.specs.Routes.{linesFor}
 use Rattle.recipe.proofs.Laws.{numbered-for, reads-for}
-use Rattle.layout.specs.Sizes.{routeOf}
+use Rattle.layout.specs.RouteWords.{routeOf}
 use Rattle.network.specs.Apart.{received}
 use Rattle.engine.specs.Given.{unfitLines}
 use Rattle.engine.specs.Calls.{answer, areas}

@@ -16,7 +16,7 @@ use Rattle.base.proofs.Select.{in-those, those-in}
 use Rattle.base.proofs.Numbers.{first-false, first-behind}
 use Rattle.machine.specs.Plan.{Plan, count, takerOf, duesOf}
 use Rattle.machine.specs.Machine.{State, tilesLeft, currentTile, fit, waiting}
-use Rattle.layout.specs.Sizes.{routeOf}
+use Rattle.layout.specs.RouteWords.{routeOf}
 use Rattle.recipe.specs.Routes.{linesFor}
 use Rattle.recipe.proofs.Laws.{numbered-for}
 use Rattle.engine.specs.Calls.{recipe, areas}

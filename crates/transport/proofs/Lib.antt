@@ -3,7 +3,7 @@ pub mod RowOwners
 pub mod Awaiting
 pub mod Answers
 pub mod Holds
-pub mod MailRows
-pub mod TakeInRows
-pub mod AwaitedRows
+pub mod MailExamples
+pub mod TakeInExamples
+pub mod AwaitedExamples
 pub mod Witnesses

@@ -10,7 +10,7 @@ use native.Mathlib.Omega.{arith}
 use lib.ListN.{length, getD, set, take, drop, length-append, drop-of-length-le}
 use lib.Seq.{take-all, take-at, drop-at, drop-drop}
 use borrow.Rule.Slice.PartMut.{putMid}
-use Rattle.base.specs.Lists.{part, put}
+use Rattle.base.specs.Lists.{sublist, put}
 use Rattle.base.proofs.Lists.{part-left, part-right, length-put}
 use Rattle.machine.specs.Plan.{Plan, Message, count, offset}
 use Rattle.nest.specs.declared.Nest.{Nest}
@@ -23,7 +23,7 @@ use Rattle.plan.specs.Shaped.{shapedSlotParcel, shapedMessage, shapedSlots, pla
 use Rattle.plan.proofs.ShapedBox.{planOf-box}
 use Rattle.layout.specs.declared.Sizes.{Sizes}
 use Rattle.layout.specs.Sizes.{Sized}
-use Rattle.tables.specs.declared.scans.Place.{Place}
+use Rattle.tables.specs.declared.scans.MessageSlot.{MessageSlot}
 use Rattle.tables.specs.scans.Scans.{Sheet, Lengths, Summing, Found}
 use Rattle.tables.proofs.scans.Laws as scans
 use Rattle.tables.specs.boxes.Table.{FoundAt}
@@ -75,21 +75,21 @@ unfolding rowsTo
 rows-long p zero = refl
 rows-long p (suc m) = length-append (rowsTo p m) (rowOf p m) ∙ omega (arith, rows-long p m, row-long p m)
 
-whole-row : (l : List ℕ) → length l ≡ 6 → part l 0 6 ≡ l
-unfolding part
+whole-row : (l : List ℕ) → length l ≡ 6 → sublist l 0 6 ≡ l
+unfolding sublist
 whole-row l e = take-all 6 l (omega arith)
 
 -- the row of each message
-pub rows-at : (p : Plan) (n m : ℕ) → m < n → part (rowsTo p n) (6 * m) 6 ≡ rowOf p m
+pub rows-at : (p : Plan) (n m : ℕ) → m < n → sublist (rowsTo p n) (6 * m) 6 ≡ rowOf p m
 unfolding rowsTo
 rows-at p zero m h = absurd (omega arith)
 rows-at p (suc n) m h = go (rows-at p n m) (eq-or-lt-of-le (le-of-suc-le-suc h))
   where
-    go : (m < n → part (rowsTo p n) (6 * m) 6 ≡ rowOf p m) → (m ≡ n) ⊎ (m < n) → part (rowsTo p n ++ rowOf p n) (6 * m) 6 ≡ rowOf p m
+    go : (m < n → sublist (rowsTo p n) (6 * m) 6 ≡ rowOf p m) → (m ≡ n) ⊎ (m < n) → sublist (rowsTo p n ++ rowOf p n) (6 * m) 6 ≡ rowOf p m
     go ih (inl e) =
         let z : 6 * m - length (rowsTo p n) ≡ 0 = omega (arith, rows-long p n) in
         part-right (rowsTo p n) (rowOf p n) (6 * m) 6 (omega (arith, rows-long p n))
-        ∙ ap (λ (i : ℕ). part (rowOf p n) i 6) z ∙ whole-row (rowOf p n) (row-long p n) ∙ ap (rowOf p) (sym e)
+        ∙ ap (λ (i : ℕ). sublist (rowOf p n) i 6) z ∙ whole-row (rowOf p n) (row-long p n) ∙ ap (rowOf p) (sym e)
     go ih (inr l) = part-left (rowsTo p n) (rowOf p n) (6 * m) 6 (omega (arith, rows-long p n)) ∙ ih l
 
 seam : (a old s : List ℕ) (i k : ℕ) → length a ≡ i → i + length s ≡ k → put (a ++ drop i old) i s ≡ (a ++ s) ++ drop k old
@@ -132,7 +132,7 @@ pub record Slotted (r : Route) (x : Nest) (lens : List ℕ) (n : ℕ) : Type 0 w
   pub sheet : Sheet lens n
   pub lengths : Lengths slot n lens
   pub counts : count (planOf r x) ≡ length (messagesOf slot n)
-  pub found : (m : ℕ) (p : Place) → ((f : ℕ → Message) → Lengths f n lens → Found f n m p) → FoundIn r x m p
+  pub found : (m : ℕ) (p : MessageSlot) → ((f : ℕ → Message) → Lengths f n lens → Found f n m p) → FoundIn r x m p
 
 module _ (x : Nest) (z : Sizes) (s : Sized x z) (lens : List ℕ) (t : Tabled x z lens) (k : ℕ) (is : k ≡ planOf (z .route) x .tiles) where
   module _ (e : x .bounds ≡ 0) where
@@ -142,7 +142,7 @@ module _ (x : Nest) (z : Sizes) (s : Sized x z) (lens : List ℕ) (t : Tabled x 
     slots-are : k * z .ways ≡ slots r x
     slots-are = rw (is ∙ ap (λ (p : Plan). p .tiles) (planOf-box r x (s .accepted) e), s .ways) refl
 
-    found-at : (m : ℕ) (p : Place) → Found (slotMessage r x) (slots r x) m p → FoundAt r x m p
+    found-at : (m : ℕ) (p : MessageSlot) → Found (slotMessage r x) (slots r x) m p → FoundAt r x m p
     unfolding messagesTo
     found-at m p f =
         record {

@@ -16,9 +16,9 @@ use Rattle.plan.specs.Messages.{directions, ahead, reaches, taker, messagesOf}
 use Rattle.plan.specs.Shaped.{boxTile, reachesShape, shapedParcel, follows, shapedTaker, shapedSlotTaker, shapedHome, shapedSlotParcel}
 use Rattle.engine.specs.Calls.{recipe, areas}
 use Rattle.network.specs.Packets.{Network, networkOf}
-use Rattle.transport.specs.TakeInRows.{source, areasOf}
+use Rattle.transport.specs.TakeInExamples.{source, areasOf}
 use Rattle.transport.specs.Holds.{Comes}
-use Rattle.transport.proofs.TakeInRows.{d, plan-D}
+use Rattle.transport.proofs.TakeInExamples.{d, plan-D}
 
 abbrev coming : Network
 coming = networkOf (λ b. areasOf 0 0 0) (record { message = 0; words = 7 ∷ [] } ∷ [])

@@ -11,7 +11,7 @@ use Rattle.base.specs.Numbers.{Line, line, firstOf}
 use Rattle.machine.specs.Plan.{Plan, count, senderOf, takerOf, heldBy, offset}
 use Rattle.machine.specs.Machine.{State, stageOf, tilesLeft, currentTile, fit, Answered, answered}
 use Rattle.nest.specs.Reader.{readLines}
-use Rattle.layout.specs.Sizes.{routeOf}
+use Rattle.layout.specs.RouteWords.{routeOf}
 use Rattle.recipe.specs.Routes.{linesFor}
 use Rattle.engine.specs.Calls.{recipe, areas}
 use Rattle.network.specs.Apart.{received}

@@ -8,11 +8,11 @@ use mathlib.Core.Bool.{true}
 use mathlib.Core.List.{List}
 use lib.ListN.{length, getD}
 use Rattle.base.specs.Tests.{some}
-use Rattle.base.specs.Lists.{In, part}
+use Rattle.base.specs.Lists.{In, sublist}
 use Rattle.base.specs.Numbers.{firstOf}
 use Rattle.machine.specs.Plan.{Plan, count, heldBy, duesOf}
 use Rattle.machine.specs.Machine.{State, tilesLeft, currentTile, fit, waiting, Answered}
-use Rattle.layout.specs.Sizes.{routeOf}
+use Rattle.layout.specs.RouteWords.{routeOf}
 use Rattle.recipe.specs.Routes.{linesFor}
 use Rattle.engine.specs.Calls.{recipe, areas}
 use Rattle.network.specs.Apart.{takerAt}
@@ -58,7 +58,7 @@ pub record ArrivesAsTaken (bytes : List ℕ) (route : ℕ) : Type 0 where
 
 -- the six words from 6 × m on are message m's
 abbrev pub RowAt : Plan → Type 0
-RowAt p = (m : ℕ) → m < count p → part (rowsTo p (count p)) (6 * m) 6 ≡ rowOf p m
+RowAt p = (m : ℕ) → m < count p → sublist (rowsTo p (count p)) (6 * m) 6 ≡ rowOf p m
 
 -- of every recipe that is accepted for the route
 pub record MailHolds (bytes : List ℕ) (route : ℕ) : Type 0 where

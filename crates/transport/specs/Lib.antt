@@ -1,7 +1,7 @@
 pub mod Calls
 pub mod Given
 pub mod Holds
-pub mod MailRows
+pub mod MailExamples
 pub mod arrivals
-pub mod TakeInRows
-pub mod AwaitedRows
+pub mod TakeInExamples
+pub mod AwaitedExamples

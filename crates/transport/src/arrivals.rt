@@ -9,15 +9,17 @@ ghost use Rattle.tables.specs.Tables.{Tabled};
 ghost use Rattle.engine.specs.Calls.{answer};
 ghost use Rattle.transport.specs.arrivals.Taking.{MayTake, receivedOr};
 use base::copy_words;
+use base::refusals;
 use layout::Sizes;
 use nest::Nest;
+use tables::TABLE_WORDS;
 use tables::nth;
 
 // Line 11, line 14, then the words into their place and the mark.
 pub fn receive(
     nest: Nest,
     sizes: Sizes,
-    lens: &[u16; 9217],
+    lens: &[u16; TABLE_WORDS],
     buffer: &mut [u32],
     status: &mut [u8],
     processor: u32,
@@ -30,15 +32,15 @@ pub fn receive(
         ≡ receivedOr (planOf (sizes .route) nest) (stateOf memories (now (buffer .entry)) records (now (status .entry))) processor m (now (words .entry))) ⌝ }
 {
     if m >= status.len() {
-        return 11;
+        return refusals::NO_SUCH;
     }
     let place = nth(nest, sizes, lens, m);
     let line = summary::line_at(nest, sizes, lens, place);
     if line.to != processor {
-        return 11;
+        return refusals::NO_SUCH;
     }
     if status[m] != 0 {
-        return 14;
+        return refusals::NO_MAIL;
     }
     let offset = place.offset;
     let end = offset + place.words;

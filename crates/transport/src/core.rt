@@ -15,13 +15,14 @@ ghost use Rattle.plan.specs.declared.Route.the-variants.{Direct};
 ghost use Rattle.plan.specs.Shaped.{planOf};
 ghost use Rattle.layout.specs.Sizes.{Sized};
 ghost use Rattle.tables.specs.Tables.{FoundIn, Planned};
-ghost use Rattle.records.specs.Records.{Carries};
+ghost use Rattle.records.specs.Records.{Flattens};
 ghost use Rattle.engine.specs.Calls.{answer};
 ghost use Rattle.network.specs.Brought.{asLong};
 ghost use Rattle.transport.specs.Calls.{rowOf, rowsTo, ownerOf, waitsOf, awaitedCall, takeInCall};
 ghost use Rattle.transport.specs.Given.{undelivered, unaskedLines, MayAsk, waitedOr13};
 use crate::Waiting;
 use crate::arrivals::receive;
+use base::refusals;
 use base::word_index;
 use base::zero_bytes;
 use layout::Sizes;
@@ -32,10 +33,11 @@ use records::Flat;
 use stages::fit_records;
 use stages::fit_status;
 use summary::MessageLine;
+use tables::TABLE_WORDS;
 use tables::count_at;
 use tables::nth;
 use tables::nth_at;
-use tables::scans::Place;
+use tables::scans::MessageSlot;
 use tables::tile_at;
 use tables::tile_count;
 use tables::tiles_of;
@@ -57,7 +59,7 @@ fn store_row(row: &mut [u32], line: MessageLine, offset: u32)
 }
 
 // The row of the message found at a place.
-fn put_row(nest: Nest, sizes: Sizes, lens: &[u16; 9217], place: Place, out: &mut [u32])
+fn put_row(nest: Nest, sizes: Sizes, lens: &[u16; TABLE_WORDS], place: MessageSlot, out: &mut [u32])
     requires { ⌜ Planned nest sizes (now lens) × FoundIn (sizes .route) nest (place .number) place ⌝ }
     requires { ⌜ (length (now out) ≡ 6 * count (planOf (sizes .route) nest)) × ((place .number ≤ 7168) × (place .offset ≤ 117440512)) ⌝ }
     ensures { λ _. ⌜ now (out .exit) ≡ put (now (out .entry)) (6 * place .number) (rowOf (planOf (sizes .route) nest) (place .number)) ⌝ }
@@ -69,7 +71,7 @@ fn put_row(nest: Nest, sizes: Sizes, lens: &[u16; 9217], place: Place, out: &mut
 }
 
 // The rows of all messages: one pass over the table.
-pub fn put_rows(nest: Nest, sizes: Sizes, lens: &[u16; 9217], out: &mut [u32])
+pub fn put_rows(nest: Nest, sizes: Sizes, lens: &[u16; TABLE_WORDS], out: &mut [u32])
     requires { ⌜ Planned nest sizes (now lens) × (length (now out) ≡ 6 * count (planOf (sizes .route) nest)) ⌝ }
     ensures { λ _. ⌜ now (out .exit) ≡ rowsTo (planOf (sizes .route) nest) (count (planOf (sizes .route) nest)) ⌝ }
 {
@@ -80,7 +82,7 @@ pub fn put_rows(nest: Nest, sizes: Sizes, lens: &[u16; 9217], out: &mut [u32])
     while slot < slots {
         let words = base::half_index(lens[slot]);
         if words != 0 {
-            let place = Place {
+            let place = MessageSlot {
                 slot: slot,
                 number: number,
                 offset: offset,
@@ -146,7 +148,7 @@ pub fn put_owners(nest: Nest, sizes: Sizes, out: &mut [u32])
 fn mark_undelivered(
     nest: Nest,
     sizes: Sizes,
-    lens: &[u16; 9217],
+    lens: &[u16; TABLE_WORDS],
     status: &[u8],
     tile: usize,
     marks: &mut [u8],
@@ -171,7 +173,7 @@ fn mark_undelivered(
 fn tell_awaited(
     nest: Nest,
     sizes: Sizes,
-    lens: &[u16; 9217],
+    lens: &[u16; TABLE_WORDS],
     progress: &[u32],
     status: &[u8],
     b: usize,
@@ -187,7 +189,7 @@ fn tell_awaited(
     let n = tile_count(nest, sizes, lens, b);
     if i >= n {
         return Waiting {
-            number: 13,
+            number: refusals::FINISHED,
             tile: 0,
         };
     }
@@ -206,13 +208,13 @@ fn tell_awaited(
 fn unasked(
     nest: Nest,
     sizes: Sizes,
-    lens: &[u16; 9217],
+    lens: &[u16; TABLE_WORDS],
     progress: Flat,
     status: &[u8],
     marks: usize,
 ) -> u32
     requires { ⌜ Planned nest sizes (now lens) × (length (progress .words) ≡ 192) ⌝ }
-    ensures { λ r. ⌜ ((records ms : List ℕ) → Carries progress records → marks ≡ length ms
+    ensures { λ r. ⌜ ((records ms : List ℕ) → Flattens progress records → marks ≡ length ms
         → r ≡ firstOf (unaskedLines (planOf (sizes .route) nest) (stateOf [] [] records (now (status .entry))) ms))
         × (r ≡ 0 → progress .count ≡ 3 * processors nest) ⌝ }
 {
@@ -220,19 +222,19 @@ fn unasked(
     let words = progress.words;
     let count = progress.count;
     if count != 3 * sizes.processors {
-        return 9;
+        return refusals::AREA;
     }
     if status.len() != t.messages {
-        return 9;
+        return refusals::AREA;
     }
     if marks != t.messages {
-        return 9;
+        return refusals::AREA;
     }
     if !fit_records(nest, sizes, lens, &words[0..count]) {
-        return 10;
+        return refusals::UNFIT;
     }
     if !fit_status(status) {
-        return 10;
+        return refusals::UNFIT;
     }
     0
 }
@@ -247,12 +249,12 @@ pub fn awaited(
     marks: &mut [u8],
 ) -> Waiting
     requires { ⌜ length (progress .words) ≡ 192 ⌝ }
-    ensures { λ r. ⌜ ((records : List ℕ) → Carries progress records
+    ensures { λ r. ⌜ ((records : List ℕ) → Flattens progress records
         → answer (r .number) (waitsOf (now (marks .exit)) (r .tile))
         ≡ awaitedCall (now (encoded .entry)) route (stateOf [] [] records (now (status .entry))) processor
         (now (marks .entry))) ⌝ }
 {
-    let mut lens = [0u16; 9217];
+    let mut lens = [0u16; TABLE_WORDS];
     let opening = open(encoded, route, &mut lens);
     let number = opening.number;
     if number != 0 {
@@ -270,7 +272,7 @@ pub fn awaited(
     }
     if b >= sizes.processors {
         return Waiting {
-            number: 11,
+            number: refusals::NO_SUCH,
             tile: 0,
         };
     }
@@ -282,7 +284,7 @@ pub fn awaited(
 // ---- taking a message in
 
 // As many words as message m has, where there is one.
-pub fn as_long(nest: Nest, sizes: Sizes, lens: &[u16; 9217], m: usize, words: usize) -> bool
+pub fn as_long(nest: Nest, sizes: Sizes, lens: &[u16; TABLE_WORDS], m: usize, words: usize) -> bool
     requires { ⌜ Planned nest sizes (now lens) ⌝ }
     ensures { λ r. ⌜ ((l : List ℕ) → words ≡ length l → r ≡ asLong (planOf (sizes .route) nest) m l) ⌝ }
 {
@@ -308,12 +310,12 @@ pub fn take_in(
     words: &[u32],
 ) -> u32
     requires { ⌜ length (progress .words) ≡ 192 ⌝ }
-    ensures { λ r. ⌜ ((records : List ℕ) → Carries progress records
+    ensures { λ r. ⌜ ((records : List ℕ) → Flattens progress records
         → answer r (stateOf (now (memories .entry)) (now (buffer .exit)) records (now (status .exit)))
         ≡ takeInCall (now (encoded .entry)) route (now (source .entry))
         (stateOf (now (memories .entry)) (now (buffer .entry)) records (now (status .entry))) processor message (now (words .entry))) ⌝ }
 {
-    let mut lens = [0u16; 9217];
+    let mut lens = [0u16; TABLE_WORDS];
     let opening = open(encoded, route, &mut lens);
     let number = opening.number;
     if number != 0 {
@@ -323,9 +325,9 @@ pub fn take_in(
     let sizes = opening.sizes;
     let m = message as usize;
     if !as_long(nest, sizes, &lens, m, words.len()) {
-        return 9;
+        return refusals::AREA;
     }
-    let n = engine::core::unfit(
+    let n = engine::core::refusal_of_areas(
         nest,
         sizes,
         &lens,

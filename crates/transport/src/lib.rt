@@ -9,18 +9,20 @@ ghost use Rattle.transport.specs.Calls.{messagesCall, ownersCall, waitsO
 pub mod core; // core.rt: the work of the calls, and those that are lent records without their form
 pub mod arrivals; // arrivals.rt: a message at its taker's: its words into their place, and its mark
 
+use base::refusals;
 use layout::sizes_of;
 use plan::Route;
 use reader::read;
 use recipe::open;
 use records::flat_of;
+use tables::TABLE_WORDS;
 use tables::totals;
 
 // All messages of the route, six words each: sending tile, taking tile, sending processor, taking processor, words, their place in the buffer.
 pub fn messages(encoded: &[u8], route: u32, out: &mut [u32]) -> u32
     ensures { λ r. ⌜ answer r (now (out .exit)) ≡ messagesCall (now (encoded .entry)) route (now (out .entry)) ⌝ }
 {
-    let mut lens = [0u16; 9217];
+    let mut lens = [0u16; TABLE_WORDS];
     let opening = open(encoded, route, &mut lens);
     let number = opening.number;
     if number != 0 {
@@ -30,7 +32,7 @@ pub fn messages(encoded: &[u8], route: u32, out: &mut [u32]) -> u32
     let sizes = opening.sizes;
     let total = totals(nest, sizes, &lens);
     if out.len() != 6 * total.messages {
-        return 9;
+        return refusals::AREA;
     }
     core::put_rows(nest, sizes, &lens, out);
     0
@@ -48,7 +50,7 @@ pub fn owners(encoded: &[u8], out: &mut [u32]) -> u32
     let nest = reading.nest;
     let sizes = sizes_of(nest, Route::Direct);
     if out.len() != sizes.cells {
-        return 9;
+        return refusals::AREA;
     }
     core::put_owners(nest, sizes, out);
     0

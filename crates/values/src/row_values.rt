@@ -15,8 +15,8 @@ ghost use Rattle.values.specs.row_values.Waves.{mostOf, Lasts, Inner};
 ghost use Rattle.values.specs.row_values.Given.{withBody, ReadsBy, RowGiven};
 ghost use Rattle.values.specs.row_values.Boxes.{RowsGiven, Stored};
 ghost use Rattle.values.specs.row_values.Reads.{firstRead, stepBack, Firsts, Backs};
-use bands::lines::line;
-use bands::lines::short_line;
+use bands::edge_rows::edge_row;
+use bands::edge_rows::short_row;
 use bands::side_by_side;
 use nest::Nest;
 
@@ -111,7 +111,7 @@ fn row(
     let boundary = body.boundary;
     let n = body.distances;
     if inner(margin, at, last) {
-        line(
+        edge_row(
             source,
             memory,
             shift,
@@ -129,7 +129,7 @@ fn row(
     }
     let place = [at[0], at[1], at[2], at[3]];
     let firsts = firsts_of(body, components, place);
-    short_line(
+    short_row(
         source,
         memory,
         shift,

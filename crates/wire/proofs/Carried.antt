@@ -12,7 +12,7 @@ use lib.Seq.{take-at, getD-take, getD-drop}
 use lib.Dec.{eqb, ltb}
 use borrow.Author.Tests.{eq-eqb, ne-eqb, lt-ltb}
 use Rattle.base.specs.Tests.{not, pick}
-use Rattle.base.specs.Lists.{Bytes, part}
+use Rattle.base.specs.Lists.{Bytes, sublist}
 use Rattle.base.specs.Numbers.{Line, line, firstOf}
 use Rattle.base.proofs.Tests.{and-true, not-true, pick-true, pick-false}
 use Rattle.base.proofs.Numbers.{first-nil, first-true, first-false, first-cons, first-some, first-behind, none-front, none-behind}
@@ -24,7 +24,7 @@ use Rattle.nest.specs.Reader.{nestOf}
 use Rattle.nest.specs.Nest.{cells}
 use Rattle.nest.proofs.Facts.{accepted}
 use Rattle.plan.proofs.ShapedSound.{sound}
-use Rattle.layout.specs.Sizes.{routeOf}
+use Rattle.layout.specs.RouteWords.{routeOf}
 use Rattle.recipe.specs.Routes.{linesFor}
 use Rattle.recipe.proofs.Laws.{numbered-for, reads-for}
 use Rattle.engine.specs.Calls.{answer, recipe, areas}
@@ -45,8 +45,8 @@ use Rattle.wire.proofs.Sending.{Sendable, sendable, place-long}
 use Rattle.wire.proofs.Receiving.{rising-few, decoded-numbered}
 
 -- words of a part are words
-part-words : (l : List ℕ) (i n : ℕ) → Words l → Words (part l i n)
-unfolding part
+part-words : (l : List ℕ) (i n : ℕ) → Words l → Words (sublist l i n)
+unfolding sublist
 part-words l i n w j = go (decLt j n)
   where
     go : Dec (j < n) → getD (take n (drop i l)) j 0 < 2 ^ 32

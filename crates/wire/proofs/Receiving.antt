@@ -12,7 +12,7 @@ use lib.ListN.{length, getD, set, take, drop, length-append}
 use lib.Seq.{take-at}
 use lib.Dec.{eqb, ltb}
 use Rattle.base.specs.Tests.{_and_, not, pick, one}
-use Rattle.base.specs.Lists.{In, Rising, part, put}
+use Rattle.base.specs.Lists.{In, Rising, sublist, put}
 use Rattle.base.specs.Numbers.{Line, line, firstOf}
 use Rattle.base.proofs.Tests.{both, and-true, and-left, and-false, and-no, or-right, not-true, not-false, true-not, pick-true, pick-false}
 use Rattle.base.proofs.Lists.{part-length, part-put-same}
@@ -27,10 +27,11 @@ use Rattle.plan.specs.declared.Route.{Route}
 use Rattle.plan.specs.Shaped.{planOf}
 use Rattle.plan.proofs.ShapedSound.{sound}
 use Rattle.layout.specs.declared.Sizes.{Sizes}
-use Rattle.layout.specs.Sizes.{Sized, routeOf}
+use Rattle.layout.specs.Sizes.{Sized}
+use Rattle.layout.specs.RouteWords.{routeOf}
 use Rattle.recipe.specs.Routes.{linesFor}
 use Rattle.recipe.proofs.Laws.{numbered-for}
-use Rattle.tables.specs.declared.scans.Place.{Place}
+use Rattle.tables.specs.declared.scans.MessageSlot.{MessageSlot}
 use Rattle.tables.specs.Tables.{FoundIn}
 use Rattle.summary.specs.declared.MessageLine.{MessageLine}
 use Rattle.summary.specs.Summary.{lineOf}
@@ -259,7 +260,7 @@ one-some false e = absurd (e refl)
 
 module _ (r : Route) (x : Nest) (z : Sizes) (sized : Sized x z) (same : z .route ≡ r) (s : State) (b : ℕ) (h : Header) (ws : List ℕ) (i : Inbox)
     (may : MayReceive (planOf r x) (s .buffer) (s .status) i) (line-is : firstOf (addressLines (planOf r x) (s .status) b h ws) ≡ 0)
-    (m : ℕ) (em : m ≡ h .item) (at : Place) (found : FoundIn r x m at) where
+    (m : ℕ) (em : m ≡ h .item) (at : MessageSlot) (found : FoundIn r x m at) where
   abbrev p : Plan
   p = planOf r x
 
@@ -286,7 +287,7 @@ module _ (r : Route) (x : Nest) (z : Sizes) (sized : Sized x z) (same : z .route
   unfolding cameOf
   area-is =
       ap₂ assembly
-      (mid-is (i .parts) (at .offset) (at .words) ∙ ap₂ (λ (o w : ℕ). part (i .parts) o w) offset-is words-is)
+      (mid-is (i .parts) (at .offset) (at .words) ∙ ap₂ (λ (o w : ℕ). sublist (i .parts) o w) offset-is words-is)
       (ap (λ (k : ℕ). getD (i .masks) k 0) em)
 
   came-long : length (cameOf p i (h .item) .area) ≡ length (heldBy p (h .item))
@@ -352,8 +353,8 @@ module _ (r : Route) (x : Nest) (z : Sizes) (sized : Sized x z) (same : z .route
         ≡ a .area
     message-is =
         mid-is (putMid (at .offset) (at .offset + at .words - at .offset) (i .parts) ys) (at .offset) (at .words)
-        ∙ ap (λ (l : List ℕ). part l (at .offset) (at .words)) (parts-are ∙ ap (λ (o : ℕ). put (i .parts) o (a .area)) (sym offset-is))
-        ∙ ap (part (put (i .parts) (at .offset) (a .area)) (at .offset)) (sym a-long)
+        ∙ ap (λ (l : List ℕ). sublist l (at .offset) (at .words)) (parts-are ∙ ap (λ (o : ℕ). put (i .parts) o (a .area)) (sym offset-is))
+        ∙ ap (sublist (put (i .parts) (at .offset) (a .area)) (at .offset)) (sym a-long)
         ∙ part-put-same (i .parts) (at .offset) (a .area) (omega (arith, a-long, room))
 
     pub may-take : MayTake p (s .buffer) (s .status) m

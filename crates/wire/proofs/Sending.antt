@@ -13,7 +13,7 @@ use lib.ListN.{length, getD, take, drop, length-take, length-drop}
 use lib.Seq.{getD-take, getD-drop, ext-getD}
 use lib.Dec.{eqb, ltb}
 use Rattle.base.specs.Tests.{not}
-use Rattle.base.specs.Lists.{part, put}
+use Rattle.base.specs.Lists.{sublist, put}
 use Rattle.base.specs.Numbers.{Line, line, firstOf}
 use Rattle.base.proofs.Tests.{not-true, not-false, true-not}
 use Rattle.base.proofs.Lists.{part-length}
@@ -24,11 +24,11 @@ use Rattle.machine.proofs.Values.{offset-apart}
 use Rattle.nest.specs.declared.Nest.{Nest}
 use Rattle.plan.specs.declared.Route.{Route}
 use Rattle.plan.specs.Shaped.{planOf}
-use Rattle.layout.specs.Sizes.{routeOf}
+use Rattle.layout.specs.RouteWords.{routeOf}
 use Rattle.recipe.specs.Routes.{linesFor}
 use Rattle.recipe.proofs.Laws.{numbered-for}
 use Rattle.network.specs.Apart.{senderAt, takerAt}
-use Rattle.tables.specs.declared.scans.Place.{Place}
+use Rattle.tables.specs.declared.scans.MessageSlot.{MessageSlot}
 use Rattle.tables.specs.Tables.{FoundIn}
 use Rattle.summary.specs.declared.MessageLine.{MessageLine}
 use Rattle.summary.specs.Summary.{lineOf}
@@ -126,7 +126,7 @@ module _ (ws : List ℕ) (k j s : ℕ) (ej : j ≡ k) (es : s ≡ chunkLength (l
   chunk-room = omega (arith, ej, es, ends (length ws) k low)
 
   pub chunk-words : take (j * 285 + s - j * 285) (drop (j * 285) ws) ≡ cut ws k .words
-  unfolding cut part
+  unfolding cut sublist
   chunk-words =
       ap (λ (x : ℕ). take x (drop (j * 285) ws)) (add-sub-cancel-left (j * 285) s)
       ∙ ext-getD 0 (take s (drop (j * 285) ws)) (take 285 (drop (k * 285) ws)) (left ∙ sym right) each
@@ -276,7 +276,7 @@ module _ (p : Plan) (f n life : ℕ) (buffer status : List ℕ) (b m k : ℕ) (s
         new = letter (itemPacket (messageLabel p f n life m) (placeOf p buffer m) k) space
 
 -- from the place and the line that were found
-pub sent-found : (r : Route) (x : Nest) (f n life : ℕ) (buffer : List ℕ) (i m k : ℕ) (space : List ℕ) (at : Place) → FoundIn r x i at → i ≡ m
+pub sent-found : (r : Route) (x : Nest) (f n life : ℕ) (buffer : List ℕ) (i m k : ℕ) (space : List ℕ) (at : MessageSlot) → FoundIn r x i at → i ≡ m
     → (l : MessageLine) → l ≡ lineOf (planOf r x) (at .number) → (a : Answered Letter)
     → a ≡ packetCall (label f n life 1 (l .from) (l .to) m) (take (at .offset + at .words - at .offset) (drop (at .offset) buffer)) k space
     → a ≡ packetCall (messageLabel (planOf r x) f n life m) (placeOf (planOf r x) buffer m) k space
@@ -285,7 +285,7 @@ sent-found r x f n life buffer i m k space at g e l is a q =
     ∙ ap₂ (λ (y : MessageLine) (w : List ℕ). packetCall (label f n life 1 (y .from) (y .to) m) w k space)
     (is ∙ ap (lineOf (planOf r x)) (g .number ∙ e))
     (mid-is buffer (at .offset) (at .words)
-    ∙ ap₂ (λ (o w : ℕ). part buffer o w) (g .offset ∙ ap (offset (planOf r x .messages)) e) (g .words ∙ ap (λ (y : ℕ). length (heldBy (planOf r x) y)) e))
+    ∙ ap₂ (λ (o w : ℕ). sublist buffer o w) (g .offset ∙ ap (offset (planOf r x .messages)) e) (g .words ∙ ap (λ (y : ℕ). length (heldBy (planOf r x) y)) e))
 
 -- ---- the call
 

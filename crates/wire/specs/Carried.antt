@@ -13,7 +13,7 @@ use Rattle.base.specs.Numbers.{Line, line, firstOf}
 use Rattle.machine.specs.Plan.{Plan, heldBy}
 use Rattle.machine.specs.Machine.{State, placeOf, fit, Answered, answered}
 use Rattle.network.specs.Apart.{takerAt}
-use Rattle.layout.specs.Sizes.{routeOf}
+use Rattle.layout.specs.RouteWords.{routeOf}
 use Rattle.recipe.specs.Routes.{linesFor}
 use Rattle.engine.specs.Calls.{answer, recipe, areas}
 use Rattle.packets.specs.Bits.{Burst}

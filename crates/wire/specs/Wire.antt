@@ -14,7 +14,7 @@ use Rattle.base.specs.Numbers.{Line, line, firstOf}
 use Rattle.machine.specs.Plan.{Plan, count, words, heldBy, offset}
 use Rattle.machine.specs.Machine.{State, placeOf, fit, Answered, answered}
 use Rattle.network.specs.Apart.{senderAt, takerAt, received}
-use Rattle.layout.specs.Sizes.{routeOf}
+use Rattle.layout.specs.RouteWords.{routeOf}
 use Rattle.recipe.specs.Routes.{linesFor}
 use Rattle.engine.specs.Calls.{recipe, areas}
 use Rattle.packets.specs.declared.Header.{Header}

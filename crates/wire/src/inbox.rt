@@ -10,13 +10,14 @@ ghost use Rattle.base.specs.Numbers.{firstOf};
 ghost use Rattle.machine.specs.Plan.{count, words};
 ghost use Rattle.machine.specs.Machine.{stateOf};
 ghost use Rattle.plan.specs.Shaped.{planOf};
-ghost use Rattle.records.specs.Records.{Carries};
+ghost use Rattle.records.specs.Records.{Flattens};
 ghost use Rattle.engine.specs.Calls.{answer};
 ghost use Rattle.tables.specs.Tables.{Planned};
 ghost use Rattle.packets.specs.Fingerprint.{fingerprintOf};
 ghost use Rattle.wire.specs.Wire.{inboxOf, receivedAs, addressLines, receiveCall};
 ghost use Rattle.wire.specs.Given.{OpenedAs, MayReceive, takenOr};
 use crate::MESSAGE;
+use base::refusals;
 use base::word_index;
 use layout::Sizes;
 use nest::Nest;
@@ -27,6 +28,7 @@ use packets::chunks::take_chunk;
 use recipe::with_sizes;
 use records::Flat;
 use summary::line_at;
+use tables::TABLE_WORDS;
 use tables::fill;
 use tables::nth;
 use tables::totals;
@@ -59,7 +61,13 @@ fn open_packet(encoded: &[u8], route: u32, run: u64, packet: &[u8], words: &mut 
 }
 
 // What came so far has the lengths of the buffer and of the status bytes.
-fn inbox_fits(nest: Nest, sizes: Sizes, lens: &[u16; 9217], parts: usize, masks: usize) -> bool
+fn inbox_fits(
+    nest: Nest,
+    sizes: Sizes,
+    lens: &[u16; TABLE_WORDS],
+    parts: usize,
+    masks: usize,
+) -> bool
     requires { ⌜ Planned nest sizes (now lens) ⌝ }
     ensures { λ r. ⌜ r ≡ (eqb parts (words (planOf (sizes .route) nest)) and eqb masks (count (planOf (sizes .route) nest))) ⌝ }
 {
@@ -74,7 +82,7 @@ fn inbox_fits(nest: Nest, sizes: Sizes, lens: &[u16; 9217], parts: usize, masks:
 fn misdirected(
     nest: Nest,
     sizes: Sizes,
-    lens: &[u16; 9217],
+    lens: &[u16; TABLE_WORDS],
     status: &[u8],
     processor: u32,
     header: Header,
@@ -84,28 +92,28 @@ fn misdirected(
     ensures { λ r. ⌜ r ≡ firstOf (addressLines (planOf (sizes .route) nest) (now (status .entry)) processor header (now (words .entry))) ⌝ }
 {
     if header.kind != MESSAGE {
-        return 11;
+        return refusals::NO_SUCH;
     }
     let m = word_index(header.item);
     if m >= status.len() {
-        return 11;
+        return refusals::NO_SUCH;
     }
     let place = nth(nest, sizes, lens, m);
     let line = line_at(nest, sizes, lens, place);
     if header.sender != line.from {
-        return 11;
+        return refusals::NO_SUCH;
     }
     if header.taker != line.to {
-        return 11;
+        return refusals::NO_SUCH;
     }
     if line.to != processor {
-        return 11;
+        return refusals::NO_SUCH;
     }
     if number_of(header.chunk, header.chunks, words, place.words) != 0 {
-        return 11;
+        return refusals::NO_SUCH;
     }
     if status[m] != 0 {
-        return 14;
+        return refusals::NO_MAIL;
     }
     0
 }
@@ -114,7 +122,7 @@ fn misdirected(
 fn take_packet(
     nest: Nest,
     sizes: Sizes,
-    lens: &[u16; 9217],
+    lens: &[u16; TABLE_WORDS],
     buffer: &mut [u32],
     status: &mut [u8],
     processor: u32,
@@ -186,7 +194,7 @@ pub fn receive(
     masks: &mut [u64],
 ) -> Received
     requires { ⌜ length (progress .words) ≡ 192 ⌝ }
-    ensures { λ r. ⌜ ((records : List ℕ) → Carries progress records
+    ensures { λ r. ⌜ ((records : List ℕ) → Flattens progress records
         → answer (r .number) (receivedAs (r .whole) (r .message) (inboxOf (now (parts .exit)) (now (masks .exit)))
         (stateOf (now (memories .entry)) (now (buffer .exit)) records (now (status .exit))))
         ≡ receiveCall (now (encoded .entry)) route run (now (source .entry))
@@ -206,12 +214,12 @@ pub fn receive(
     if no != 0 {
         return refusal(no);
     }
-    let mut lens = [0u16; 9217];
+    let mut lens = [0u16; TABLE_WORDS];
     fill(nest, sizes, &mut lens);
     if !inbox_fits(nest, sizes, &lens, parts.len(), masks.len()) {
         return refusal(9);
     }
-    let n = engine::core::unfit(
+    let n = engine::core::refusal_of_areas(
         nest,
         sizes,
         &lens,

@@ -15,6 +15,7 @@ ghost use Rattle.wire.specs.Wire.{label, letter, letterOf, packetCall, l
 
 pub mod inbox; // inbox.rt: bytes as they came, at a message's taker's
 
+use base::refusals;
 use base::word_index;
 use layout::Sizes;
 use nest::Nest;
@@ -26,6 +27,7 @@ use packets::chunks::chunk_length;
 use packets::chunks::chunks_of;
 use recipe::open;
 use summary::line_at;
+use tables::TABLE_WORDS;
 use tables::nth;
 use tables::totals;
 
@@ -144,7 +146,7 @@ pub fn packet_read(fingerprint: u64, run: u64, packet: &[u8], words: &mut [u32])
 fn unsendable(
     nest: Nest,
     sizes: Sizes,
-    lens: &[u16; 9217],
+    lens: &[u16; TABLE_WORDS],
     buffer: usize,
     status: &[u8],
     processor: u32,
@@ -157,28 +159,28 @@ fn unsendable(
 {
     let t = totals(nest, sizes, lens);
     if buffer != t.words {
-        return 9;
+        return refusals::AREA;
     }
     if status.len() != t.messages {
-        return 9;
+        return refusals::AREA;
     }
     if space != LONGEST {
-        return 9;
+        return refusals::AREA;
     }
     let m = word_index(message);
     if m >= t.messages {
-        return 11;
+        return refusals::NO_SUCH;
     }
     let place = nth(nest, sizes, lens, m);
     let line = line_at(nest, sizes, lens, place);
     if line.from != processor {
-        return 11;
+        return refusals::NO_SUCH;
     }
     if word_index(chunk) >= chunks_of(place.words) {
-        return 11;
+        return refusals::NO_SUCH;
     }
     if status[m] < 2 {
-        return 14;
+        return refusals::NO_MAIL;
     }
     0
 }
@@ -187,7 +189,7 @@ fn unsendable(
 fn send_message(
     nest: Nest,
     sizes: Sizes,
-    lens: &[u16; 9217],
+    lens: &[u16; TABLE_WORDS],
     fingerprint: u64,
     run: u64,
     life: u64,
@@ -252,7 +254,7 @@ pub fn send(
     ensures { λ r. ⌜ answer (r .number) (letterOf (r .length) (now (space .exit)))
         ≡ sendCall (now (encoded .entry)) route run life (now (buffer .entry)) (now (status .entry)) processor message chunk (now (space .entry)) ⌝ }
 {
-    let mut lens = [0u16; 9217];
+    let mut lens = [0u16; TABLE_WORDS];
     let opening = open(encoded, route, &mut lens);
     let number = opening.number;
     if number != 0 {

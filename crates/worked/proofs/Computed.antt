@@ -10,7 +10,7 @@ use Rattle.machine.specs.Plan.{Plan, offset, count, heldBy}
 use Rattle.machine.specs.Machine.{sweep, sweepTo}
 use Rattle.nest.specs.declared.Nest.{Nest}
 use Rattle.nest.specs.Nest.{tileCount, cells, processors, boxTiles}
-use Rattle.nest.specs.Reader.{ofKind, filled, nestBy, nestOf, ragged, blank, checked, mayStand, fitsAt, wellFormed, strayRecord, outside, badLength}
+use Rattle.nest.specs.Reader.{ofKind, filled, nestBy, nestOf, ragged, blank, checked, mayStand, fitsAt, wellFormed, strayRecord, noLength, badLength}
 use Rattle.nest.specs.Reader.{tooLarge, needlesslyWide, same, beyond, faulty, badDistance, reached, badTile, badSpread, lastSpread, badProcessors}
 use Rattle.nest.specs.Reader.{tooManyTiles, nestLines, readLines}
 use Rattle.nest.specs.Places.{rank, place, cellAt, cellPlace, tileAt, tilePlace, boxTileOf}
@@ -18,14 +18,14 @@ use Rattle.plan.specs.Geometry.{cellsOf, processorOf, inside, hasRead, readAt, 
 use Rattle.plan.specs.declared.Route.the-variants.{Direct}
 use Rattle.plan.specs.Messages.{directions, ahead, reaches, crosses, parcel, taker, slotCells, slotTaker, atHome, slotParcel, messagesTo, boxPlan}
 use Rattle.plan.specs.Shaped.{planOf}
-use Rattle.conformance.specs.Rows.{accepted, figures, figuresIf, messageLine, linesTo, linesOf}
+use Rattle.conformance.specs.Examples.{accepted, figures, figuresIf, messageLine, linesTo, linesOf}
 use Rattle.nest.proofs.Quick.{quick}
 use Rattle.plan.proofs.ShapedBox.{recipe-box}
 use Rattle.engine.proofs.Demands.{demands}
 use Rattle.worked.specs.Harbour.{harbour, depths, Expected, Agrees}
 
 number-is : firstOf (readLines harbour) ≡ 0
-unfolding firstOf nestOf nestBy ofKind filled ragged blank checked mayStand fitsAt wellFormed strayRecord outside badLength tooLarge needlesslyWide same
+unfolding firstOf nestOf nestBy ofKind filled ragged blank checked mayStand fitsAt wellFormed strayRecord noLength badLength tooLarge needlesslyWide same
     beyond faulty badDistance reached badTile badSpread lastSpread badProcessors tooManyTiles tileCount cells boxTiles processors _and_ _or_ not pick every
     some keep those tabulate product
 number-is = quick harbour ∙ refl

@@ -12,7 +12,7 @@ use Rattle.machine.specs.Runs.{Event, Demand3}
 use Rattle.nest.specs.Reader.{nestOf, readLines}
 use Rattle.plan.specs.declared.Route.the-variants.{Direct}
 use Rattle.plan.specs.Shaped.{planOf}
-use Rattle.conformance.specs.Rows.{accepted, figures, linesOf}
+use Rattle.conformance.specs.Examples.{accepted, figures, linesOf}
 use Rattle.engine.specs.Calls.{recipe, freshCall, collectCall}
 use Rattle.engine.specs.Demands.{calls}
 

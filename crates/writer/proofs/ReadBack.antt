@@ -17,7 +17,7 @@ use Rattle.base.proofs.Tests.{both, and-left, and-true, and-no, or-left, or-rig
 use Rattle.base.proofs.Tests.{every-at, every-all, some-none, pick-true, pick-false, tabulate-at}
 use Rattle.base.proofs.Select.{keep-more, keep-none, keep-same}
 use Rattle.nest.specs.declared.Nest.{Nest}
-use Rattle.nest.specs.Nest.{lengthOf, tileLength, processorCount, component, weight, side, bounded, earlier, slope, offset}
+use Rattle.nest.specs.Nest.{lengthOf, tileLength, processorCount, component, weight, side, bounded, earlier, slope, boundOffset}
 use Rattle.base.specs.Bytes.{half, word}
 use Rattle.nest.specs.Reader.{records, kind, ofKind, distancesOf, componentAt, weightAt, slopeAt, offsetAt, filled, nestBy, nestOf}
 use Rattle.nest.specs.Reader.{ragged, blank, fitsAt, wellFormed, strayRecord, narrowAt, needlesslyWide, nestLines, readLines}
@@ -332,7 +332,7 @@ module _ (x : Nest) where
     unfolding boundOf boundRecord
     slope-back k h = slope-of _ _ (f .slopes .fit k h) (bound-byte k 4 _ h (omega arith) refl)
 
-    offset-back : (k : ℕ) → k < x .bounds → offset x k ≡ offsetAt (encode x) (x .dimensions + k)
+    offset-back : (k : ℕ) → k < x .bounds → boundOffset x k ≡ offsetAt (encode x) (x .dimensions + k)
     unfolding boundOf boundRecord
     offset-back k h = offset-of _ _ _ (f .offsets .fit k h) (bound-byte k 6 _ h (omega arith) refl) (bound-byte k 7 _ h (omega arith) (omega arith))
 

@@ -15,7 +15,7 @@ use Rattle.base.specs.Lists.{Bytes}
 use Rattle.base.specs.Numbers.{firstOf}
 use Rattle.base.proofs.Tests.{both, either, neither, and-left, true-not, is-false, never-both, every-at, every-all, none-some}
 use Rattle.base.proofs.Numbers.{none-first}
-use Rattle.nest.specs.Nest.{lengthOf, tileLength, processorCount, component, weight, side, bounded, earlier, slope, offset}
+use Rattle.nest.specs.Nest.{lengthOf, tileLength, processorCount, component, weight, side, bounded, earlier, slope, boundOffset}
 use Rattle.base.specs.Bytes.{half, word}
 use Rattle.nest.specs.Reader.{records, kind, ofKind, distancesOf, componentAt, weightAt, slopeAt, offsetAt, nestBy, nestOf, ragged, blank}
 use Rattle.nest.specs.Reader.{boundFits, checked, fitsAt, strayRecord, badLength, tooLarge, narrowAt, needlesslyWide, nestLines, readLines}
@@ -161,7 +161,7 @@ module _ (b : List ℕ) (bytes : Bytes b) where
     unfolding nestBy
     slope-is k h = filled-in 4 _ m k h (f .bounds-most)
 
-    offset-is : (k : ℕ) → k < m → offset (nestBy b n m e) k ≡ offsetAt b (n + k)
+    offset-is : (k : ℕ) → k < m → boundOffset (nestBy b n m e) k ≡ offsetAt b (n + k)
     unfolding nestBy
     offset-is k h = filled-in 4 _ m k h (f .bounds-most)
 

@@ -10,12 +10,12 @@ use lib.Dec.{ltb}
 use Rattle.base.specs.Tests.{every}
 use Rattle.base.proofs.Tests.{every-not}
 use Rattle.nest.specs.declared.Nest.{Nest}
-use Rattle.nest.specs.Nest.{lengthOf, tileLength, processorCount, component, weight, side, bounded, earlier, slope, offset}
+use Rattle.nest.specs.Nest.{lengthOf, tileLength, processorCount, component, weight, side, bounded, earlier, slope, boundOffset}
 use Rattle.nest.proofs.Laws.{every-end}
 use Rattle.nest.specs.Encode.{dimensionRecord, narrowRecord, wideRecord, boundRecord, closeRecord, dimensionOf, boundOf, narrow, distanceOf, encode}
 use Rattle.writer.proofs.Places.{spelled-narrow, spelled-wide, at-dimension, at-bound, at-distance, at-close}
 
-pub bound-is : (x : Nest) (k s d p v w : ℕ) (o : List ℕ) → s ≡ side x k → d ≡ bounded x k → p ≡ earlier x k → v ≡ slope x k → w ≡ offset x k
+pub bound-is : (x : Nest) (k s d p v w : ℕ) (o : List ℕ) → s ≡ side x k → d ≡ bounded x k → p ≡ earlier x k → v ≡ slope x k → w ≡ boundOffset x k
     → o ≡ boundRecord s d p v w → o ≡ boundOf x k
 unfolding boundOf
 bound-is x k s d p v w o e1 e2 e3 e4 e5 h = rw (e1, e2, e3, e4, e5) at h

@@ -1,5 +1,5 @@
 -- Read this.
--- A recipe's fields as an office holds them, one list a field: the nest they make, and the fields that a nest holds.
+-- A recipe's fields as a tenant holds them, one list a field: the nest they make, and the fields that a nest holds.
 -- Renders document 02, W-202: "the dimensions, distances, weights, shift and shore value", and W-209's bounds.
 use Prim.Native.Nat.{ℕ, _+_, _*_, _%_, _≤_, _<_}
 use mathlib.Core.Bool.{Bool}
@@ -8,7 +8,7 @@ use lib.ListN.{length, getD, take}
 use lib.Dec.{eqb, ltb, leb}
 use Rattle.base.specs.Tests.{_and_, keep, tabulate}
 use Rattle.nest.specs.declared.Nest.{Nest}
-use Rattle.nest.specs.Nest.{slope, offset}
+use Rattle.nest.specs.Nest.{slope, boundOffset}
 use Rattle.nest.specs.Reader.{filled}
 
 pub record Fields : Type 0 where
@@ -89,7 +89,7 @@ fieldsOf x =
     fields (take (x .dimensions) (x .lengths)) (take (x .dimensions) (x .tiling)) (take (x .dimensions) (x .counts))
     (take (4 * x .distances) (x .components)) (take (x .distances) (x .weights))
     (take (x .bounds) (x .sides)) (take (x .bounds) (x .bounded)) (take (x .bounds) (x .earlier))
-    (tabulate (λ k. (slope x k + 255) % 256) (x .bounds)) (tabulate (λ k. (offset x k + 32768) % 65536) (x .bounds)) (x .shift) (x .boundary)
+    (tabulate (λ k. (slope x k + 255) % 256) (x .bounds)) (tabulate (λ k. (boundOffset x k + 32768) % 65536) (x .bounds)) (x .shift) (x .boundary)
 
 -- each number is as wide as its field in the recipe
 pub record Widths (v : Fields) : Type 0 where

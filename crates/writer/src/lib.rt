@@ -18,6 +18,7 @@ mod nest_records; // nest_records.rt: the records of a nest, each spelled from i
 pub mod spelling; // spelling.rt: the sixteen bytes of each kind of record
 pub mod reading; // reading.rt: the fields of a recipe by value
 
+use base::refusals;
 use nest_records::record_of;
 
 // ---- the recipe
@@ -232,7 +233,7 @@ pub fn write_nest(nest: Nest, space: &mut [u8]) -> u32
         return number;
     }
     if space.len() != length {
-        return 9;
+        return refusals::AREA;
     }
     copy(bytes, space);
     0

@@ -38,7 +38,7 @@ use denote.Triple.Table.{entered, cited}
 use denote.Triple.Walked.{says, Stays, walkOf, ends-at, walked, walk-meets}
 use Rattle.machine.specs.Machine.{stateOf}
 use Rattle.engine.specs.Calls.{answer, turnCall}
-use Rattle.records.specs.Records.{flatWords, Carries}
+use Rattle.records.specs.Records.{flatWords, Flattens}
 use Rattle.records.specs.declared.Progress.{Progress}
 use Rattle.records.specs.declared.Flat.{Flat}
 use Rattle.records.proofs.Locals.{rooms, holds, free-all}
@@ -203,7 +203,7 @@ module _ {M : Type 1} (𝓤 : URA M) (H : Heap 𝓤) (A : Atoms 𝓤) (W : Given
         (stored-after (now x4) processor r) ∙ said)))
 
     worded : Triple 𝓤 (C #engine·core·turn) (Words 𝓤 H A mem run) → Triple 𝓤 (C #records·put) (Put 𝓤 H A mem run)
-        → (f : Flat) → Is F f (low f ∷ []) → Carries f (flatWords (now x4))
+        → (f : Flat) → Is F f (low f ∷ []) → Flattens f (flatWords (now x4))
         → Sq W (At (‵ (fat fullShare S′.mir l9 0 (low f))) (‵ (froom U′.mir l10 0)) (Toks ++ slices 𝓤 params κs given))
         (runs C Λ En mir′.t-4 (atRet En Post))
     worded known₁ known₂ f is-f e-f =
@@ -220,7 +220,7 @@ module _ {M : Type 1} (𝓤 : URA M) (H : Heap 𝓤) (A : Atoms 𝓤) (W : Given
         (and-then ! (local ! 15 refl) (and-then ! (local ! 11 refl) (and-then ! (local ! 25 refl) (and-then ! (local ! 7 refl) (and-then ! (local ! 27 refl)
         (no-more !))))))))) (λ w.
         comes-back in-words κw (given-words f) ! E Lives w _ (ensured 𝓤 H A words.ended (words.clauses 𝓤 H A mem run) κw (given-words f) tt)
-        (λ r us. (l : List ℕ) → Carries f l → Said r (us .1 .1 .1 .0) (us .1 .1 .1 .1 .0) (us .1 .1 .1 .1 .1 .1 .0) l)
+        (λ r us. (l : List ℕ) → Flattens f l → Said r (us .1 .1 .1 .0) (us .1 .1 .1 .1 .0) (us .1 .1 .1 .1 .1 .1 .0) l)
         (id⊢ 𝓤 _) (λ r. id⊢ 𝓤 _) (λ r us said.
         move ! (4 ∷ []) $ split ! $ move ! (1 ∷ []) $ feqL ! (λ e2. move ! (4 ∷ []) $ split ! $ move ! (1 ∷ []) $
         feqL ! (λ e3. move ! (3 ∷ []) $ split ! $ move ! (1 ∷ []) $ feqL ! (λ e5. move ! (8 ∷ []) $ split ! $ move ! (1 ∷ []) $

@@ -11,18 +11,18 @@ use Rattle.base.proofs.Tests.{is-false, pick-true, pick-false, length-tabulate,
 use Rattle.machine.specs.Plan.{Plan, Sound}
 use Rattle.machine.specs.Machine.{State, memoryOf, tilesLeft, fit, Answered}
 use Rattle.machine.proofs.RunLaws.{after-of}
-use Rattle.layout.specs.Sizes.{routeOf}
+use Rattle.layout.specs.RouteWords.{routeOf}
 use Rattle.recipe.specs.Routes.{linesFor}
 use Rattle.engine.specs.Calls.{recipe}
 use Rattle.network.specs.Packets.{Network}
-use Rattle.network.specs.Locality.{Lent, Keeps, ReadsOwnWord}
+use Rattle.network.specs.Locality.{PlanLengths, Keeps, ReadsOwnWord}
 use Rattle.network.specs.Own.{owns}
 use Rattle.network.specs.OnBoards.{Collected}
 use Rattle.network.proofs.Network.{Follows}
 use Rattle.network.proofs.Own.{own-test, test-own}
-use Rattle.network.proofs.OwnRuns.{lent-here, fit-here}
+use Rattle.network.proofs.PartRuns.{lent-here, fit-here}
 use Rattle.network.proofs.OnBoards.{part-right}
-use Rattle.part_calls.specs.front.Calls.{wide, narrow, ownCollected, ownCollectCall}
+use Rattle.part_calls.specs.front.Calls.{fromPart, toPart, partCollected, partCollectCall}
 use Rattle.network_runs.proofs.part.OnePart.{collect-on-part, collect-asks, own-word-in}
 
 module _ (bytes : List ℕ) (route : ℕ) (ok : firstOf (linesFor (routeOf route) bytes) ≡ 0) (so : Sound (recipe bytes route))
@@ -34,36 +34,36 @@ module _ (bytes : List ℕ) (route : ℕ) (ok : firstOf (linesFor (routeOf route
   abbrev mine : State
   mine = n .areas b
 
-  lent : Lent p source mine
+  lent : PlanLengths p source mine
   lent = lent-here p so own source long s n fo b low
 
   fits : fit p mine ≡ true
   fits = fit-here p so own source long s n fo b low
 
-  pub collect-gives : tilesLeft p mine b ≡ false → (old : List ℕ) → length old ≡ p .cells → ownCollectCall bytes route (narrow p b mine) b old .number ≡ 0
+  pub collect-gives : tilesLeft p mine b ≡ false → (old : List ℕ) → length old ≡ p .cells → partCollectCall bytes route (toPart p b mine) b old .number ≡ 0
   collect-gives none old e = ap (λ (x : Answered (List ℕ)). x .number) (collect-on-part bytes route ok b low source mine lent fits none old e)
 
-  pub none-left : (old : List ℕ) → ownCollectCall bytes route (narrow p b mine) b old .number ≡ 0 → tilesLeft p mine b ≡ false
+  pub none-left : (old : List ℕ) → partCollectCall bytes route (toPart p b mine) b old .number ≡ 0 → tilesLeft p mine b ≡ false
   none-left old z = collect-asks bytes route ok b low source mine lent fits old z .1
 
-  module _ (old : List ℕ) (z : ownCollectCall bytes route (narrow p b mine) b old .number ≡ 0) where
+  module _ (old : List ℕ) (z : partCollectCall bytes route (toPart p b mine) b old .number ≡ 0) where
     abbrev new : List ℕ
-    new = ownCollectCall bytes route (narrow p b mine) b old .after
+    new = partCollectCall bytes route (toPart p b mine) b old .after
 
-    new-is : new ≡ ownCollected p b (narrow p b mine) old
+    new-is : new ≡ partCollected p b (toPart p b mine) old
     new-is =
         let k = collect-asks bytes route ok b low source mine lent fits old z in
         after-of (collect-on-part bytes route ok b low source mine lent fits (k .1) old (k .0))
 
     abbrev word : ℕ → ℕ
-    word c = pick (p .inside c) (pick (owns p b c) (getD (memoryOf p (wide p b (narrow p b mine)) b) c 0) (getD old c 0)) (p .boundary)
+    word c = pick (p .inside c) (pick (owns p b c) (getD (memoryOf p (fromPart p b (toPart p b mine)) b) c 0) (getD old c 0)) (p .boundary)
 
     at : (c : ℕ) → c < p .cells → getD new c 0 ≡ word c
-    unfolding ownCollected
+    unfolding partCollected
     at c l = ap (λ (x : List ℕ). getD x c 0) new-is ∙ tabulate-at word (p .cells) c l
 
     new-long : length new ≡ p .cells
-    unfolding ownCollected
+    unfolding partCollected
     new-long = ap length new-is ∙ length-tabulate word (p .cells)
 
     owned : (c : ℕ) → c < p .cells → p .inside c ≡ true → p .processorOf (p .tileOf c) ≡ b → owns p b c ≡ true

@@ -22,25 +22,25 @@ use Rattle.nest.specs.Nest.{processors}
 use Rattle.nest.specs.Reader.{nestOf}
 use Rattle.nest.proofs.Facts.{accepted}
 use Rattle.plan.proofs.ShapedSound.{sound}
-use Rattle.layout.specs.Sizes.{routeOf}
+use Rattle.layout.specs.RouteWords.{routeOf}
 use Rattle.layout.proofs.Dims.{product-pos}
 use Rattle.recipe.specs.Routes.{linesFor}
 use Rattle.recipe.proofs.Laws.{reads-for}
 use Rattle.engine.specs.Calls.{recipe}
-use Rattle.network.specs.Apart.{Areas, startApart, assembled, collectApart}
+use Rattle.network.specs.Apart.{AreasApart, startApart, assembled, collectApart}
 use Rattle.network.specs.Packets.{Network, NetworkEvent, actNetwork, startNetwork, machineEvents, lastNetwork, MachineByPackets}
-use Rattle.network.specs.Locality.{Lent, Keeps, ReadsOwnWord}
+use Rattle.network.specs.Locality.{PlanLengths, Keeps, ReadsOwnWord}
 use Rattle.network.specs.Own.{owns, ownCells}
 use Rattle.network.proofs.Network.{Follows, start-follows, event-steps}
 use Rattle.network.proofs.PacketTheorem.{theorem-packets}
-use Rattle.network.proofs.OwnRuns.{lent-here, fit-here}
+use Rattle.network.proofs.PartRuns.{lent-here, fit-here}
 use Rattle.network.proofs.Own.{own-test, test-own}
 use Rattle.network_runs.proofs.AsNetwork.{own-word}
 use Rattle.network_runs.proofs.Demands.{apart-demands}
 use Rattle.part.specs.Part.{partFits}
-use Rattle.part_calls.specs.front.Calls.{wide, narrow, ownCollected, ownCollectCall}
-use Rattle.network_runs.specs.part.Runs.{OwnSources, ownStart, actsOnParts, collectedTo}
-use Rattle.network_runs.specs.part.Demands.{BegunApart, ownAfter, stepsTaken, OwnDemand3, OwnDemands}
+use Rattle.part_calls.specs.front.Calls.{fromPart, toPart, partCollected, partCollectCall}
+use Rattle.network_runs.specs.part.Runs.{PartSources, partStart, actsOnParts, collectedTo}
+use Rattle.network_runs.specs.part.Demands.{BegunApart, ownAfter, stepsTaken, PartDemand3, PartDemands}
 use Rattle.network_runs.proofs.part.OnePart.{part-fits, fresh-gives, fresh-leaves, collect-on-part, own-word-in}
 use Rattle.network_runs.proofs.part.Steps.{Parts, Likened, event-likened}
 
@@ -53,8 +53,8 @@ some-processor bytes route small z = product-pos _ _ (nest-of bytes route small 
 
 -- ---- the parts of areas put into one grid
 module _ (bytes : List ℕ) (route : ℕ) (ok : firstOf (linesFor (routeOf route) bytes) ≡ 0) (so : Sound (recipe bytes route)) (source : List ℕ)
-    (a o : Areas) (parts : Parts (recipe bytes route) a o)
-    (lent : (b : ℕ) → b < recipe bytes route .processors → Lent (recipe bytes route) source (a b))
+    (a o : AreasApart) (parts : Parts (recipe bytes route) a o)
+    (lent : (b : ℕ) → b < recipe bytes route .processors → PlanLengths (recipe bytes route) source (a b))
     (fits : (b : ℕ) → b < recipe bytes route .processors → fit (recipe bytes route) (a b) ≡ true)
     (done : (b : ℕ) → b < recipe bytes route .processors → tilesLeft (recipe bytes route) (a b) b ≡ false) where
   abbrev p : Plan
@@ -67,11 +67,11 @@ module _ (bytes : List ℕ) (route : ℕ) (ok : firstOf (linesFor (routeOf route
   word c = getD (memoryOf p (a (owner c)) (owner c)) c 0
 
   collects : (b : ℕ) (h : b < p .processors) (grid : List ℕ) → length grid ≡ p .cells
-      → ownCollectCall bytes route (o b) b grid ≡ record { number = 0; after = ownCollected p b (narrow p b (a b)) grid }
+      → partCollectCall bytes route (o b) b grid ≡ record { number = 0; after = partCollected p b (toPart p b (a b)) grid }
   collects b h grid long = rw (parts b h) (collect-on-part bytes route ok b h source (a b) (lent b h) (fits b h) (done b h) grid long)
 
   grid-long : (n : ℕ) → n ≤ p .processors → (old : List ℕ) → length old ≡ p .cells → length (collectedTo bytes route o old n) ≡ p .cells
-  unfolding collectedTo ownCollected
+  unfolding collectedTo partCollected
   grid-long zero h old e = e
   grid-long (suc b) h old e =
       ap (λ (x : Answered (List ℕ)). length (x .after)) (collects b (omega arith) (collectedTo bytes route o old b) (grid-long b (omega arith) old e))
@@ -85,7 +85,7 @@ module _ (bytes : List ℕ) (route : ℕ) (ok : firstOf (linesFor (routeOf route
   owns-is b c e = let k = own-test p b c e in rw (so .cell-of (k .0) c (k .1) (k .3)) (k .2)
 
   abbrev put-at : ℕ → List ℕ → ℕ → ℕ
-  put-at b grid c = pick (p .inside c) (pick (owns p b c) (getD (memoryOf p (wide p b (narrow p b (a b))) b) c 0) (getD grid c 0)) (p .boundary)
+  put-at b grid c = pick (p .inside c) (pick (owns p b c) (getD (memoryOf p (fromPart p b (toPart p b (a b))) b) c 0) (getD grid c 0)) (p .boundary)
 
   put-own : (b : ℕ) (h : b < p .processors) (grid : List ℕ) (c : ℕ) → c < p .cells → p .inside c ≡ true → owner c ≡ b → put-at b grid c ≡ word c
   put-own b h grid c l i e =
@@ -99,7 +99,7 @@ module _ (bytes : List ℕ) (route : ℕ) (ok : firstOf (linesFor (routeOf route
   -- a cell of one of the first n
   there : (n : ℕ) → n ≤ p .processors → (old : List ℕ) → length old ≡ p .cells
       → (c : ℕ) → c < p .cells → p .inside c ≡ true → owner c < n → getD (collectedTo bytes route o old n) c 0 ≡ word c
-  unfolding collectedTo ownCollected
+  unfolding collectedTo partCollected
   there zero h old e c l i k = absurd (omega arith)
   there (suc b) h old e c l i k =
       ap (λ (x : Answered (List ℕ)). getD (x .after) c 0)
@@ -125,14 +125,14 @@ module _ (bytes : List ℕ) (route : ℕ) (ok : firstOf (linesFor (routeOf route
     at-last b e c l false i = pick-false _ _ _ i ∙ sym (pick-false _ _ _ i)
 
     pub all-there : (n : ℕ) → n ≡ p .processors → 1 ≤ n → collectedTo bytes route o old n ≡ assembled p a
-    unfolding collectedTo ownCollected assembled
+    unfolding collectedTo partCollected assembled
     all-there zero e h = absurd (omega arith)
     all-there (suc b) e h =
         ap (λ (x : Answered (List ℕ)). x .after) (collects b (omega arith) (collectedTo bytes route o old b) (grid-long b (omega arith) old long))
         ∙ tabulate-same _ _ (p .cells) (λ c l. at-last b e c l (p .inside c) refl)
 
 -- ---- runs
-module _ (bytes : List ℕ) (route : ℕ) (source : List ℕ) (sources : OwnSources) (lent : Areas) (bg : BegunApart bytes route source sources lent) where
+module _ (bytes : List ℕ) (route : ℕ) (source : List ℕ) (sources : PartSources) (lent : AreasApart) (bg : BegunApart bytes route source sources lent) where
   abbrev plan : Plan
   plan = recipe bytes route
 
@@ -147,8 +147,8 @@ module _ (bytes : List ℕ) (route : ℕ) (source : List ℕ) (sources : OwnSour
     packets : o .packets ≡ n .packets
     parts : Parts plan (n .areas) (o .areas)
 
-  starts : Relates (fresh plan) (startNetwork plan) (ownStart bytes route lent)
-  unfolding ownStart startApart
+  starts : Relates (fresh plan) (startNetwork plan) (partStart bytes route lent)
+  unfolding partStart startApart
   starts =
       record {
         follows = start-follows plan so source;
@@ -189,15 +189,15 @@ module _ (bytes : List ℕ) (route : ℕ) (source : List ℕ) (sources : OwnSour
 
   module _ (events : List NetworkEvent) where
     abbrev reached : (t : State) × Relates t (lastNetwork plan source events) (ownAfter bytes route source sources lent events)
-    reached = ends events (fresh plan) (startNetwork plan) (ownStart bytes route lent) starts
+    reached = ends events (fresh plan) (startNetwork plan) (partStart bytes route lent) starts
 
-    abbrev there-areas : Areas
+    abbrev there-areas : AreasApart
     there-areas = lastNetwork plan source events .areas
 
     known : MachineByPackets plan source events
     known = theorem-packets plan so source events
 
-    lent-there : (b : ℕ) → b < plan .processors → Lent plan source (there-areas b)
+    lent-there : (b : ℕ) → b < plan .processors → PlanLengths plan source (there-areas b)
     lent-there = lent-here plan so reads-own source (bg .whole) (reached .0) (lastNetwork plan source events) (reached .1 .follows)
 
     fit-there : (b : ℕ) → b < plan .processors → fit plan (there-areas b) ≡ true
@@ -224,10 +224,10 @@ module _ (bytes : List ℕ) (route : ℕ) (source : List ℕ) (sources : OwnSour
           fit-there done-there old long (plan .processors) refl (some-processor bytes route (bg .small) (bg .accepted))
           ∙ sym (after-is old long) ∙ known .collecting .grid all old long
 
-    holds : OwnDemand3 bytes route source sources lent events
+    holds : PartDemand3 bytes route source sources lent events
     holds =
         record {
-          same-answers = same-all events (fresh plan) (startNetwork plan) (ownStart bytes route lent) starts;
+          same-answers = same-all events (fresh plan) (startNetwork plan) (partStart bytes route lent) starts;
           same-packets = reached .1 .packets;
           by-packets = known;
           same-parts = reached .1 .parts;
@@ -241,7 +241,7 @@ module _ (bytes : List ℕ) (route : ℕ) (source : List ℕ) (sources : OwnSour
 -- ---- every accepted recipe can so begin
 module _ (bytes : List ℕ) (route : ℕ) (source : List ℕ) (small : Bytes bytes) (z : firstOf (linesFor (routeOf route) bytes) ≡ 0)
     (long : length source ≡ recipe bytes route .cells) where
-  begun : (lent : Areas) → ((b : ℕ) → b < recipe bytes route .processors → partFits (recipe bytes route) b (lent b) ≡ true)
+  begun : (lent : AreasApart) → ((b : ℕ) → b < recipe bytes route .processors → partFits (recipe bytes route) b (lent b) ≡ true)
       → BegunApart bytes route source (λ b. pack source (ownCells (recipe bytes route) b)) lent
   begun lent fits =
       record {
@@ -252,14 +252,14 @@ module _ (bytes : List ℕ) (route : ℕ) (source : List ℕ) (small : Bytes byt
         gave = λ b h. fresh-gives bytes route z b h (lent b) (fits b h);
       }
 
-  fresh-lent : Lent (recipe bytes route) source (fresh (recipe bytes route))
+  fresh-lent : PlanLengths (recipe bytes route) source (fresh (recipe bytes route))
   fresh-lent =
       let sh = inv-fresh (recipe bytes route) source .shape in
       record { source = long; memories = sh .memories; buffer = sh .buffer; progress = sh .progress; status = sh .status }
 
   fresh-fits : (b : ℕ) → b < recipe bytes route .processors
-      → partFits (recipe bytes route) b (narrow (recipe bytes route) b (fresh (recipe bytes route))) ≡ true
+      → partFits (recipe bytes route) b (toPart (recipe bytes route) b (fresh (recipe bytes route))) ≡ true
   fresh-fits b h = part-fits (recipe bytes route) b h source (fresh (recipe bytes route)) fresh-lent
 
-pub own-demands : OwnDemands
+pub own-demands : PartDemands
 own-demands = record { begins = begun; can-fit = fresh-fits; by-own-parts = holds }

@@ -10,7 +10,7 @@ use lib.ListN.{length, getD}
 use lib.Dec.{ltb, eqb}
 use borrow.Author.Tests.{lt-ltb, ltb-true, eqb-true, eq-eqb, ne-eqb}
 use Rattle.base.specs.Tests.{_and_, _or_, not}
-use Rattle.base.specs.Lists.{In, part, pack}
+use Rattle.base.specs.Lists.{In, sublist, pack}
 use Rattle.base.specs.Numbers.{Line, line, firstOf}
 use Rattle.base.proofs.Tests.{both, and-true, and-left, either, or-right, or-false, not-true, true-not, false-not, never-both, pick-true, pick-false, every-at}
 use Rattle.base.proofs.Select.{keep-in}
@@ -21,21 +21,22 @@ use Rattle.machine.specs.Plan.{Plan, Sound, count, heldBy, tilesOf}
 use Rattle.machine.specs.Machine.{State, memoryOf, placeOf, tilesLeft, fitRecord, fit, Answered, answered, turnLines, turn, fresh}
 use Rattle.machine.specs.Machine.{deliverLines, deliver}
 use Rattle.machine.proofs.Fresh.{status-fresh}
-use Rattle.layout.specs.Sizes.{routeOf}
+use Rattle.layout.specs.RouteWords.{routeOf}
 use Rattle.recipe.specs.Routes.{linesFor}
 use Rattle.recipe.proofs.Laws.{numbered-for}
 use Rattle.engine.specs.Calls.{recipe}
 use Rattle.network.specs.Apart.{senderAt, takerAt, marked, received}
-use Rattle.network.specs.Locality.{Lent, Keeps, SameTo, ReadsOwnWord}
+use Rattle.network.specs.Locality.{PlanLengths, Keeps, SameTo, ReadsOwnWord}
 use Rattle.network.specs.Brought.{takeInLines, takeIn}
 use Rattle.network.specs.Own.{handles, ownCells, keptCells, handled, Own, narrowed, widened, sourceOf, turnOwn}
 use Rattle.network.proofs.Network.{zero-answer}
 use Rattle.network.proofs.Own.{narrowed-same, wide-same, wide-lent, wide-fit, own-turn}
-use Rattle.network.proofs.OwnRuns.{Beside, marked-same, received-same}
+use Rattle.network.proofs.PartRuns.{Beside, marked-same, received-same}
 use Rattle.network.specs.Brought.{takenBy, asLong}
 use Rattle.part.specs.Part.{partOf, lentOf, wordsOf, mailAt, partFits}
-use Rattle.part_calls.specs.front.Calls.{wide, narrow, boardLines, ownFreshCall, stepped, ownTurnCall, ownPostCall, ownArriveCall, collectFits, ownCollected}
-use Rattle.part_calls.specs.front.Calls.{ownCollectCall}
+use Rattle.part_calls.specs.front.Calls.{fromPart, toPart, boardLines, partFreshCall, stepped, partTurnCall, partPostCall, partArriveCall, collectFits}
+use Rattle.part_calls.specs.front.Calls.{partCollected}
+use Rattle.part_calls.specs.front.Calls.{partCollectCall}
 use Rattle.part_calls.proofs.front.Part.{mail-long, mail-part}
 
 -- the same number, and the same left
@@ -43,12 +44,12 @@ answer-is : {A : Type 0} {x y : ℕ} {o q : A} → x ≡ y → o ≡ q → _≡_
 answer-is e f = rw (e, f)
 
 -- ---- one processor b, its areas s of their lengths and fit
-module _ (p : Plan) (b : ℕ) (low : b < p .processors) (source : List ℕ) (s : State) (le : Lent p source s) where
+module _ (p : Plan) (b : ℕ) (low : b < p .processors) (source : List ℕ) (s : State) (le : PlanLengths p source s) where
   abbrev mine : State
-  mine = narrow p b s
+  mine = toPart p b s
 
   abbrev again : State
-  again = wide p b (narrow p b s)
+  again = fromPart p b (toPart p b s)
 
   again-is : again ≡ widened p b (narrowed p b s)
   unfolding partOf lentOf
@@ -84,12 +85,12 @@ module _ (p : Plan) (b : ℕ) (low : b < p .processors) (source : List ℕ) (s :
   beside : Beside p source b s again
   beside = record { lent = le; lent′ = rw again-is (wide-lent p b source s low le source (le .source)); view = same-again }
 
-  narrow-same : (r r′ : State) → SameTo p b r r′ → narrow p b r′ ≡ narrow p b r
+  narrow-same : (r r′ : State) → SameTo p b r r′ → toPart p b r′ ≡ toPart p b r
   narrow-same r r′ e = ap lentOf (sym (narrowed-same p b r r′ e))
 
   -- a message's words lie in the part where they are looked for
   pub words-in : (m : ℕ) → m < count p → handles p b m ≡ true
-      → part (mine .buffer) (mailAt p b m) (length (heldBy p m)) ≡ placeOf p (s .buffer) m
+      → sublist (mine .buffer) (mailAt p b m) (length (heldBy p m)) ≡ placeOf p (s .buffer) m
   unfolding lentOf narrowed
   words-in m lo e = mail-part p (s .buffer) (le .buffer) (handles p b) m lo e
 
@@ -122,21 +123,21 @@ module _ (bytes : List ℕ) (route : ℕ) (ok : firstOf (linesFor (routeOf route
       ∙ first-behind (linesFor (routeOf route) bytes) (line 11 (not (ltb b (p .processors))) ∷ rest) (numbered-for (routeOf route) bytes) ok
       ∙ first-false 11 _ rest (not-true (lt-ltb b (p .processors) low))
 
-  pub fresh-gives : (s : State) → partFits p b s ≡ true → ownFreshCall bytes route s b .number ≡ 0
-  unfolding ownFreshCall
+  pub fresh-gives : (s : State) → partFits p b s ≡ true → partFreshCall bytes route s b .number ≡ 0
+  unfolding partFreshCall
   fresh-gives s e = past (line 9 (not (partFits p b s)) ∷ []) ∙ first-false 9 _ [] (not-true e) ∙ first-nil
 
-  pub fresh-leaves : (s : State) → ownFreshCall bytes route s b .number ≡ 0 → ownFreshCall bytes route s b .after ≡ narrow p b (fresh p)
-  unfolding ownFreshCall
+  pub fresh-leaves : (s : State) → partFreshCall bytes route s b .number ≡ 0 → partFreshCall bytes route s b .after ≡ toPart p b (fresh p)
+  unfolding partFreshCall
   fresh-leaves s z = pick-true _ _ _ (eq-eqb _ 0 z)
 
-  module _ (source : List ℕ) (s : State) (le : Lent p source s) (f : fit p s ≡ true) where
+  module _ (source : List ℕ) (s : State) (le : PlanLengths p source s) (f : fit p s ≡ true) where
     -- ---- a turn
     abbrev ws : List ℕ
     ws = pack source (ownCells p b)
 
     turn-number : firstOf (boardLines bytes route b
-        ++ (line 9 (not (eqb (length ws) (length (ownCells p b)) and partFits p b (narrow p b s))) ∷ turnLines p (again p b low source s le) b))
+        ++ (line 9 (not (eqb (length ws) (length (ownCells p b)) and partFits p b (toPart p b s))) ∷ turnLines p (again p b low source s le) b))
         ≡ firstOf (turnLines p (again p b low source s le) b)
     turn-number =
         past _ ∙ first-false 9 _ _ (not-true (and-true (eq-eqb _ _ (pack-length (ownCells p b) source)) (part-fits p b low source s le)))
@@ -157,48 +158,48 @@ module _ (bytes : List ℕ) (route : ℕ) (ok : firstOf (linesFor (routeOf route
       unfolding turnOwn partOf lentOf
       same-after = ap (λ (a : Answered Own). a .after) as-own
 
-      pub turn-on-part : ownTurnCall bytes route ws (narrow p b s) b
-          ≡ record { number = turn p source s b .number; after = narrow p b (turn p source s b .after) }
-      unfolding ownTurnCall turn
+      pub turn-on-part : partTurnCall bytes route ws (toPart p b s) b
+          ≡ record { number = turn p source s b .number; after = toPart p b (turn p source s b .after) }
+      unfolding partTurnCall turn
       turn-on-part =
-          ap (λ (n : ℕ). answered n (narrow p b (stepped p b ws (narrow p b s))) (narrow p b s)) turn-number ∙ go (ℕ-discrete (turned .number) 0)
+          ap (λ (n : ℕ). answered n (toPart p b (stepped p b ws (toPart p b s))) (toPart p b s)) turn-number ∙ go (ℕ-discrete (turned .number) 0)
         where
           go : Dec (turned .number ≡ 0)
-              → answered (turned .number) (narrow p b (stepped p b ws (narrow p b s))) (narrow p b s)
-              ≡ record { number = turn p source s b .number; after = narrow p b (turn p source s b .after) }
+              → answered (turned .number) (toPart p b (stepped p b ws (toPart p b s))) (toPart p b s)
+              ≡ record { number = turn p source s b .number; after = toPart p b (turn p source s b .after) }
           go (yes z) =
               answer-is same-number
               (pick-true _ _ _ (eq-eqb _ 0 z)
-              ∙ ap lentOf (ap (narrowed p b) (sym (pick-true _ (stepped p b ws (narrow p b s)) (again p b low source s le) (eq-eqb _ 0 z))) ∙ same-after))
+              ∙ ap lentOf (ap (narrowed p b) (sym (pick-true _ (stepped p b ws (toPart p b s)) (again p b low source s le) (eq-eqb _ 0 z))) ∙ same-after))
           go (no k) =
               answer-is same-number
               (pick-false _ _ _ (ne-eqb _ 0 k)
-              ∙ ap (narrow p b) (sym (pick-false _ _ _ (ne-eqb _ 0 (λ z. k (same-number ∙ z))))))
+              ∙ ap (toPart p b) (sym (pick-false _ _ _ (ne-eqb _ 0 (λ z. k (same-number ∙ z))))))
 
     -- ---- message m at its sender's
     module _ (m : ℕ) (lo : m < count p) (here : senderAt p m ≡ b) where
-      pub post-on-part : ownPostCall bytes route (narrow p b s) b m
-          ≡ answered (firstOf (line 14 (not (eqb (getD (s .status) m 0) 1)) ∷ [])) (narrow p b (marked s m)) (narrow p b s)
-      unfolding ownPostCall
+      pub post-on-part : partPostCall bytes route (toPart p b s) b m
+          ≡ answered (firstOf (line 14 (not (eqb (getD (s .status) m 0) 1)) ∷ [])) (toPart p b (marked s m)) (toPart p b s)
+      unfolding partPostCall
       post-on-part =
-          let a : firstOf (boardLines bytes route b ++ (line 9 (not (partFits p b (narrow p b s)))
+          let a : firstOf (boardLines bytes route b ++ (line 9 (not (partFits p b (toPart p b s)))
           ∷ line 10 (not (fit p (again p b low source s le))) ∷ line 11 (not (ltb m (count p)))
           ∷ line 14 (not (eqb (getD (again p b low source s le .status) m 0) 1)) ∷ []))
           ≡ firstOf (line 14 (not (eqb (getD (s .status) m 0) 1)) ∷ []) =
           past _ ∙ first-false 9 _ _ (not-true (part-fits p b low source s le)) ∙ first-false 10 _ _ (not-true (fit-again p b low source s le f))
           ∙ first-false 11 _ _ (not-true (lt-ltb m (count p) lo))
           ∙ ap (λ (x : ℕ). firstOf (line 14 (not (eqb x 1)) ∷ [])) (sym (same-again p b low source s le .marks m lo (inl here))) in
-          let c : narrow p b (marked (again p b low source s le) m) ≡ narrow p b (marked s m) =
+          let c : toPart p b (marked (again p b low source s le) m) ≡ toPart p b (marked s m) =
           narrow-same p b low source s le _ _ (marked-same p source b s (again p b low source s le) (beside p b low source s le) m lo) in
           rw (a, c) refl
 
     -- ---- message m at its taker's, with its words
     module _ (m : ℕ) (lo : m < count p) (here : takerAt p m ≡ b) (new : List ℕ) (long : length new ≡ length (heldBy p m)) where
-      pub arrive-on-part : ownArriveCall bytes route (narrow p b s) b m new
-          ≡ answered (firstOf (line 14 (not (eqb (getD (s .status) m 0) 0)) ∷ [])) (narrow p b (received p s m new)) (narrow p b s)
-      unfolding ownArriveCall
+      pub arrive-on-part : partArriveCall bytes route (toPart p b s) b m new
+          ≡ answered (firstOf (line 14 (not (eqb (getD (s .status) m 0) 0)) ∷ [])) (toPart p b (received p s m new)) (toPart p b s)
+      unfolding partArriveCall
       arrive-on-part =
-          let a : firstOf (boardLines bytes route b ++ (line 9 (not (partFits p b (narrow p b s) and asLong p m new))
+          let a : firstOf (boardLines bytes route b ++ (line 9 (not (partFits p b (toPart p b s) and asLong p m new))
           ∷ line 10 (not (fit p (again p b low source s le))) ∷ line 11 (not (takenBy p b m))
           ∷ line 14 (not (eqb (getD (again p b low source s le .status) m 0) 0)) ∷ []))
           ≡ firstOf (line 14 (not (eqb (getD (s .status) m 0) 0)) ∷ []) =
@@ -207,20 +208,20 @@ module _ (bytes : List ℕ) (route : ℕ) (ok : firstOf (linesFor (routeOf route
           ∙ first-false 10 _ _ (not-true (fit-again p b low source s le f))
           ∙ first-false 11 _ _ (not-true (and-true (lt-ltb m (count p) lo) (eq-eqb _ _ here)))
           ∙ ap (λ (x : ℕ). firstOf (line 14 (not (eqb x 0)) ∷ [])) (sym (same-again p b low source s le .marks m lo (inr here))) in
-          let c : narrow p b (received p (again p b low source s le) m new) ≡ narrow p b (received p s m new) =
+          let c : toPart p b (received p (again p b low source s le) m new) ≡ toPart p b (received p s m new) =
           narrow-same p b low source s le _ _ (received-same p source b s (again p b low source s le) (beside p b low source s le) m lo new long) in
           rw (a, c) refl
 
     -- ---- its part collected
     pub collect-on-part : tilesLeft p s b ≡ false → (grid : List ℕ) → length grid ≡ p .cells
-        → ownCollectCall bytes route (narrow p b s) b grid ≡ record { number = 0; after = ownCollected p b (narrow p b s) grid }
-    unfolding ownCollectCall collectFits
+        → partCollectCall bytes route (toPart p b s) b grid ≡ record { number = 0; after = partCollected p b (toPart p b s) grid }
+    unfolding partCollectCall collectFits
     collect-on-part none grid long =
         zero-answer _ _ _
         (past _ ∙ first-false 9 _ _ (not-true fits) ∙ first-false 10 _ _ (not-true (record-fits p b low source s le f))
         ∙ first-false 15 _ _ (left-same p b low source s le ∙ none) ∙ first-nil)
       where
-        fits : collectFits p b (narrow p b s) grid ≡ true
+        fits : collectFits p b (toPart p b s) grid ≡ true
         fits = and-true (eq-eqb _ _ (memory-long p b low source s le)) (and-true (eq-eqb _ _ (record-long p b low source s le)) (eq-eqb _ _ long))
 
 -- ---- any message, whoever sends or takes it
@@ -242,7 +243,7 @@ behind n true xs ys e = first-true n true xs refl ∙ sym (first-true n true ys 
 behind n false xs ys e = first-cons n false xs ys (e refl)
 
 module _ (bytes : List ℕ) (route : ℕ) (ok : firstOf (linesFor (routeOf route) bytes) ≡ 0) (b : ℕ) (low : b < recipe bytes route .processors)
-    (source : List ℕ) (s : State) (le : Lent (recipe bytes route) source s) (f : fit (recipe bytes route) s ≡ true) where
+    (source : List ℕ) (s : State) (le : PlanLengths (recipe bytes route) source s) (f : fit (recipe bytes route) s ≡ true) where
   abbrev p′ : Plan
   p′ = recipe bytes route
 
@@ -267,7 +268,7 @@ module _ (bytes : List ℕ) (route : ℕ) (ok : firstOf (linesFor (routeOf route
         go (no n) (yes e) = ap (λ (x : ℕ). eqb x 1) (sym (same-again p′ b low source s le .marks m lo (inr e)))
         go (no n) (no k) = ap (λ (x : ℕ). eqb x 1) (not-handled n k) ∙ sym (ne-eqb _ 1 (only lo n))
 
-    post-lines : firstOf (boardLines bytes route b ++ (line 9 (not (partFits p′ b (narrow p′ b s))) ∷ deliverLines p′ wider m)) ≡ firstOf (deliverLines p′ s m)
+    post-lines : firstOf (boardLines bytes route b ++ (line 9 (not (partFits p′ b (toPart p′ b s))) ∷ deliverLines p′ wider m)) ≡ firstOf (deliverLines p′ s m)
     post-lines =
         past bytes route ok b low _ ∙ first-false 9 _ _ (not-true (part-fits p′ b low source s le))
         ∙ first-false 10 _ _ (not-true (fit-again p′ b low source s le f))
@@ -281,17 +282,17 @@ module _ (bytes : List ℕ) (route : ℕ) (ok : firstOf (linesFor (routeOf route
         let y = none-first 11 _ _ (λ q. omega arith) (x .1) in
         ltb-true _ _ (true-not (y .0))
 
-    pub post-any : ownPostCall bytes route (narrow p′ b s) b m ≡ record { number = deliver p′ s m .number; after = narrow p′ b (deliver p′ s m .after) }
-    unfolding ownPostCall deliver
+    pub post-any : partPostCall bytes route (toPart p′ b s) b m ≡ record { number = deliver p′ s m .number; after = toPart p′ b (deliver p′ s m .after) }
+    unfolding partPostCall deliver
     post-any =
-        through (narrow p′ b) _ _ (marked s m) s _ (narrow p′ b s) post-lines
+        through (toPart p′ b) _ _ (marked s m) s _ (toPart p′ b s) post-lines
         (λ z. narrow-same p′ b low source s le _ _ (marked-same p′ source b s wider (beside p′ b low source s le) m (asked z)))
         refl
 
   -- ---- taken in
   module _ (m : ℕ) (new : List ℕ) where
     arrive-lines : firstOf (boardLines bytes route b
-        ++ (line 9 (not (partFits p′ b (narrow p′ b s) and asLong p′ m new))
+        ++ (line 9 (not (partFits p′ b (toPart p′ b s) and asLong p′ m new))
         ∷ line 10 (not (fit p′ wider)) ∷ line 11 (not (takenBy p′ b m)) ∷ line 14 (not (eqb (getD (wider .status) m 0) 0)) ∷ []))
         ≡ firstOf (takeInLines p′ s b m new)
     arrive-lines =
@@ -320,18 +321,18 @@ module _ (bytes : List ℕ) (route : ℕ) (ok : firstOf (linesFor (routeOf route
         long (inl q) lo = absurd (never-both lo (false-not q))
         long (inr q) lo = eqb-true _ _ q
 
-    pub arrive-any : ownArriveCall bytes route (narrow p′ b s) b m new
-        ≡ record { number = takeIn p′ s b m new .number; after = narrow p′ b (takeIn p′ s b m new .after) }
-    unfolding ownArriveCall takeIn
+    pub arrive-any : partArriveCall bytes route (toPart p′ b s) b m new
+        ≡ record { number = takeIn p′ s b m new .number; after = toPart p′ b (takeIn p′ s b m new .after) }
+    unfolding partArriveCall takeIn
     arrive-any =
-        through (narrow p′ b) _ _ (received p′ s m new) s _ (narrow p′ b s) arrive-lines
+        through (toPart p′ b) _ _ (received p′ s m new) s _ (toPart p′ b s) arrive-lines
         (λ z. let k = taken-asked z in
         narrow-same p′ b low source s le _ _ (received-same p′ source b s wider (beside p′ b low source s le) m (k .0) new (k .1)))
         refl
 
   -- ---- collected: what it asks
-  pub collect-asks : (grid : List ℕ) → ownCollectCall bytes route (narrow p′ b s) b grid .number ≡ 0 → (length grid ≡ p′ .cells) × (tilesLeft p′ s b ≡ false)
-  unfolding ownCollectCall collectFits
+  pub collect-asks : (grid : List ℕ) → partCollectCall bytes route (toPart p′ b s) b grid .number ≡ 0 → (length grid ≡ p′ .cells) × (tilesLeft p′ s b ≡ false)
+  unfolding partCollectCall collectFits
   collect-asks grid z =
       let x = none-first 9 _ _ (λ q. omega arith) (sym (past bytes route ok b low _) ∙ z) in
       let y = none-first 10 _ _ (λ q. omega arith) (x .1) in

@@ -7,7 +7,7 @@ use native.Mathlib.Omega.{arith}
 use lib.ListN.{length, getD}
 use borrow.Author.Tests.{eq-eqb, eqb-true}
 use Rattle.base.specs.Tests.{not}
-use Rattle.base.specs.Lists.{part}
+use Rattle.base.specs.Lists.{sublist}
 use Rattle.base.specs.Numbers.{line, firstOf}
 use Rattle.base.proofs.Tests.{both, and-true, true-not}
 use Rattle.base.proofs.Select.{keep-lt, keep-at}
@@ -15,37 +15,37 @@ use Rattle.base.proofs.Lists.{part-left, part-right}
 use Rattle.base.proofs.Numbers.{none-first}
 use Rattle.machine.specs.Plan.{Plan, count}
 use Rattle.machine.specs.Machine.{State}
-use Rattle.layout.specs.Sizes.{routeOf}
+use Rattle.layout.specs.RouteWords.{routeOf}
 use Rattle.recipe.specs.Routes.{linesFor}
 use Rattle.engine.specs.Calls.{recipe}
 use Rattle.network.specs.Own.{handles, handled, ownCells, keptCells}
 use Rattle.part.specs.Part.{wordsOf, rankOf, partFits}
 use Rattle.part_calls.specs.declared.AreaLengths.{AreaLengths}
-use Rattle.part_calls.specs.front.Calls.{lengthsOf, ownRow, ownRows, ownFreshCall}
+use Rattle.part_calls.specs.front.Calls.{lengthsOf, partRow, partRows, partFreshCall}
 use Rattle.network_runs.specs.part.PartTold.{lengthsHad, PartTold, PartTells}
 use Rattle.network_runs.proofs.part.OnePart.{past, fresh-gives}
 
 module _ (p : Plan) (b : ℕ) where
-  row-long : (m : ℕ) → length (ownRow p b m) ≡ 7
-  unfolding ownRow
+  row-long : (m : ℕ) → length (partRow p b m) ≡ 7
+  unfolding partRow
   row-long m = refl
 
-  whole-row : (m : ℕ) → part (ownRow p b m) 0 7 ≡ ownRow p b m
-  unfolding part ownRow
+  whole-row : (m : ℕ) → sublist (partRow p b m) 0 7 ≡ partRow p b m
+  unfolding sublist partRow
   whole-row m = refl
 
-  rows-at : (ms : List ℕ) (i : ℕ) → i < length ms → part (ownRows p b ms) (7 * i) 7 ≡ ownRow p b (getD ms i 0)
-  unfolding ownRows
+  rows-at : (ms : List ℕ) (i : ℕ) → i < length ms → sublist (partRows p b ms) (7 * i) 7 ≡ partRow p b (getD ms i 0)
+  unfolding partRows
   rows-at [] i h = absurd (omega arith)
-  rows-at (m ∷ ms) zero h = part-left (ownRow p b m) (ownRows p b ms) 0 7 (omega (arith, row-long m)) ∙ whole-row m
+  rows-at (m ∷ ms) zero h = part-left (partRow p b m) (partRows p b ms) 0 7 (omega (arith, row-long m)) ∙ whole-row m
   rows-at (m ∷ ms) (suc i) h =
-      let z : 7 * suc i - length (ownRow p b m) ≡ 7 * i = omega (arith, row-long m) in
-      part-right (ownRow p b m) (ownRows p b ms) (7 * suc i) 7 (omega (arith, row-long m))
-      ∙ ap (λ (j : ℕ). part (ownRows p b ms) j 7) z ∙ rows-at ms i (omega arith)
+      let z : 7 * suc i - length (partRow p b m) ≡ 7 * i = omega (arith, row-long m) in
+      part-right (partRow p b m) (partRows p b ms) (7 * suc i) 7 (omega (arith, row-long m))
+      ∙ ap (λ (j : ℕ). sublist (partRows p b ms) j 7) z ∙ rows-at ms i (omega arith)
 
-  row-of : (m : ℕ) → m < count p → handles p b m ≡ true → part (ownRows p b (handled p b)) (7 * rankOf p b m) 7 ≡ ownRow p b m
+  row-of : (m : ℕ) → m < count p → handles p b m ≡ true → sublist (partRows p b (handled p b)) (7 * rankOf p b m) 7 ≡ partRow p b m
   row-of m lo e =
-      rows-at (handled p b) (rankOf p b m) (keep-lt (handles p b) (count p) m lo e) ∙ ap (ownRow p b) (keep-at (handles p b) (count p) m lo e)
+      rows-at (handled p b) (rankOf p b m) (keep-lt (handles p b) (count p) m lo e) ∙ ap (partRow p b) (keep-at (handles p b) (count p) m lo e)
 
   -- lengths
   fits : (source : List ℕ) (s : State) → lengthsHad source s ≡ lengthsOf p b → length (s .progress) ≡ 3 → partFits p b s ≡ true
@@ -66,8 +66,8 @@ module _ (p : Plan) (b : ℕ) where
       rw (e, m, u, q) refl
 
 fresh-asks : (bytes : List ℕ) (route b : ℕ) → firstOf (linesFor (routeOf route) bytes) ≡ 0 → b < recipe bytes route .processors → (s : State)
-    → ownFreshCall bytes route s b .number ≡ 0 → partFits (recipe bytes route) b s ≡ true
-unfolding ownFreshCall
+    → partFreshCall bytes route s b .number ≡ 0 → partFits (recipe bytes route) b s ≡ true
+unfolding partFreshCall
 fresh-asks bytes route b ok low s z =
     true-not (none-first 9 (not (partFits (recipe bytes route) b s)) [] (λ q. omega arith)
     (sym (past bytes route ok b low (line 9 (not (partFits (recipe bytes route) b s)) ∷ [])) ∙ z) .0)

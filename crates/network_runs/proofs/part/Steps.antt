@@ -16,25 +16,25 @@ use Rattle.base.proofs.Tests.{or-left, not-true, not-false, pick-true, pick-fal
 use Rattle.base.proofs.Numbers.{first-true, first-false}
 use Rattle.machine.specs.Plan.{Plan, Sound, count, heldBy}
 use Rattle.machine.specs.Machine.{State, Answered, answered, turn}
-use Rattle.layout.specs.Sizes.{routeOf}
+use Rattle.layout.specs.RouteWords.{routeOf}
 use Rattle.recipe.specs.Routes.{linesFor}
 use Rattle.engine.specs.Calls.{recipe}
-use Rattle.network.specs.Apart.{Areas, replaced, senderAt, takerAt, marked, received, sentOff, arrived, turnApart}
+use Rattle.network.specs.Apart.{AreasApart, replaced, senderAt, takerAt, marked, received, sentOff, arrived, turnApart}
 use Rattle.network.specs.Packets.{Packet, Network, networkOf, packetAt, statusAt, NetworkEvent, turnBy, postOf, arrivalOf, posted, post, arrive}
 use Rattle.network.specs.Packets.{turnNetwork, actNetwork}
-use Rattle.network.specs.Locality.{Lent, ReadsOwnWord}
+use Rattle.network.specs.Locality.{PlanLengths, ReadsOwnWord}
 use Rattle.network.specs.Own.{handles, ownCells}
 use Rattle.network.proofs.Letters.{replaced-same, replaced-other}
 use Rattle.network.proofs.Together.{turn-here, turn-nowhere}
 use Rattle.network.proofs.Network.{Follows}
-use Rattle.network.proofs.OwnRuns.{lent-here, fit-here, from-low, to-low}
-use Rattle.part_calls.specs.front.Calls.{narrow}
-use Rattle.network_runs.specs.part.Runs.{OwnSources, turned, turnOnPart, packetIn, handedOver, postOnPart, takenIn, arriveOnPart, actsOnParts}
+use Rattle.network.proofs.PartRuns.{lent-here, fit-here, from-low, to-low}
+use Rattle.part_calls.specs.front.Calls.{toPart}
+use Rattle.network_runs.specs.part.Runs.{PartSources, turned, turnOnPart, packetIn, handedOver, postOnPart, takenIn, arriveOnPart, actsOnParts}
 use Rattle.network_runs.proofs.part.OnePart.{turn-on-part, post-on-part, arrive-on-part, words-in}
 
 -- each processor's part of these areas
-abbrev pub Parts : Plan → Areas → Areas → Type 0
-Parts p a o = (b : ℕ) → b < p .processors → o b ≡ narrow p b (a b)
+abbrev pub Parts : Plan → AreasApart → AreasApart → Type 0
+Parts p a o = (b : ℕ) → b < p .processors → o b ≡ toPart p b (a b)
 
 -- an answer on parts beside one on whole areas
 pub record Likened (p : Plan) (x y : Answered Network) : Type 0 where
@@ -42,37 +42,37 @@ pub record Likened (p : Plan) (x y : Answered Network) : Type 0 where
   pub packets : x .after .packets ≡ y .after .packets
   pub parts : Parts p (y .after .areas) (x .after .areas)
 
-replaced-parts : (p : Plan) (a o : Areas) (b : ℕ) (x y : State) → Parts p a o → y ≡ narrow p b x → Parts p (replaced a b x) (replaced o b y)
+replaced-parts : (p : Plan) (a o : AreasApart) (b : ℕ) (x y : State) → Parts p a o → y ≡ toPart p b x → Parts p (replaced a b x) (replaced o b y)
 replaced-parts p a o b x y v e c l = go (ℕ-discrete c b)
   where
-    go : Dec (c ≡ b) → replaced o b y c ≡ narrow p c (replaced a b x c)
+    go : Dec (c ≡ b) → replaced o b y c ≡ toPart p c (replaced a b x c)
     go (yes q) = rw (replaced-same a b x c q, replaced-same o b y c q, q) e
     go (no n) = rw (replaced-other a b x c n, replaced-other o b y c n) (v c l)
 
 -- a processor that keeps what it has
-kept-parts : (p : Plan) (a o : Areas) (b : ℕ) (y : State) → Parts p a o → (b < p .processors → y ≡ narrow p b (a b)) → Parts p a (replaced o b y)
+kept-parts : (p : Plan) (a o : AreasApart) (b : ℕ) (y : State) → Parts p a o → (b < p .processors → y ≡ toPart p b (a b)) → Parts p a (replaced o b y)
 kept-parts p a o b y v e c l = go (ℕ-discrete c b)
   where
-    go : Dec (c ≡ b) → replaced o b y c ≡ narrow p c (a c)
+    go : Dec (c ≡ b) → replaced o b y c ≡ toPart p c (a c)
     go (yes q) = replaced-same o b y c q ∙ rw q (e (rw (sym q) l))
     go (no n) = replaced-other o b y c n ∙ v c l
 
 module _ (bytes : List ℕ) (route : ℕ) (ok : firstOf (linesFor (routeOf route) bytes) ≡ 0) (so : Sound (recipe bytes route))
     (own : ReadsOwnWord (recipe bytes route))
     (away : (m : ℕ) → m < count (recipe bytes route) → senderAt (recipe bytes route) m ≢ takerAt (recipe bytes route) m)
-    (source : List ℕ) (whole : length source ≡ recipe bytes route .cells) (sources : OwnSources)
+    (source : List ℕ) (whole : length source ≡ recipe bytes route .cells) (sources : PartSources)
     (owned : (b : ℕ) → b < recipe bytes route .processors → sources b ≡ pack source (ownCells (recipe bytes route) b)) where
   abbrev p : Plan
   p = recipe bytes route
 
   module _ (s : State) (n o : Network) (fo : Follows p source s n) (same : o .packets ≡ n .packets) (parts : Parts p (n .areas) (o .areas)) where
-    lent : (b : ℕ) → b < p .processors → Lent p source (n .areas b)
+    lent : (b : ℕ) → b < p .processors → PlanLengths p source (n .areas b)
     lent = lent-here p so own source whole s n fo
 
     -- ---- a turn
     turned-is : (b : ℕ) → b < p .processors
         → turned bytes route sources o b
-        ≡ record { number = turn p source (n .areas b) b .number; after = narrow p b (turn p source (n .areas b) b .after) }
+        ≡ record { number = turn p source (n .areas b) b .number; after = toPart p b (turn p source (n .areas b) b .after) }
     turned-is b h =
         rw (owned b h, parts b h)
         (turn-on-part bytes route ok b h source (n .areas b) (lent b h) (fit-here p so own source whole s n fo b h) so own)
@@ -120,7 +120,7 @@ module _ (bytes : List ℕ) (route : ℕ) (ok : firstOf (linesFor (routeOf route
       abbrev flying : ℕ
       flying = firstOf (line 14 (not (eqb (statusAt (n .areas) from m) 1)) ∷ [])
 
-      handed-is : handedOver bytes route o m ≡ answered flying (narrow p from (marked (n .areas from) m)) (narrow p from (n .areas from))
+      handed-is : handedOver bytes route o m ≡ answered flying (toPart p from (marked (n .areas from) m)) (toPart p from (n .areas from))
       handed-is =
           rw (parts from from-here)
           (post-on-part bytes route ok from from-here source (n .areas from) (lent from from-here)
@@ -146,7 +146,7 @@ module _ (bytes : List ℕ) (route : ℕ) (ok : firstOf (linesFor (routeOf route
       on-part : postOnPart bytes route o m
           ≡ record {
             number = flying;
-            after = networkOf (replaced (o .areas) from (answered flying (narrow p from (marked (n .areas from) m)) (narrow p from (n .areas from)) .after))
+            after = networkOf (replaced (o .areas) from (answered flying (toPart p from (marked (n .areas from) m)) (toPart p from (n .areas from)) .after))
                 (n .packets ++ pick (eqb flying 0) (posted p (n .areas) m) []);
           }
       unfolding postOnPart
@@ -160,7 +160,7 @@ module _ (bytes : List ℕ) (route : ℕ) (ok : firstOf (linesFor (routeOf route
               → Likened p
               (record {
                 number = flying;
-                after = networkOf (replaced (o .areas) from (pick (eqb flying 0) (narrow p from (marked (n .areas from) m)) (narrow p from (n .areas from))))
+                after = networkOf (replaced (o .areas) from (pick (eqb flying 0) (toPart p from (marked (n .areas from) m)) (toPart p from (n .areas from))))
                     (n .packets ++ pick (eqb flying 0) (posted p (n .areas) m) []);
               })
               (record {
@@ -170,14 +170,14 @@ module _ (bytes : List ℕ) (route : ℕ) (ok : firstOf (linesFor (routeOf route
               })
           go (yes z) =
               rw (
-                pick-true _ (narrow p from (marked (n .areas from) m)) (narrow p from (n .areas from)) (eq-eqb flying 0 z),
+                pick-true _ (toPart p from (marked (n .areas from) m)) (toPart p from (n .areas from)) (eq-eqb flying 0 z),
                 pick-true _ (posted p (n .areas) m) [] (eq-eqb flying 0 z),
                 pick-true _ (networkOf (replaced (n .areas) from (marked (n .areas from) m)) (n .packets ++ posted p (n .areas) m)) n (eq-eqb flying 0 z),
               )
               (record { number = refl; packets = refl; parts = replaced-parts p (n .areas) (o .areas) from _ _ parts refl })
           go (no k) =
               rw (
-                pick-false _ (narrow p from (marked (n .areas from) m)) (narrow p from (n .areas from)) (ne-eqb flying 0 k),
+                pick-false _ (toPart p from (marked (n .areas from) m)) (toPart p from (n .areas from)) (ne-eqb flying 0 k),
                 pick-false _ (posted p (n .areas) m) [] (ne-eqb flying 0 k),
                 pick-false _ (networkOf (replaced (n .areas) from (marked (n .areas from) m)) (n .packets ++ posted p (n .areas) m)) n (ne-eqb flying 0 k),
               )
@@ -219,7 +219,7 @@ module _ (bytes : List ℕ) (route : ℕ) (ok : firstOf (linesFor (routeOf route
       abbrev taken : ℕ
       taken = firstOf (line 14 (not (eqb (statusAt (n .areas) to (it .message)) 0)) ∷ [])
 
-      taken-is : takenIn bytes route o k ≡ answered taken (narrow p to (received p (n .areas to) (it .message) (it .words))) (narrow p to (n .areas to))
+      taken-is : takenIn bytes route o k ≡ answered taken (toPart p to (received p (n .areas to) (it .message) (it .words))) (toPart p to (n .areas to))
       taken-is =
           rw (same, parts to to-here)
           (arrive-on-part bytes route ok to to-here source (n .areas to) (lent to to-here) (fit-here p so own source whole s n fo to to-here) (it .message)
@@ -235,7 +235,7 @@ module _ (bytes : List ℕ) (route : ℕ) (ok : firstOf (linesFor (routeOf route
           ≡ record {
             number = taken;
             after = networkOf (replaced (o .areas) to
-                (answered taken (narrow p to (received p (n .areas to) (it .message) (it .words))) (narrow p to (n .areas to)) .after)) (n .packets);
+                (answered taken (toPart p to (received p (n .areas to) (it .message) (it .words))) (toPart p to (n .areas to)) .after)) (n .packets);
           }
       unfolding arriveOnPart
       at-part = pick-true _ _ _ (rw same (lt-ltb k (length (n .packets)) lo)) ∙ rw (taken-is, same) refl
@@ -250,7 +250,7 @@ module _ (bytes : List ℕ) (route : ℕ) (ok : firstOf (linesFor (routeOf route
                 number = taken;
                 after = networkOf
                     (replaced (o .areas) to
-                    (pick (eqb taken 0) (narrow p to (received p (n .areas to) (it .message) (it .words))) (narrow p to (n .areas to))))
+                    (pick (eqb taken 0) (toPart p to (received p (n .areas to) (it .message) (it .words))) (toPart p to (n .areas to))))
                     (n .packets);
               })
               (record {
@@ -260,13 +260,13 @@ module _ (bytes : List ℕ) (route : ℕ) (ok : firstOf (linesFor (routeOf route
               })
           go (yes z) =
               rw (
-                pick-true _ (narrow p to (received p (n .areas to) (it .message) (it .words))) (narrow p to (n .areas to)) (eq-eqb taken 0 z),
+                pick-true _ (toPart p to (received p (n .areas to) (it .message) (it .words))) (toPart p to (n .areas to)) (eq-eqb taken 0 z),
                 pick-true _ (networkOf (replaced (n .areas) to (received p (n .areas to) (it .message) (it .words))) (n .packets)) n (eq-eqb taken 0 z),
               )
               (record { number = refl; packets = refl; parts = replaced-parts p (n .areas) (o .areas) to _ _ parts refl })
           go (no q) =
               rw (
-                pick-false _ (narrow p to (received p (n .areas to) (it .message) (it .words))) (narrow p to (n .areas to)) (ne-eqb taken 0 q),
+                pick-false _ (toPart p to (received p (n .areas to) (it .message) (it .words))) (toPart p to (n .areas to)) (ne-eqb taken 0 q),
                 pick-false _ (networkOf (replaced (n .areas) to (received p (n .areas to) (it .message) (it .words))) (n .packets)) n (ne-eqb taken 0 q),
               )
               (record { number = refl; packets = refl; parts = kept-parts p (n .areas) (o .areas) to _ parts (λ l. refl) })

@@ -6,31 +6,31 @@ use mathlib.Core.List.{List, [], _∷_, _++_}
 use lib.ListN.{length}
 use lib.Dec.{ltb, eqb}
 use Rattle.base.specs.Tests.{pick}
-use Rattle.base.specs.Lists.{part}
+use Rattle.base.specs.Lists.{sublist}
 use Rattle.machine.specs.Plan.{Plan, count, heldBy}
 use Rattle.machine.specs.Machine.{State, Answered}
 use Rattle.engine.specs.Calls.{recipe}
-use Rattle.network.specs.Apart.{Areas, replaced, senderAt, takerAt}
+use Rattle.network.specs.Apart.{AreasApart, replaced, senderAt, takerAt}
 use Rattle.network.specs.Packets.{Packet, Network, networkOf, packetAt, NetworkEvent, turnBy, postOf, arrivalOf}
 use Rattle.part.specs.Part.{mailAt}
-use Rattle.part_calls.specs.front.Calls.{ownFreshCall, ownTurnCall, ownPostCall, ownArriveCall, ownCollectCall}
+use Rattle.part_calls.specs.front.Calls.{partFreshCall, partTurnCall, partPostCall, partArriveCall, partCollectCall}
 
 -- a network as network/specs/Packets has it, but here `areas b` is what processor b is lent: its own part
 
 -- the source lent to each processor: the words of its own cells
-abbrev pub OwnSources : Type 0
-OwnSources = ℕ → List ℕ
+abbrev pub PartSources : Type 0
+PartSources = ℕ → List ℕ
 
 -- each processor's fresh start, in the areas that it is lent
-unfoldable pub ownStart : List ℕ → ℕ → Areas → Network
-ownStart bytes route lent = networkOf (λ b. ownFreshCall bytes route (lent b) b .after) []
+unfoldable pub partStart : List ℕ → ℕ → AreasApart → Network
+partStart bytes route lent = networkOf (λ b. partFreshCall bytes route (lent b) b .after) []
 
 -- ---- a turn: the call on the processor's part
 
-abbrev pub turned : List ℕ → ℕ → OwnSources → Network → ℕ → Answered State
-turned bytes route sources n b = ownTurnCall bytes route (sources b) (n .areas b) b
+abbrev pub turned : List ℕ → ℕ → PartSources → Network → ℕ → Answered State
+turned bytes route sources n b = partTurnCall bytes route (sources b) (n .areas b) b
 
-unfoldable pub turnOnPart : List ℕ → ℕ → OwnSources → Network → ℕ → Answered Network
+unfoldable pub turnOnPart : List ℕ → ℕ → PartSources → Network → ℕ → Answered Network
 turnOnPart bytes route sources n b =
     pick (ltb b (recipe bytes route .processors))
     (record {
@@ -45,10 +45,10 @@ abbrev pub from : List ℕ → ℕ → ℕ → ℕ
 from bytes route m = senderAt (recipe bytes route) m
 
 abbrev pub handedOver : List ℕ → ℕ → Network → ℕ → Answered State
-handedOver bytes route n m = ownPostCall bytes route (n .areas (from bytes route m)) (from bytes route m) m
+handedOver bytes route n m = partPostCall bytes route (n .areas (from bytes route m)) (from bytes route m) m
 
 abbrev pub packetIn : Plan → ℕ → State → ℕ → Packet
-packetIn p b s m = record { message = m; words = part (s .buffer) (mailAt p b m) (length (heldBy p m)) }
+packetIn p b s m = record { message = m; words = sublist (s .buffer) (mailAt p b m) (length (heldBy p m)) }
 
 unfoldable pub postOnPart : List ℕ → ℕ → Network → ℕ → Answered Network
 postOnPart bytes route n m =
@@ -72,7 +72,7 @@ to bytes route m = takerAt (recipe bytes route) m
 
 abbrev pub takenIn : List ℕ → ℕ → Network → ℕ → Answered State
 takenIn bytes route n k =
-    ownArriveCall bytes route (n .areas (to bytes route (carriedBy n k))) (to bytes route (carriedBy n k)) (carriedBy n k) (packetAt (n .packets) k .words)
+    partArriveCall bytes route (n .areas (to bytes route (carriedBy n k))) (to bytes route (carriedBy n k)) (carriedBy n k) (packetAt (n .packets) k .words)
 
 unfoldable pub arriveOnPart : List ℕ → ℕ → Network → ℕ → Answered Network
 arriveOnPart bytes route n k =
@@ -83,12 +83,12 @@ arriveOnPart bytes route n k =
     })
     (record { number = 11; after = n })
 
-unfoldable pub actsOnParts : List ℕ → ℕ → OwnSources → Network → NetworkEvent → Answered Network
+unfoldable pub actsOnParts : List ℕ → ℕ → PartSources → Network → NetworkEvent → Answered Network
 actsOnParts bytes route sources n (turnBy b) = turnOnPart bytes route sources n b
 actsOnParts bytes route sources n (postOf m) = postOnPart bytes route n m
 actsOnParts bytes route sources n (arrivalOf k) = arriveOnPart bytes route n k
 
 -- ---- a grid into which the parts of the processors below n were put, one after the other
-unfoldable pub collectedTo : List ℕ → ℕ → Areas → List ℕ → ℕ → List ℕ
+unfoldable pub collectedTo : List ℕ → ℕ → AreasApart → List ℕ → ℕ → List ℕ
 collectedTo bytes route areas grid zero = grid
-collectedTo bytes route areas grid (suc b) = ownCollectCall bytes route (areas b) b (collectedTo bytes route areas grid b) .after
+collectedTo bytes route areas grid (suc b) = partCollectCall bytes route (areas b) b (collectedTo bytes route areas grid b) .after

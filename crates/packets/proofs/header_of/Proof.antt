@@ -1,4 +1,4 @@
--- Each field by its place.
+-- Each field by its put-chunk.
 use Rattle.packets.proofs.Answers.{header-fields}
 use borrow.Author.Needs.{needs}
 use Rattle.packets.proofs.header_of.Statement.{statement}

@@ -6,8 +6,8 @@ use borrow.Author.Needs.{needs}
 use Rattle.parcels.proofs.idle.Statement.{statement}
 use Rattle.parcels.proofs.idle.Tie as tie
 
-outside-requires : tie.Need-outside-requires
-outside-requires c κs = (
+beyond-last-requires : tie.Need-beyond-last-requires
+beyond-last-requires c κs = (
   omega (arith, c .before .before .pre .0 .accepted .spread-low, c .before .before .pre .0 .accepted .dimensions-most),
   headed-to _ (c .before .before .pre .0 .accepted) _ _ _ _ (c .before .before .pre .1),
 )
@@ -16,7 +16,7 @@ returns : tie.Need-returns
 returns c =
     let start = c .before .before .before .before in
     idle-outside _ (start .pre .0 .accepted) _ _ _ _ (start .pre .1) (start .args .sizes .across) (record { each = start .pre .0 .across })
-    (sym (c .before .outside .ensures) ∙ c .if1 .taken)
+    (sym (c .before .beyond-last .ensures) ∙ c .if1 .taken)
 
 leaves-requires : tie.Need-leaves-requires
 leaves-requires c κs = search needs
@@ -27,4 +27,4 @@ returns-2 c =
     idle-counts _ (start .pre .0 .accepted) _ _ _ _ (start .pre .1) _ (c .leaves .ensures)
 
 pub idle-spec : {M : Type 1} → statement M
-idle-spec = tie.close (tie.spec outside-requires returns leaves-requires returns-2)
+idle-spec = tie.close (tie.spec beyond-last-requires returns leaves-requires returns-2)

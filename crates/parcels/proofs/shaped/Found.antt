@@ -11,7 +11,7 @@ use lib.Seq.{length-take-le, take-add}
 use lib.Dec.{eqb, ltb, leb}
 use borrow.Author.Tests.{eqb-true, eq-eqb, ltb-true, lt-ltb}
 use Rattle.base.specs.Tests.{_and_, every, some, keep}
-use Rattle.base.specs.Lists.{part, pack, unpack}
+use Rattle.base.specs.Lists.{sublist, pack, unpack}
 use Rattle.base.proofs.Tests.{both, and-true, same-test, every-at, every-all, some-at, some-one, some-same}
 use Rattle.base.proofs.Select.{keep-hit, keep-none, keep-few, keep-mono, keep-same}
 use Rattle.base.proofs.Lists.{pack-append, unpack-append, unpack-length}
@@ -34,7 +34,7 @@ use Rattle.layout.proofs.Regions.{among-at, among-all, box-at, box-all, window-
 use Rattle.parcels.specs.declared.Sending.{Sending}
 use Rattle.parcels.specs.declared.Window.{Window}
 use Rattle.parcels.specs.Windows.{windowOf}
-use Rattle.parcels.specs.Sendings.{boxOf, placeIn, cellIn, Boxed, Windowed, Shaped, Sends}
+use Rattle.parcels.specs.Sendings.{boxOf, placeIn, cellIn, Boxed, Windowed, BoxOfRows, Sends}
 use Rattle.parcels.proofs.Sendings.{size-is}
 use Rattle.parcels.proofs.Rows.{box-within, cell-before, cell-last, cell-number, row-corner}
 use Rattle.runs.specs.Runs.{isHit, hitRow, Packed, Unpacked}
@@ -193,7 +193,7 @@ module _ (x : Nest) (z : Sending) where
   unfolding shapedFound
   found-upto q n h = simp length-map (keep-mono (test x z) n q h)
 
-module _ (x : Nest) (ok : Accepted x) (z : Sending) (p : Shaped x z) (r : ℕ) (at : List ℕ) (n : ℕ) (starts ends : List ℕ)
+module _ (x : Nest) (ok : Accepted x) (z : Sending) (p : BoxOfRows x z) (r : ℕ) (at : List ℕ) (n : ℕ) (starts ends : List ℕ)
     (f : RowRuns x z r at n starts ends) where
   abbrev first : ℕ
   first = r * z .width
@@ -232,7 +232,7 @@ module _ (x : Nest) (ok : Accepted x) (z : Sending) (p : Shaped x z) (r : ℕ) (
       next-row r w = rw (add-one r) (suc-mul r w)
 
 -- its cells are the nest's
-pub row-cells : (x : Nest) (ok : Accepted x) (z : Sending) (p : Shaped x z) (r : ℕ) → r < z .rows → cellIn x z (r * z .width) + z .width ≤ cells x
+pub row-cells : (x : Nest) (ok : Accepted x) (z : Sending) (p : BoxOfRows x z) (r : ℕ) → r < z .rows → cellIn x z (r * z .width) + z .width ≤ cells x
 unfolding regionCell
 row-cells x ok z p r h =
     let w : 1 ≤ z .width = omega (arith, p .width, p .least (last x) (omega (arith, ok .dimensions-least))) in
@@ -285,7 +285,7 @@ module _ (x : Nest) (z : Sending) where
   counting-upto count r g =
       omega (arith, g .is, found-upto x z (r * z .width) (z .rows * z .width) (mul-le-mul-right (z .width) (g .low)))
 
-  module _ (ok : Accepted x) (p : Shaped x z) (r : ℕ) (low : r < z .rows) (at : List ℕ) (n : ℕ) (starts ends : List ℕ)
+  module _ (ok : Accepted x) (p : BoxOfRows x z) (r : ℕ) (low : r < z .rows) (at : List ℕ) (n : ℕ) (starts ends : List ℕ)
       (f : RowRuns x z r at n starts ends) where
     abbrev cell : ℕ
     cell = cellIn x z (r * z .width)
@@ -339,16 +339,16 @@ module _ (x : Nest) (z : Sending) where
       pub unpacking-row : (memory₀ words memory : List ℕ) (count : ℕ) → Unpacking x z memory₀ words memory count r → count ≤ length words
           → (memory′ : List ℕ) (count′ : ℕ) → Unpacked starts ends n c (getD at (last x) 0) (z .width) memory words count memory′ count′
           → Unpacking x z memory₀ words memory′ count′ (r + 1)
-      unfolding part
+      unfolding sublist
       unpacking-row memory₀ words memory count g low memory′ count′ d =
           let d′ : Unpacked starts ends n cell (getD at (last x) 0) (z .width) memory words count memory′ count′ = rw is at d in
           record {
             counted = counted count (g .counted) count′ (d′ .count-is);
             is = d′ .is
-                ∙ ap (λ (l : List ℕ). unpack l (rowHits cell) (part words count (length (rowHits cell)))) (g .is)
-                ∙ sym (unpack-append memory₀ (shapedFound x z (r * z .width)) (rowHits cell) (take count words) (part words count (length (rowHits cell)))
+                ∙ ap (λ (l : List ℕ). unpack l (rowHits cell) (sublist words count (length (rowHits cell)))) (g .is)
+                ∙ sym (unpack-append memory₀ (shapedFound x z (r * z .width)) (rowHits cell) (take count words) (sublist words count (length (rowHits cell)))
                 (length-take-le count words low ∙ g .counted .is))
-                ∙ ap (λ (l : List ℕ). unpack memory₀ l (take count words ++ part words count (length (rowHits cell))))
+                ∙ ap (λ (l : List ℕ). unpack memory₀ l (take count words ++ sublist words count (length (rowHits cell))))
                 (sym (row-found x ok z p r at n starts ends f))
                 ∙ ap (unpack memory₀ (shapedFound x z ((r + 1) * z .width)))
                 (sym (take-add count (length (rowHits cell)) words) ∙ ap (λ (i : ℕ). take i words) (sym (d′ .count-is)));

@@ -23,7 +23,7 @@ use Rattle.layout.specs.Sizes.{along}
 use Rattle.layout.specs.Places.{nth, Has}
 use Rattle.layout.proofs.Steps.{ways-few}
 use Rattle.parcels.specs.declared.Sending.{Sending}
-use Rattle.parcels.specs.Sendings.{Headed, Shaped, Sends, cellIn}
+use Rattle.parcels.specs.Sendings.{Headed, BoxOfRows, Sends, cellIn}
 use Rattle.parcels.proofs.Rows.{size-few, row-number}
 use Rattle.runs.specs.Runs.{Room}
 use Rattle.parcels.specs.shaped.Parcels.{shapedFound, Near, Rows, RowRuns}
@@ -77,7 +77,7 @@ module _ (x : Nest) (ok : Accepted x) (q : Route) (direct : q ≡ Direct) (n t w
 
 -- ---- a row
 
-module _ (x : Nest) (ok : Accepted x) (z : Sending) (p : Shaped x z) (r : ℕ) (low : r < z .rows) (at : List ℕ) (n : ℕ) (starts ends : List ℕ)
+module _ (x : Nest) (ok : Accepted x) (z : Sending) (p : BoxOfRows x z) (r : ℕ) (low : r < z .rows) (at : List ℕ) (n : ℕ) (starts ends : List ℕ)
     (f : RowRuns x z r at n starts ends) where
   pub row-small : getD at (last x) 0 + z .width ≤ 1024
   row-small = omega (

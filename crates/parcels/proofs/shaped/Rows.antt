@@ -18,7 +18,7 @@ use Rattle.layout.proofs.CellRows.{fewer}
 use Rattle.layout.proofs.Loops.{Filled}
 use Rattle.parcels.specs.declared.Sending.{Sending}
 use Rattle.parcels.specs.Windows.{windowOf}
-use Rattle.parcels.specs.Sendings.{Shaped}
+use Rattle.parcels.specs.Sendings.{BoxOfRows}
 use Rattle.parcels.proofs.Rows.{block-countable, row-has}
 use Rattle.parcels.specs.shaped.Runs.{comesShaped, RunsAre}
 use Rattle.parcels.specs.shaped.Parcels.{Farthest, Near, RowRuns}
@@ -105,7 +105,7 @@ pub over-is : (low most from side a b o : ℕ) → a ≡ low - most → b ≡ a 
 over-is low most from side a b o ea eb eo =
     let e : o ≡ min (low - most - from) (side - 1) = eo ∙ rw (eb, ea) refl in (ap (λ (i : ℕ). from + i) e, ap (λ (i : ℕ). side - i) e)
 
-module _ (x : Nest) (ok : Accepted x) (z : Sending) (p : Shaped x z) (most : List ℕ) (f : Farthest x most) (corner lengths : List ℕ) (i : ℕ)
+module _ (x : Nest) (ok : Accepted x) (z : Sending) (p : BoxOfRows x z) (most : List ℕ) (f : Farthest x most) (corner lengths : List ℕ) (i : ℕ)
     (c : Filled 4 (corners z most) (x .dimensions) corner i) (l : Filled 4 (sides z most) (x .dimensions) lengths i) (h : x .dimensions ≤ i) where
   corner-is : (j : ℕ) → j < x .dimensions → getD corner j 0 ≡ corners z most j
   corner-is j o = c .each j (omega arith)
@@ -147,7 +147,8 @@ module _ (x : Nest) (ok : Accepted x) (z : Sending) (p : Shaped x z) (most : Lis
 
 -- ---- a row as the code has it
 
-pub row-runs : (x : Nest) (ok : Accepted x) (z : Sending) (p : Shaped x z) (r : ℕ) (at : List ℕ) → Placed (z .block .lengths) (z .block .corner) r (last x) at
+pub row-runs : (x : Nest) (ok : Accepted x) (z : Sending) (p : BoxOfRows x z) (r : ℕ) (at : List ℕ) → Placed (z .block .lengths) (z .block .corner) r (last x)
+    at
     → (place : List ℕ) (n : ℕ) (starts ends : List ℕ) → (place ≡ at) × RunsAre x (nth at) (comesShaped x (windowOf (z .window))) n starts ends
     → RowRuns x z r place n starts ends
 row-runs x ok z p r at g place n starts ends (e, f) = rw e (record { place = row-has x ok z p r at g; runs = f })

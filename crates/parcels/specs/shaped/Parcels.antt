@@ -13,7 +13,7 @@ use Rattle.plan.specs.Shaped.{shapedParcel}
 use Rattle.layout.specs.Places.{nth, Has}
 use Rattle.parcels.specs.declared.Sending.{Sending}
 use Rattle.parcels.specs.Windows.{windowOf}
-use Rattle.parcels.specs.Sendings.{Shaped, placeIn, cellIn}
+use Rattle.parcels.specs.Sendings.{BoxOfRows, placeIn, cellIn}
 use Rattle.parcels.specs.shaped.Runs.{comesShaped, RunsAre}
 
 -- of the first n cells of the box, those that some distance puts into the window, both in the shape
@@ -27,7 +27,7 @@ pub record Farthest (x : Nest) (most : List ℕ) : Type 0 where
 
 -- a smaller box with the same ends and window: it has every place of the box that a distance puts at or after the window's start
 pub record Near (x : Nest) (z y : Sending) : Type 0 where
-  pub shape : Shaped x y
+  pub shape : BoxOfRows x y
   pub window : y .window ≡ z .window
   pub from : (j : ℕ) → j < x .dimensions → getD (z .block .corner) j 0 ≤ getD (y .block .corner) j 0
   pub to : (j : ℕ) → j < x .dimensions
@@ -37,7 +37,7 @@ pub record Near (x : Nest) (z y : Sending) : Type 0 where
 
 -- rows that hold the cells of tile u of the box and direction v
 pub record Rows (x : Nest) (u v : ℕ) (z : Sending) : Type 0 where
-  pub shape : Shaped x z
+  pub shape : BoxOfRows x z
   pub ends : getD (z .window .high) (last x) 0 ≤ lengthOf x (last x)
   pub cells : shapedParcel x u v ≡ shapedFound x z (z .rows * z .width)
 

@@ -11,11 +11,11 @@ use Rattle.part.proofs.fill_ranks.Statement.{statement}
 use Rattle.part.proofs.fill_ranks.Tie as tie
 
 abbrev Inv-loop : tie.InvT-loop
-Inv-loop nest sizes lens b sides ranks₀ places₀ slots slot₀ number₀ offset₀ rank₀ at₀ ranks places slot number offset rank at =
-    pass.Past lens slots slot number offset × handling.Ranked (planOf (sizes .route) nest) b ranks places number offset rank at
+Inv-loop nest sizes lens b sides ranks₀ places₀ slots slot₀ number₀ offset₀ rank₀ at₀ ordinals starts slot number offset rank at =
+    pass.Past lens slots slot number offset × handling.Ranked (planOf (sizes .route) nest) b ordinals starts number offset rank at
 
 abbrev μ-loop : tie.MeasureT-loop
-μ-loop nest sizes lens b sides ranks₀ places₀ slots slot₀ number₀ offset₀ rank₀ at₀ ranks places slot number offset rank at = slots - slot
+μ-loop nest sizes lens b sides ranks₀ places₀ slots slot₀ number₀ offset₀ rank₀ at₀ ordinals starts slot number offset rank at = slots - slot
 
 -- the table's slots, once its tiles are counted
 abbrev start : tie.After-tiles-of Inv-loop μ-loop → tie.Start Inv-loop μ-loop
@@ -39,7 +39,7 @@ loop-holds : tie.Need-loop-holds Inv-loop μ-loop
 loop-holds c =
     let S = c .before .before .before in (
       pass.past-start (S .args .lens .now) (c .before .tiles-of .result * S .args .sizes .ways),
-      handling.rank-start (planOf (S .args .sizes .route) (S .args .nest)) (S .args .b) (S .args .ranks .now) (S .args .places .now) (S .pre .1 .0)
+      handling.rank-start (planOf (S .args .sizes .route) (S .args .nest)) (S .args .b) (S .args .ordinals .now) (S .args .starts .now) (S .pre .1 .0)
           (S .pre .1 .1),
     )
 
@@ -124,7 +124,7 @@ add-rank c =
       test,
       loop .inv .0 .few,
       table T .sheet .few,
-      handling.few (planOf (S .args .sizes .route) (S .args .nest)) (S .args .b) (loop .ranks) (loop .places) (loop .number) (loop .offset)
+      handling.few (planOf (S .args .sizes .route) (S .args .nest)) (S .args .b) (loop .ordinals) (loop .starts) (loop .number) (loop .offset)
           (loop .rank) (loop .at) (loop .inv .1),
       handling.at-most _ (c .handled-one .result) (c .handled-one .ensures),
     )
@@ -197,7 +197,7 @@ loop-again c =
       pass.past-next (S .args .sizes .route) (S .args .nest) (S .args .lens .now) _ (loop .slot) (loop .number) (loop .offset) (loop .inv .0) (table T)
           test (half-index .result) (half-index .ensures) (if1 .number)
           (⊎-elim (λ w. inl (w .0 .taken, w .3)) (λ w. inr (w .0 .left, w .1)) (if1 .came)),
-      handling.rank-turn (planOf (S .args .sizes .route) (S .args .nest)) (S .args .b) (loop .ranks) (loop .places) (loop .number) (loop .offset)
+      handling.rank-turn (planOf (S .args .sizes .route) (S .args .nest)) (S .args .b) (loop .ordinals) (loop .starts) (loop .number) (loop .offset)
           (loop .rank) (loop .at) (loop .inv .1)
           (half-index .result) (if1 .number) (if1 .rank) (if1 .at) (omega (arith, test, loop .inv .0 .few, table T .sheet .few))
           (⊎-elim (λ w. inl (w .2 .result, w .2 .ensures, here (w .0 .taken) .words, w .3, w .4, w .5)) (λ w. inr (w .1, w .2, w .3)) (if1 .came)),
@@ -234,7 +234,7 @@ returns c =
     let loop = c .before .loop in
     let all = pass.past-all (S .args .sizes .route) (S .args .nest) (S .args .lens .now) _ (loop .slot) (loop .number) (loop .offset) (loop .inv .0) (table T)
     (c .loop-test .left) in
-    λ m h. handling.told (planOf (S .args .sizes .route) (S .args .nest)) (S .args .b) (loop .ranks) (loop .places) (loop .number) (loop .offset)
+    λ m h. handling.told (planOf (S .args .sizes .route) (S .args .nest)) (S .args .b) (loop .ordinals) (loop .starts) (loop .number) (loop .offset)
     (loop .rank) (loop .at) (loop .inv .1)
     (omega (arith, loop .inv .0 .few, loop .inv .0 .low, table T .sheet .few)) m (omega (arith, h, all))
 

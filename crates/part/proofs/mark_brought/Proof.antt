@@ -9,8 +9,8 @@ use borrow.Author.Needs.{needs}
 use Rattle.part.proofs.mark_brought.Statement.{statement}
 use Rattle.part.proofs.mark_brought.Tie as tie
 
-takes-requires : tie.Need-takes-requires
-takes-requires c κs = search needs
+is-taker-requires : tie.Need-is-taker-requires
+is-taker-requires c κs = search needs
 
 sub-mark-held : tie.Need-sub-mark-held
 sub-mark-held c = search needs
@@ -36,11 +36,11 @@ returns c =
     let S = at-if .before .before .before .before in
     let x = S .args .nest in
     let z = S .args .sizes in
-    let takes = at-if .before .takes in
+    let is-taker = at-if .before .is-taker in
     let ends = chains.ends x z (S .pre .0 .0 .0 .accepted) (S .pre .0 .0 .1 .routed) (S .args .place .number) (S .args .place) (S .pre .0 .1) in
-    let taken = takes .ensures _ _ (chains.side-ends (z .route) x (S .args .b) _ _ (S .args .side) (S .pre .1 .0))
+    let taken = is-taker .ensures _ _ (chains.side-ends (z .route) x (S .args .b) _ _ (S .args .side) (S .pre .1 .0))
     ∙ ap (λ (i : ℕ). eqb i (S .args .b)) (sym (ends .1)) in
-    brings.brought (planOf (z .route) x) (S .args .b) (S .args .place .number) (takes .result) taken (S .args .marks .now) _ (at-if .if1 .taken)
+    brings.brought (planOf (z .route) x) (S .args .b) (S .args .place .number) (is-taker .result) taken (S .args .marks .now) _ (at-if .if1 .taken)
     (c .before .before .before .before .mark-held .ensures)
 
 returns-2 : tie.Need-returns-2
@@ -48,17 +48,17 @@ returns-2 c =
     let S = c .before .before .before .before in
     let x = S .args .nest in
     let z = S .args .sizes in
-    let takes = c .before .takes in
+    let is-taker = c .before .is-taker in
     let ends = chains.ends x z (S .pre .0 .0 .0 .accepted) (S .pre .0 .0 .1 .routed) (S .args .place .number) (S .args .place) (S .pre .0 .1) in
-    let taken = takes .ensures _ _ (chains.side-ends (z .route) x (S .args .b) _ _ (S .args .side) (S .pre .1 .0))
+    let taken = is-taker .ensures _ _ (chains.side-ends (z .route) x (S .args .b) _ _ (S .args .side) (S .pre .1 .0))
     ∙ ap (λ (i : ℕ). eqb i (S .args .b)) (sym (ends .1)) in
-    brings.elsewhere (planOf (z .route) x) (S .args .b) (S .args .place .number) (takes .result) taken (S .args .marks .now) _ (c .if1 .left)
+    brings.elsewhere (planOf (z .route) x) (S .args .b) (S .args .place .number) (is-taker .result) taken (S .args .marks .now) _ (c .if1 .left)
 
 pub mark-brought-spec : {M : Type 1} → statement M
 mark-brought-spec =
     tie.close
     (tie.spec
-    takes-requires
+    is-taker-requires
     sub-mark-held
     part-mark-held-start
     part-mark-held-end

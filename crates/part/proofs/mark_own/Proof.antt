@@ -8,14 +8,14 @@ use Rattle.nest.specs.Nest.{cells}
 use Rattle.nest.proofs.Shapes.{framed}
 use Rattle.plan.specs.Shaped.{planOf}
 use Rattle.layout.proofs.CellRows.{row-in}
-use Rattle.part.specs.Marking.{wide}
+use Rattle.part.specs.Marking.{rowCells}
 use Rattle.part.proofs.Rows as rows
 use Rattle.part.proofs.Owned as owned
 use Rattle.part.proofs.mark_own.Statement.{statement}
 use Rattle.part.proofs.mark_own.Tie as tie
 
 abbrev Inv-loop : tie.InvT-loop
-Inv-loop sizes b marks₀ nest width rows q₀ marks q = (q ≤ rows) × owned.OwnTo (planOf (sizes .route) nest) b marks (q * wide nest)
+Inv-loop sizes b marks₀ nest width rows q₀ marks q = (q ≤ rows) × owned.OwnTo (planOf (sizes .route) nest) b marks (q * rowCells nest)
 
 abbrev μ-loop : tie.MeasureT-loop
 μ-loop sizes b marks₀ nest width rows q₀ marks q = rows - q
@@ -28,14 +28,14 @@ end : (c : tie.After-rows-alike Inv-loop μ-loop) → c .before .before .loop .q
 end c = omega (arith, c .before .loop-test .taken, c .rows-alike .ensures .1)
 
 room : (c : tie.After-rows-alike Inv-loop μ-loop)
-    → (c .before .before .loop .q + c .rows-alike .result) * wide (start c .args .t1) ≤ cells (start c .args .t1)
-room c = omega (arith, mul-le-mul-right (wide (start c .args .t1)) (end c), c .before .before .before .row-count .ensures)
+    → (c .before .before .loop .q + c .rows-alike .result) * rowCells (start c .args .t1) ≤ cells (start c .args .t1)
+room c = omega (arith, mul-le-mul-right (rowCells (start c .args .t1)) (end c), c .before .before .before .row-count .ensures)
 
 inside : (c : tie.After-rows-alike Inv-loop μ-loop)
-    → c .before .before .loop .q * wide (start c .args .t1) + wide (start c .args .t1) ≤ cells (start c .args .t1)
+    → c .before .before .loop .q * rowCells (start c .args .t1) + rowCells (start c .args .t1) ≤ cells (start c .args .t1)
 inside c =
     let row-count = c .before .before .before .row-count in
-    omega (arith, row-in (wide (start c .args .t1)) (c .before .before .loop .q) (row-count .result) (c .before .loop-test .taken), row-count .ensures)
+    omega (arith, row-in (rowCells (start c .args .t1)) (c .before .before .loop .q) (row-count .result) (c .before .loop-test .taken), row-count .ensures)
 
 zero-bytes-requires : tie.Need-zero-bytes-requires Inv-loop μ-loop
 zero-bytes-requires c κs = tt
@@ -59,7 +59,7 @@ loop-holds c =
     let S = c .before .before .before .before .before .before .before in (
       omega arith,
       owned.own-start (planOf (S .args .sizes .route) (S .args .t1)) (S .args .b) _ _ (S .pre .1 .1 .1) (c .before .before .before .before .zero-bytes .ensures)
-          (wide (S .args .t1)),
+          (rowCells (S .args .t1)),
     )
 
 sub-rows-alike : tie.Need-sub-rows-alike Inv-loop μ-loop

@@ -4,13 +4,13 @@ use mathlib.Core.Path.{_≡_, _∙_, subst}
 use Prim.Native.Nat.{_-_, _*_, _≤_}
 use native.Mathlib.Nat.{mul-le-mul-right}
 use Rattle.layout.proofs.CellRows.{row-in}
-use Rattle.part.specs.Marking.{wide, Shown}
+use Rattle.part.specs.Marking.{rowCells, Shown}
 use Rattle.part.proofs.Rows as rows
 use Rattle.part.proofs.mark_rows.Statement.{statement}
 use Rattle.part.proofs.mark_rows.Tie as tie
 
 abbrev Inv-loop : tie.InvT-loop
-Inv-loop nest from to marks₀ q₀ marks q = ((from ≤ q) × (q ≤ to)) × Shown nest (from * wide nest) (q * wide nest) marks₀ marks
+Inv-loop nest from to marks₀ q₀ marks q = ((from ≤ q) × (q ≤ to)) × Shown nest (from * rowCells nest) (q * rowCells nest) marks₀ marks
 
 abbrev μ-loop : tie.MeasureT-loop
 μ-loop nest from to marks₀ q₀ marks q = to - q
@@ -23,7 +23,7 @@ mark-row-requires c κs =
     let S = c .before .before .before .before in
     let loop = c .before .before .loop in (
       (S .pre .0 .0, loop .inv .1 .long ∙ S .pre .0 .1),
-      omega (arith, row-in (wide (S .args .nest)) (loop .q) (S .args .to) (c .before .loop-test .taken), S .pre .1 .1),
+      omega (arith, row-in (rowCells (S .args .nest)) (loop .q) (S .args .to) (c .before .loop-test .taken), S .pre .1 .1),
     )
 
 add-q : tie.Need-add-q Inv-loop μ-loop
@@ -41,7 +41,7 @@ loop-again c =
     let test = c .before .before .before .before .loop-test .taken in (
       (omega (arith, loop .inv .0 .0), omega (arith, test)),
       rows.rows-next (S .args .nest) (S .args .from) (loop .q) (S .args .marks .now) (loop .marks) _
-          (mul-le-mul-right (wide (S .args .nest)) (loop .inv .0 .0)) (loop .inv .1) (c .before .before .mark-row .ensures),
+          (mul-le-mul-right (rowCells (S .args .nest)) (loop .inv .0 .0)) (loop .inv .1) (c .before .before .mark-row .ensures),
     )
 
 same-length : tie.Need-same-length Inv-loop μ-loop
@@ -52,7 +52,8 @@ returns c =
     let S = c .before .before .before in
     let loop = c .before .loop in
     let e : loop .q ≡ S .args .to = omega (arith, loop .inv .0 .1, c .loop-test .left) in
-    subst (λ i. Shown (S .args .nest) (S .args .from * wide (S .args .nest)) (i * wide (S .args .nest)) (S .args .marks .now) (loop .marks)) e (loop .inv .1)
+    subst (λ i. Shown (S .args .nest) (S .args .from * rowCells (S .args .nest)) (i * rowCells (S .args .nest)) (S .args .marks .now) (loop .marks)) e
+    (loop .inv .1)
 
 pub mark-rows-spec : {M : Type 1} → statement M
 mark-rows-spec =

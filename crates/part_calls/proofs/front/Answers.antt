@@ -11,7 +11,7 @@ use Rattle.base.proofs.Numbers.{Numbered, none-behind, first-behind}
 use Rattle.machine.specs.Plan.{Plan}
 use Rattle.machine.specs.Machine.{Answered, answered}
 use Rattle.plan.specs.Shaped.{planOf}
-use Rattle.layout.specs.Sizes.{routeOf}
+use Rattle.layout.specs.RouteWords.{routeOf}
 use Rattle.recipe.specs.Routes.{linesFor}
 use Rattle.recipe.proofs.Laws.{numbered-for}
 use Rattle.engine.specs.Calls.{answer, recipe}

@@ -20,11 +20,12 @@ use Rattle.nest.specs.declared.Nest.{Nest}
 use Rattle.nest.specs.Nest.{cells, processors}
 use Rattle.plan.specs.Shaped.{planOf}
 use Rattle.layout.specs.declared.Sizes.{Sizes}
-use Rattle.layout.specs.Sizes.{Sized, routeOf}
+use Rattle.layout.specs.Sizes.{Sized}
+use Rattle.layout.specs.RouteWords.{routeOf}
 use Rattle.recipe.specs.Routes.{linesFor}
 use Rattle.tables.specs.Tables.{Tabled}
 use Rattle.records.specs.declared.Flat.{Flat}
-use Rattle.records.specs.Records.{Carries}
+use Rattle.records.specs.Records.{Flattens}
 use Rattle.recipe.specs.Given.{WithSizes}
 use Rattle.recipe.proofs.Laws.{numbered-for}
 use Rattle.engine.specs.Calls.{recipe}
@@ -32,7 +33,7 @@ use Rattle.network.specs.Own.{ownCells, keptCells, handled}
 use Rattle.rank_index.specs.Ranks.{rankAt}
 use Rattle.rank_index.proofs.Ranks.{marks-long, rank-is}
 use Rattle.part.specs.Part.{wordsOf, rankOf, mailAt, partFits}
-use Rattle.part_calls.specs.front.Calls.{wide, boardLines, lengthsOf}
+use Rattle.part_calls.specs.front.Calls.{fromPart, boardLines, lengthsOf}
 use Rattle.part_calls.specs.declared.AreaLengths.{AreaLengths}
 use Rattle.recipe.specs.declared.Recipe.{Recipe}
 use Rattle.part_calls.specs.front.Given.{OpensFor, Known, unfitLines}
@@ -120,7 +121,7 @@ module _ (x : Nest) (z : Sizes) (b : ℕ) where
   pub known : (lens rank place : List ℕ) (n : ℕ) → Sized x z → Tabled x z lens → b < processors x → n ≡ count q → n ≤ 7168
       → ((m : ℕ) → m ≤ count q → (getD rank m 0 ≡ rankOf q b m) × (getD place m 0 ≡ mailAt q b m)) → Known x z b lens rank place
   known lens rank place n g t low e few h =
-      record { planned = (g, t); low = low; few = omega (arith, e, few); ranks = λ m k. h m k .0; places = λ m k. h m k .1 }
+      record { planned = (g, t); low = low; few = omega (arith, e, few); ordinals = λ m k. h m k .0; starts = λ m k. h m k .1 }
 
   -- marked cells: few enough, and before the last of them all
   module _ (g : Sized x z) (f : ℕ → Bool) where
@@ -142,10 +143,10 @@ module _ (x : Nest) (z : Sizes) (b : ℕ) where
     last-low = omega (arith, e, k .few)
 
     pub all-handled : getD rank n 0 ≡ length (handled q b)
-    all-handled = k .ranks n (omega (arith, e)) ∙ ap (rankOf q b) e
+    all-handled = k .ordinals n (omega (arith, e)) ∙ ap (rankOf q b) e
 
     pub all-mail : getD place n 0 ≡ wordsOf q (handled q b)
-    all-mail = k .places n (omega (arith, e)) ∙ ap (mailAt q b) e
+    all-mail = k .starts n (omega (arith, e)) ∙ ap (mailAt q b) e
 
     -- the four lengths
     pub sizes-are : (i : ℕ) → i ≡ length (ownCells q b) → (j : ℕ) → j ≡ length (keptCells q b)
@@ -203,21 +204,21 @@ module _ (p : Plan) (b : ℕ) (s : State) where
   pub unfit-9 : partFits p b s ≡ false → 9 ≡ firstOf (unfitLines p b s)
   unfit-9 e = sym (first-true 9 _ _ (not-false e))
 
-  pub unfit-10 : partFits p b s ≡ true → fit p (wide p b s) ≡ false → 10 ≡ firstOf (unfitLines p b s)
+  pub unfit-10 : partFits p b s ≡ true → fit p (fromPart p b s) ≡ false → 10 ≡ firstOf (unfitLines p b s)
   unfit-10 a e = sym (first-false 9 _ _ (not-true a) ∙ first-true 10 _ _ (not-false e))
 
-  pub unfit-0 : partFits p b s ≡ true → fit p (wide p b s) ≡ true → 0 ≡ firstOf (unfitLines p b s)
+  pub unfit-0 : partFits p b s ≡ true → fit p (fromPart p b s) ≡ true → 0 ≡ firstOf (unfitLines p b s)
   unfolding firstOf
-  unfit-0 a e = sym (first-false 9 _ (line 10 (not (fit p (wide p b s))) ∷ []) (not-true a) ∙ first-false 10 _ [] (not-true e))
+  unfit-0 a e = sym (first-false 9 _ (line 10 (not (fit p (fromPart p b s))) ∷ []) (not-true a) ∙ first-false 10 _ [] (not-true e))
 
-  pub unfit-none : (r : ℕ) → r ≡ firstOf (unfitLines p b s) → r ≡ 0 → (partFits p b s ≡ true) × (fit p (wide p b s) ≡ true)
+  pub unfit-none : (r : ℕ) → r ≡ firstOf (unfitLines p b s) → r ≡ 0 → (partFits p b s ≡ true) × (fit p (fromPart p b s) ≡ true)
   unfit-none r e z =
-      let a = none-first 9 (not (partFits p b s)) (line 10 (not (fit p (wide p b s))) ∷ []) (λ q. omega arith) (sym e ∙ z) in
-      let c = none-first 10 (not (fit p (wide p b s))) [] (λ q. omega arith) (a .1) in
+      let a = none-first 9 (not (partFits p b s)) (line 10 (not (fit p (fromPart p b s))) ∷ []) (λ q. omega arith) (sym e ∙ z) in
+      let c = none-first 10 (not (fit p (fromPart p b s))) [] (λ q. omega arith) (a .1) in
       (true-not (a .0), true-not (c .0))
 
 -- the three words of a record as a call reads them
-pub carried-word : (f : Flat) (l : List ℕ) → Carries f l → length l ≡ 3 → (i : ℕ) → i < 3 → getD (f .words) i 0 ≡ getD l i 0
+pub carried-word : (f : Flat) (l : List ℕ) → Flattens f l → length l ≡ 3 → (i : ℕ) → i < 3 → getD (f .words) i 0 ≡ getD l i 0
 carried-word f l k e i h =
     let n : i < length l = omega (arith, h, e) in
     sym (front-at (length l) (f .words) i n) ∙ ap (λ (z : List ℕ). getD z i 0) (k .kept (omega (arith, e)))
@@ -237,12 +238,12 @@ module _ (p : Plan) (b : ℕ) (low : b < p .processors) (m u l t : List ℕ) (r 
     pub three-words : (n : ℕ) → n ≡ length l → n ≡ 3
     three-words n e = e ∙ g .progress
 
-    module _ (f : Flat) (k : Carries f l) (v : Bool)
+    module _ (f : Flat) (k : Flattens f l) (v : Bool)
         (says : (w : State) → getD (f .words) 0 0 ≡ finishedOf w b → getD (f .words) 1 0 ≡ stageOf w b → getD (f .words) 2 0 ≡ sentOf w b
         → v ≡ fitRecord p w b) where
-      e : v ≡ fitRecord p (wide p b s) b
+      e : v ≡ fitRecord p (fromPart p b s) b
       e =
-          says (wide p b s) (carried-word f l k (g .progress) 0 (omega arith) ∙ sym (wide-finished p b s low g))
+          says (fromPart p b s) (carried-word f l k (g .progress) 0 (omega arith) ∙ sym (wide-finished p b s low g))
           (carried-word f l k (g .progress) 1 (omega arith) ∙ sym (wide-stage p b s low g))
           (carried-word f l k (g .progress) 2 (omega arith) ∙ sym (wide-sent p b s low g))
 

@@ -10,7 +10,7 @@ use native.Mathlib.Nat.{eq-or-lt-of-le, le-of-suc-le-suc}
 use lib.ListN.{length, getD, take, drop, set, length-append, length-drop, length-set, take-append-drop}
 use lib.Seq.{take-append-seam, drop-append-seam, length-take-le, getD-set-same, getD-set-other, ext-getD}
 use Rattle.base.specs.Tests.{_or_, keepIf, keep}
-use Rattle.base.specs.Lists.{In, Rising, part, put, setAll, allAt, unpack, pack}
+use Rattle.base.specs.Lists.{In, Rising, sublist, put, setAll, allAt, unpack, pack}
 use Rattle.base.proofs.Select.{in-append, keep-in, keep-lt, keep-at, at-keep}
 use Rattle.base.proofs.Lists.{AllBelow, part-length, length-put, pack-length}
 use Rattle.base.proofs.Entries.{pack-at, unpack-at}
@@ -88,25 +88,25 @@ module _ (f : ℕ → Bool) (n : ℕ) where
           ∙ sym (getD-set-other (pack l (keep f n)) (length (keep f m)) q v 0 z)
 
   -- the same of a list of kept places, whose ranks a table tells
-  pub ranks-set : (ranks : List ℕ) (v : ℕ) (ms l : List ℕ) → n ≤ length l
-      → ((m : ℕ) → In m ms → (m < n) × (f m ≡ true) × (getD ranks m 0 ≡ length (keep f m)))
-      → pack (setAll l ms v) (keep f n) ≡ setAll (pack l (keep f n)) (pack ranks ms) v
+  pub ranks-set : (ordinals : List ℕ) (v : ℕ) (ms l : List ℕ) → n ≤ length l
+      → ((m : ℕ) → In m ms → (m < n) × (f m ≡ true) × (getD ordinals m 0 ≡ length (keep f m)))
+      → pack (setAll l ms v) (keep f n) ≡ setAll (pack l (keep f n)) (pack ordinals ms) v
   unfolding setAll pack
-  ranks-set ranks v [] l long h = refl
-  ranks-set ranks v (m ∷ ms) l long h =
+  ranks-set ordinals v [] l long h = refl
+  ranks-set ordinals v (m ∷ ms) l long h =
       let k = h m (inl refl) in
-      ranks-set ranks v ms (set l m v) (rw (length-set l m v) long) (λ i j. h i (inr j))
-      ∙ ap (λ (z : List ℕ). setAll z (pack ranks ms) v) (rank-set l m v long (k .0) (k .1) ∙ ap (λ (r : ℕ). set (pack l (keep f n)) r v) (sym (k .2)))
+      ranks-set ordinals v ms (set l m v) (rw (length-set l m v) long) (λ i j. h i (inr j))
+      ∙ ap (λ (z : List ℕ). setAll z (pack ordinals ms) v) (rank-set l m v long (k .0) (k .1) ∙ ap (λ (r : ℕ). set (pack l (keep f n)) r v) (sym (k .2)))
 
-  pub ranks-all : (ranks l : List ℕ) (v : ℕ) (ms : List ℕ)
-      → ((m : ℕ) → In m ms → (m < n) × (f m ≡ true) × (getD ranks m 0 ≡ length (keep f m)))
-      → allAt (pack l (keep f n)) v (pack ranks ms) ≡ allAt l v ms
+  pub ranks-all : (ordinals l : List ℕ) (v : ℕ) (ms : List ℕ)
+      → ((m : ℕ) → In m ms → (m < n) × (f m ≡ true) × (getD ordinals m 0 ≡ length (keep f m)))
+      → allAt (pack l (keep f n)) v (pack ordinals ms) ≡ allAt l v ms
   unfolding allAt pack
-  ranks-all ranks l v [] h = refl
-  ranks-all ranks l v (m ∷ ms) h =
+  ranks-all ordinals l v [] h = refl
+  ranks-all ordinals l v (m ∷ ms) h =
       let k = h m (inl refl) in
       let a = ap (λ (r : ℕ). getD (pack l (keep f n)) r 0) (k .2) ∙ rank-at l m (k .0) (k .1) in
-      let b = ranks-all ranks l v ms (λ i j. h i (inr j)) in
+      let b = ranks-all ordinals l v ms (λ i j. h i (inr j)) in
       cc
 
 -- ---- the middle of three pieces
@@ -114,8 +114,8 @@ module _ (xs ys zs : List ℕ) (i : ℕ) (at : i ≡ length xs) where
   rest-there : drop i (xs ++ (ys ++ zs)) ≡ ys ++ zs
   rest-there = ap (λ (k : ℕ). drop k (xs ++ (ys ++ zs))) at ∙ drop-append-seam xs (ys ++ zs)
 
-  part-middle : (n : ℕ) → n ≡ length ys → part (xs ++ (ys ++ zs)) i n ≡ ys
-  unfolding part
+  part-middle : (n : ℕ) → n ≡ length ys → sublist (xs ++ (ys ++ zs)) i n ≡ ys
+  unfolding sublist
   part-middle n e = ap (take n) rest-there ∙ ap (λ (k : ℕ). take k (ys ++ zs)) e ∙ take-append-seam ys zs
 
   put-middle : (ws : List ℕ) → length ws ≡ length ys → put (xs ++ (ys ++ zs)) i ws ≡ xs ++ (ws ++ zs)
@@ -176,9 +176,9 @@ module _ (p : Plan) where
       begins : wordsOf p (keep f m) ≡ length (mailOf p x (keep f m))
       begins = sym (mail-long (keep f m) before-low)
 
-      pub mail-part : part (mailOf p x (keep f (count p))) (wordsOf p (keep f m)) (length (heldBy p m)) ≡ placeOf p x m
+      pub mail-part : sublist (mailOf p x (keep f (count p))) (wordsOf p (keep f m)) (length (heldBy p m)) ≡ placeOf p x m
       mail-part =
-          ap (λ (z : List ℕ). part z (wordsOf p (keep f m)) (length (heldBy p m))) (mail-cut x)
+          ap (λ (z : List ℕ). sublist z (wordsOf p (keep f m)) (length (heldBy p m))) (mail-cut x)
           ∙ part-middle (mailOf p x (keep f m)) (placeOf p x m) (mailOf p x behind) (wordsOf p (keep f m)) begins (length (heldBy p m)) (sym (place-long m lo))
 
       pub mail-put : (ws : List ℕ) → length ws ≡ length (heldBy p m)

@@ -16,7 +16,7 @@ use Rattle.plan.specs.Shaped.{planOf}
 use Rattle.plan.proofs.ShapedSound.{sound}
 use Rattle.layout.specs.declared.Sizes.{Sizes}
 use Rattle.layout.specs.Sizes.{Sized}
-use Rattle.tables.specs.declared.scans.Place.{Place}
+use Rattle.tables.specs.declared.scans.MessageSlot.{MessageSlot}
 use Rattle.tables.specs.Tables.{FoundIn}
 use Rattle.network.specs.Locality.{Keeps}
 use Rattle.network.specs.Own.{keeps, keptCells}
@@ -157,6 +157,6 @@ module _ (n : ℕ) (few : n ≤ 16384) where
     list-is = front-back n none ys list-room long n refl
 
 -- a found message has few enough words
-pub words-few : (x : Nest) (z : Sizes) → Sized x z → (m : ℕ) (r : Place) → FoundIn (z .route) x m r → r .words ≤ 16384
+pub words-few : (x : Nest) (z : Sizes) → Sized x z → (m : ℕ) (r : MessageSlot) → FoundIn (z .route) x m r → r .words ≤ 16384
 words-few x z g m r q =
     omega (arith, q .words, held-few (planOf (z .route) x) (sound (z .route) x (g .accepted)) m (q .low), g .accepted .cells-most)

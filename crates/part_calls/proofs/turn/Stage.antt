@@ -17,11 +17,11 @@ use Rattle.nest.specs.Shape.{tiles}
 use Rattle.plan.specs.Shaped.{planOf}
 use Rattle.plan.proofs.ShapedSound.{sound}
 use Rattle.layout.specs.declared.Sizes.{Sizes}
-use Rattle.tables.specs.declared.scans.Place.{Place}
+use Rattle.tables.specs.declared.scans.MessageSlot.{MessageSlot}
 use Rattle.tables.specs.Tables.{FoundIn}
 use Rattle.network.specs.Own.{handles, keptCells, handled}
 use Rattle.part.specs.Part.{wordsOf, allOf}
-use Rattle.part_calls.specs.front.Calls.{wide, narrow}
+use Rattle.part_calls.specs.front.Calls.{fromPart, toPart}
 use Rattle.part_calls.specs.front.Given.{PartLengths}
 use Rattle.part_calls.specs.turn.Step.{Lengths, Tables, Ranked, Placed, Keeping, unpackFrom, Stands}
 use Rattle.part_calls.proofs.front.Part.{words-room}
@@ -44,34 +44,34 @@ stands p l b t finished n f e h i k =
       few = omega (arith, f, h, e .1);
     }
 
-module _ (x : Nest) (z : Sizes) (b : ℕ) (lens kept counts ranks places : List ℕ) (t : Tables x z b lens kept counts ranks places) where
+module _ (x : Nest) (z : Sizes) (b : ℕ) (lens kept counts ordinals starts : List ℕ) (t : Tables x z b lens kept counts ordinals starts) where
   abbrev p : Plan
   p = planOf (z .route) x
 
   -- ---- the messages of one of its tiles
   module _ (m : ℕ) (lo : m < count p) (h : handles p b m ≡ true) where
-    pub rank-room : (marks : List ℕ) → length marks ≡ length (handled p b) → getD ranks m 0 < length marks
-    rank-room marks e = omega (arith, e, t .known .ranks m (omega (arith, lo)), keep-lt (handles p b) (count p) m lo h)
+    pub rank-room : (marks : List ℕ) → length marks ≡ length (handled p b) → getD ordinals m 0 < length marks
+    rank-room marks e = omega (arith, e, t .known .ordinals m (omega (arith, lo)), keep-lt (handles p b) (count p) m lo h)
 
-    pub place-room : (mail : List ℕ) → length mail ≡ wordsOf p (handled p b) → getD places m 0 + length (heldBy p m) ≤ length mail
-    place-room mail e = omega (arith, e, t .known .places m (omega (arith, lo)), words-room p (handles p b) m lo h)
+    pub place-room : (mail : List ℕ) → length mail ≡ wordsOf p (handled p b) → getD starts m 0 + length (heldBy p m) ≤ length mail
+    place-room mail e = omega (arith, e, t .known .starts m (omega (arith, lo)), words-room p (handles p b) m lo h)
 
   module _ (tile : ℕ) (mine : p .processorOf tile ≡ b) where
-    pub ranked : (marks : List ℕ) → length marks ≡ length (handled p b) → Ranked p ranks (duesOf p tile) (length marks)
+    pub ranked : (marks : List ℕ) → length marks ≡ length (handled p b) → Ranked p ordinals (duesOf p tile) (length marks)
     ranked marks e =
         record { few = t .known .few; low = λ m i. let k = dues-handled p b tile mine m i in rank-room m (k .0) (k .1) marks e }
 
-    pub placed : (mail : List ℕ) → length mail ≡ wordsOf p (handled p b) → Placed p places (duesOf p tile) (length mail)
+    pub placed : (mail : List ℕ) → length mail ≡ wordsOf p (handled p b) → Placed p starts (duesOf p tile) (length mail)
     placed mail e =
         record { few = t .known .few; low = λ m i. let k = dues-handled p b tile mine m i in place-room m (k .0) (k .1) mail e }
 
     -- a due message that was found
-    pub due-cells : (j : ℕ) (r : Place) → j < length (duesOf p tile) → FoundIn (z .route) x (getD (duesOf p tile) j 0) r → Keeping p b (r .number)
+    pub due-cells : (j : ℕ) (r : MessageSlot) → j < length (duesOf p tile) → FoundIn (z .route) x (getD (duesOf p tile) j 0) r → Keeping p b (r .number)
     due-cells j r l q =
         due-kept p (sound (z .route) x (t .known .planned .0 .accepted)) b tile mine (r .number) (rw (q .number) (at-in (duesOf p tile) j l))
 
     -- the message to be sent
-    module _ (n : ℕ) (r : Place) (few : n < length (sendsOf p tile)) (q : FoundIn (z .route) x (getD (sendsOf p tile) n 0) r) where
+    module _ (n : ℕ) (r : MessageSlot) (few : n < length (sendsOf p tile)) (q : FoundIn (z .route) x (getD (sendsOf p tile) n 0) r) where
       own-message : handles p b (r .number) ≡ true
       own-message =
           rw (q .number)
@@ -89,10 +89,10 @@ module _ (x : Nest) (z : Sizes) (b : ℕ) (lens kept counts ranks places : List 
       pub sent-low : r .number < 7169
       sent-low = omega (arith, t .known .few, q .number, q .low)
 
-      pub sent-rank : (marks : List ℕ) (rank : ℕ) → length marks ≡ length (handled p b) → rank ≡ getD ranks (r .number) 0 → rank < length marks
+      pub sent-rank : (marks : List ℕ) (rank : ℕ) → length marks ≡ length (handled p b) → rank ≡ getD ordinals (r .number) 0 → rank < length marks
       sent-rank marks rank e k = omega (arith, k, rank-room (r .number) number-below own-message marks e)
 
-      pub sent-room : (mail : List ℕ) (at : ℕ) → length mail ≡ wordsOf p (handled p b) → at ≡ getD places (r .number) 0 → at + r .words ≤ length mail
+      pub sent-room : (mail : List ℕ) (at : ℕ) → length mail ≡ wordsOf p (handled p b) → at ≡ getD starts (r .number) 0 → at + r .words ≤ length mail
       sent-room mail at e k =
           omega (
             arith,
@@ -107,30 +107,32 @@ module _ (x : Nest) (z : Sizes) (b : ℕ) (lens kept counts ranks places : List 
     lengths = record { memory = g .memory; mail = g .mail; progress = three; marks = g .marks }
 
     pub gather-leaves : (tile : ℕ) → p .processorOf tile ≡ b → (memory′ marks′ : List ℕ)
-        → memory′ ≡ pack (unpackFrom p places mail (allOf p b memory) (duesOf p tile)) (keptCells p b)
-        → marks′ ≡ setAll marks (pack ranks (duesOf p tile)) 3
+        → memory′ ≡ pack (unpackFrom p starts mail (allOf p b memory) (duesOf p tile)) (keptCells p b)
+        → marks′ ≡ setAll marks (pack ordinals (duesOf p tile)) 3
         → stateOf memory′ mail (setProgress l 0 finished 1 0) marks′
-        ≡ narrow p b (carryOut p [] (wide p b (stateOf memory mail l marks)) b (gather tile))
+        ≡ toPart p b (carryOut p [] (fromPart p b (stateOf memory mail l marks)) b (gather tile))
     gather-leaves tile mine memory′ marks′ w m =
-        after.gathered p b (stateOf memory mail l marks) (t .known .low) lengths ranks places (t .known .ranks) (t .known .places) tile mine memory′ marks′
+        after.gathered p b (stateOf memory mail l marks) (t .known .low) lengths ordinals starts (t .known .ordinals) (t .known .starts) tile mine memory′
+        marks′
         _ w m
         (ap (λ (k : ℕ). setProgress l 0 k 1 0) f)
 
     pub calculate-leaves : (tile n : ℕ) (source memory′ l′ : List ℕ)
         → memory′ ≡ pack (storeAll (p .value source) (allOf p b memory) (p .cellsOf tile)) (keptCells p b) → n ≡ length (sendsOf p tile)
         → l′ ≡ pick (ltb 0 n) (setProgress l 0 finished 2 0) (setProgress l 0 (finished + 1) 0 0)
-        → stateOf memory′ mail l′ marks ≡ narrow p b (carryOut p source (wide p b (stateOf memory mail l marks)) b (calculate tile))
+        → stateOf memory′ mail l′ marks ≡ toPart p b (carryOut p source (fromPart p b (stateOf memory mail l marks)) b (calculate tile))
     calculate-leaves tile n source memory′ l′ w e q =
         after.calculated p b (stateOf memory mail l marks) (t .known .low) lengths tile n source memory′ l′ w e
         (q ∙ ap (λ (k : ℕ). pick (ltb 0 n) (setProgress l 0 k 2 0) (setProgress l 0 (k + 1) 0 0)) f)
 
-    pub send-leaves : (tile : ℕ) → p .processorOf tile ≡ b → (sent n at rank : ℕ) (r : Place) (mail′ l′ : List ℕ) → sent < length (sendsOf p tile)
+    pub send-leaves : (tile : ℕ) → p .processorOf tile ≡ b → (sent n at rank : ℕ) (r : MessageSlot) (mail′ l′ : List ℕ) → sent < length (sendsOf p tile)
         → FoundIn (z .route) x (getD (sendsOf p tile) sent 0) r → sent ≡ getD l 2 0 → n ≡ length (sendsOf p tile)
-        → at ≡ getD places (r .number) 0 → rank ≡ getD ranks (r .number) 0 → mail′ ≡ put mail at (pack (allOf p b memory) (heldBy p (r .number)))
+        → at ≡ getD starts (r .number) 0 → rank ≡ getD ordinals (r .number) 0 → mail′ ≡ put mail at (pack (allOf p b memory) (heldBy p (r .number)))
         → l′ ≡ pick (ltb (sent + 1) n) (setProgress l 0 finished 2 (sent + 1)) (setProgress l 0 (finished + 1) 0 0)
         → stateOf memory mail′ l′ (set marks rank 1)
-        ≡ narrow p b (carryOut p [] (wide p b (stateOf memory mail l marks)) b (send (getD (sendsOf p tile) sent 0)))
+        ≡ toPart p b (carryOut p [] (fromPart p b (stateOf memory mail l marks)) b (send (getD (sendsOf p tile) sent 0)))
     send-leaves tile mine sent n at rank r mail′ l′ few q now e k y u w =
-        after.sent-off p b (stateOf memory mail l marks) (t .known .low) lengths ranks places (t .known .ranks) (t .known .places) tile mine (r .number) sent n
+        after.sent-off p b (stateOf memory mail l marks) (t .known .low) lengths ordinals starts (t .known .ordinals) (t .known .starts) tile mine (r .number)
+        sent n
         mail′ _ l′ few (q .number) now e (u ∙ ap (λ (i : ℕ). put mail i (pack (allOf p b memory) (heldBy p (r .number)))) k) (ap (λ (i : ℕ). set marks i 1) y)
         (w ∙ ap (λ (i : ℕ). pick (ltb (sent + 1) n) (setProgress l 0 i 2 (sent + 1)) (setProgress l 0 (i + 1) 0 0)) f)

@@ -20,7 +20,7 @@ use Rattle.engine.specs.Calls.{recipe}
 use Rattle.network.specs.Own.{keptCells, handled}
 use Rattle.rank_index.specs.Ranks.{Counted}
 use Rattle.part.specs.Part.{wordsOf, rankOf, mailAt, partFits}
-use Rattle.part_calls.specs.front.Calls.{wide, boardLines}
+use Rattle.part_calls.specs.front.Calls.{fromPart, boardLines}
 use Rattle.recipe.specs.declared.Recipe.{Recipe}
 
 -- the first lines of a call; where none is true, the recipe's nest, and the processor is one of its
@@ -36,8 +36,8 @@ pub record Known (x : Nest) (z : Sizes) (b : ℕ) (lens rank place : List ℕ) :
   pub planned : Planned x z lens
   pub low : b < processors x
   pub few : count (planOf (z .route) x) ≤ 7168
-  pub ranks : (m : ℕ) → m ≤ count (planOf (z .route) x) → getD rank m 0 ≡ rankOf (planOf (z .route) x) b m
-  pub places : (m : ℕ) → m ≤ count (planOf (z .route) x) → getD place m 0 ≡ mailAt (planOf (z .route) x) b m
+  pub ordinals : (m : ℕ) → m ≤ count (planOf (z .route) x) → getD rank m 0 ≡ rankOf (planOf (z .route) x) b m
+  pub starts : (m : ℕ) → m ≤ count (planOf (z .route) x) → getD place m 0 ≡ mailAt (planOf (z .route) x) b m
 
 -- the cells that pass a test, marked, and the counts by which their ranks are found
 pub record Cells (x : Nest) (f : ℕ → Bool) (marks counts : List ℕ) : Type 0 where
@@ -58,4 +58,4 @@ pub record PartLengths (p : Plan) (b : ℕ) (s : State) : Type 0 where
 
 -- lines 9 and 10 of a lent part
 abbrev pub unfitLines : Plan → ℕ → State → List Line
-unfitLines p b s = line 9 (not (partFits p b s)) ∷ line 10 (not (fit p (wide p b s))) ∷ []
+unfitLines p b s = line 9 (not (partFits p b s)) ∷ line 10 (not (fit p (fromPart p b s))) ∷ []

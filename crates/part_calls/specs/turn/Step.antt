@@ -8,7 +8,7 @@ use mathlib.Core.List.{List, [], _∷_}
 use lib.ListN.{length, getD}
 use lib.Dec.{eqb}
 use Rattle.base.specs.Tests.{_and_, not}
-use Rattle.base.specs.Lists.{In, part, unpack}
+use Rattle.base.specs.Lists.{In, sublist, unpack}
 use Rattle.base.specs.Numbers.{line, firstOf}
 use Rattle.machine.specs.Plan.{Plan, count, heldBy, tilesOf}
 use Rattle.machine.specs.Machine.{State, fit, Answered, answered, turnLines}
@@ -18,7 +18,7 @@ use Rattle.plan.specs.Shaped.{planOf}
 use Rattle.layout.specs.declared.Sizes.{Sizes}
 use Rattle.network.specs.Own.{keeps, ownCells, keptCells, handled}
 use Rattle.part.specs.Part.{wordsOf, partFits}
-use Rattle.part_calls.specs.front.Calls.{wide, narrow, stepped}
+use Rattle.part_calls.specs.front.Calls.{fromPart, toPart, stepped}
 use Rattle.part_calls.specs.front.Given.{Known, Cells, PartLengths}
 
 -- each lent area of processor b has exactly its length, but for the record
@@ -33,13 +33,13 @@ pub record Tables (x : Nest) (z : Sizes) (b : ℕ) (lens kept counts rank place 
   pub cells : Cells x (keeps (planOf (z .route) x) b) kept counts
 
 -- the marks of these messages are among n, their words among n words
-pub record Ranked (p : Plan) (ranks ms : List ℕ) (n : ℕ) : Type 0 where
+pub record Ranked (p : Plan) (ordinals ms : List ℕ) (n : ℕ) : Type 0 where
   pub few : count p ≤ 7168
-  pub low : (m : ℕ) → In m ms → getD ranks m 0 < n
+  pub low : (m : ℕ) → In m ms → getD ordinals m 0 < n
 
-pub record Placed (p : Plan) (places ms : List ℕ) (n : ℕ) : Type 0 where
+pub record Placed (p : Plan) (starts ms : List ℕ) (n : ℕ) : Type 0 where
   pub few : count p ≤ 7168
-  pub low : (m : ℕ) → In m ms → getD places m 0 + length (heldBy p m) ≤ n
+  pub low : (m : ℕ) → In m ms → getD starts m 0 + length (heldBy p m) ≤ n
 
 -- processor b keeps words of all cells of message m
 abbrev pub Keeping : Plan → ℕ → ℕ → Type 0
@@ -47,9 +47,9 @@ Keeping p b m = (c : ℕ) → In c (heldBy p m) → keeps p b c ≡ true
 
 -- the words of these messages out of a mail, where their places are told, into a memory
 unfoldable pub unpackFrom : Plan → List ℕ → List ℕ → List ℕ → List ℕ → List ℕ
-unpackFrom p places mail memory [] = memory
-unpackFrom p places mail memory (m ∷ ms) =
-    unpackFrom p places mail (unpack memory (heldBy p m) (part mail (getD places m 0) (length (heldBy p m)))) ms
+unpackFrom p starts mail memory [] = memory
+unpackFrom p starts mail memory (m ∷ ms) =
+    unpackFrom p starts mail (unpack memory (heldBy p m) (sublist mail (getD starts m 0) (length (heldBy p m)))) ms
 
 -- by its record, of which l are the words, processor b has tiles left and stands at tile t
 pub record Stands (p : Plan) (l : List ℕ) (b t : ℕ) : Type 0 where
@@ -62,15 +62,15 @@ pub record Stands (p : Plan) (l : List ℕ) (b t : ℕ) : Type 0 where
 pub record MayStep (p : Plan) (source : List ℕ) (s : State) (b : ℕ) : Type 0 where
   pub own : length source ≡ length (ownCells p b)
   pub lengths : PartLengths p b s
-  pub fit : fit p (wide p b s) ≡ true
+  pub fit : fit p (fromPart p b s) ≡ true
   pub processor : b < p .processors
 
 -- past the lines before it: the machine's number, and the part after the turn; and with line 9
 abbrev pub steppedOr : Plan → List ℕ → State → ℕ → Answered State
-steppedOr p source s b = answered (firstOf (turnLines p (wide p b s) b)) (narrow p b (stepped p b source s)) s
+steppedOr p source s b = answered (firstOf (turnLines p (fromPart p b s) b)) (toPart p b (stepped p b source s)) s
 
 abbrev pub turnedOr : Plan → List ℕ → State → ℕ → Answered State
 turnedOr p source s b =
     answered
-    (firstOf (line 9 (not (eqb (length source) (length (ownCells p b)) and partFits p b s)) ∷ turnLines p (wide p b s) b))
-    (narrow p b (stepped p b source s)) s
+    (firstOf (line 9 (not (eqb (length source) (length (ownCells p b)) and partFits p b s)) ∷ turnLines p (fromPart p b s) b))
+    (toPart p b (stepped p b source s)) s

@@ -4,7 +4,7 @@ ghost use mathlib.Core.Path.{_≡_};
 ghost use mathlib.Core.List.{List, []};
 ghost use Prim.Native.Nat.{ℕ, _+_, _≤_, _<_};
 ghost use lib.ListN.{length, getD};
-ghost use Rattle.base.specs.Lists.{part, put, setAll, allAt, unpack, pack, storeAll};
+ghost use Rattle.base.specs.Lists.{sublist, put, setAll, allAt, unpack, pack, storeAll};
 ghost use Rattle.machine.specs.Plan.{heldBy, sendsOf, duesOf};
 ghost use Rattle.machine.specs.Machine.{stateOf, carryOut, gather, calculate, send};
 ghost use Rattle.nest.specs.Nest.{processors};
@@ -13,22 +13,26 @@ ghost use Rattle.tables.specs.Tables.{FoundIn, Planned};
 ghost use Rattle.stages.specs.Progress.{setRecord};
 ghost use Rattle.network.specs.Own.{keeps, ownCells, keptCells, sourceOf};
 ghost use Rattle.part.specs.Part.{allOf};
-ghost use Rattle.part_calls.specs.front.Calls.{wide, narrow};
+ghost use Rattle.part_calls.specs.front.Calls.{fromPart, toPart};
 ghost use Rattle.part_calls.specs.front.Given.{Cells};
 ghost use Rattle.part_calls.specs.turn.Step.{Lengths, Tables, Ranked, Keeping, unpackFrom};
 use crate::front::own_cells;
 use base::word_index;
 use layout::Sizes;
+use nest::MOST_CELLS;
 use nest::Nest;
+use part::MESSAGE_ENDS;
 use part::give;
-use part::marks::gathered;
+use part::sides::gathered;
 use part::take;
+use rank_index::BLOCKS;
 use records::Progress;
 use stages::next_record;
+use tables::TABLE_WORDS;
 use tables::count_at;
-use tables::held::cells_of;
+use tables::message_cells::cells_of;
 use tables::nth_at;
-use tables::scans::Place;
+use tables::scans::MessageSlot;
 
 // ---- messages by the two tables
 
@@ -36,21 +40,21 @@ use tables::scans::Place;
 pub fn ready(
     nest: Nest,
     sizes: Sizes,
-    lens: &[u16; 9217],
-    ranks: &[u32; 7169],
+    lens: &[u16; TABLE_WORDS],
+    ordinals: &[u32; MESSAGE_ENDS],
     marks: &[u8],
     tile: usize,
 ) -> bool
     requires { ⌜ Planned nest sizes (now lens) × (tile < planOf (sizes .route) nest .tiles) ⌝ }
-    requires { ⌜ Ranked (planOf (sizes .route) nest) (now ranks) (duesOf (planOf (sizes .route) nest) tile) (length (now marks)) ⌝ }
-    ensures { λ r. ⌜ r ≡ allAt (now (marks .entry)) 2 (pack (now (ranks .entry)) (duesOf (planOf (sizes .route) nest) tile)) ⌝ }
+    requires { ⌜ Ranked (planOf (sizes .route) nest) (now ordinals) (duesOf (planOf (sizes .route) nest) tile) (length (now marks)) ⌝ }
+    ensures { λ r. ⌜ r ≡ allAt (now (marks .entry)) 2 (pack (now (ordinals .entry)) (duesOf (planOf (sizes .route) nest) tile)) ⌝ }
 {
     let n = count_at(nest, sizes, lens, tile, 1);
     let mut j = 0;
     while j < n {
         let place = nth_at(nest, sizes, lens, tile, 1, j);
         let number = place.number;
-        let rank = word_index(ranks[number]);
+        let rank = word_index(ordinals[number]);
         if marks[rank] != 2 {
             return false;
         }
@@ -63,10 +67,10 @@ pub fn ready(
 fn take_from(
     nest: Nest,
     sizes: Sizes,
-    lens: &[u16; 9217],
+    lens: &[u16; TABLE_WORDS],
     kept: &[u8],
-    counts: &[u32; 257],
-    place: Place,
+    counts: &[u32; BLOCKS],
+    place: MessageSlot,
     at: usize,
     memory: &mut [u32],
     mail: &[u32],
@@ -77,11 +81,11 @@ fn take_from(
     requires { ⌜ (length (now memory) ≡ length (keptCells (planOf (sizes .route) nest) b)) × (at + place .words ≤ length (now mail)) ⌝ }
     ensures { λ _. ⌜ now (memory .exit)
         ≡ pack (unpack (allOf (planOf (sizes .route) nest) b (now (memory .entry))) (heldBy (planOf (sizes .route) nest) (place .number))
-        (part (now (mail .entry)) at (place .words))) (keptCells (planOf (sizes .route) nest) b) ⌝ }
+        (sublist (now (mail .entry)) at (place .words))) (keptCells (planOf (sizes .route) nest) b) ⌝ }
 {
     let words = place.words;
     let end = at + words;
-    let mut cells = [0u16; 16384];
+    let mut cells = [0u16; MOST_CELLS];
     cells_of(nest, sizes, lens, place, &mut cells[..words]);
     take(kept, counts, &cells[..words], memory, &mail[at..end]);
 }
@@ -90,33 +94,33 @@ fn take_from(
 fn gather(
     nest: Nest,
     sizes: Sizes,
-    lens: &[u16; 9217],
+    lens: &[u16; TABLE_WORDS],
     kept: &[u8],
-    counts: &[u32; 257],
-    ranks: &[u32; 7169],
-    places: &[u32; 7169],
+    counts: &[u32; BLOCKS],
+    ordinals: &[u32; MESSAGE_ENDS],
+    starts: &[u32; MESSAGE_ENDS],
     memory: &mut [u32],
     mail: &[u32],
     marks: &mut [u8],
     b: usize,
     tile: usize,
 )
-    requires { ⌜ Tables nest sizes b (now lens) (now kept) (now counts) (now ranks) (now places)
+    requires { ⌜ Tables nest sizes b (now lens) (now kept) (now counts) (now ordinals) (now starts)
         × Lengths (planOf (sizes .route) nest) b (now memory) (now mail) (now marks) ⌝ }
     requires { ⌜ (tile < planOf (sizes .route) nest .tiles) × (planOf (sizes .route) nest .processorOf tile ≡ b) ⌝ }
     ensures { λ _. ⌜ (now (memory .exit)
-        ≡ pack (unpackFrom (planOf (sizes .route) nest) (now (places .entry)) (now (mail .entry))
+        ≡ pack (unpackFrom (planOf (sizes .route) nest) (now (starts .entry)) (now (mail .entry))
         (allOf (planOf (sizes .route) nest) b (now (memory .entry))) (duesOf (planOf (sizes .route) nest) tile)) (keptCells (planOf (sizes .route) nest) b))
-        × (now (marks .exit) ≡ setAll (now (marks .entry)) (pack (now (ranks .entry)) (duesOf (planOf (sizes .route) nest) tile)) 3) ⌝ }
+        × (now (marks .exit) ≡ setAll (now (marks .entry)) (pack (now (ordinals .entry)) (duesOf (planOf (sizes .route) nest) tile)) 3) ⌝ }
 {
     let n = count_at(nest, sizes, lens, tile, 1);
     let mut j = 0;
     while j < n {
         let place = nth_at(nest, sizes, lens, tile, 1, j);
         let number = place.number;
-        let at = word_index(places[number]);
+        let at = word_index(starts[number]);
         take_from(nest, sizes, lens, kept, counts, place, at, memory, mail, b);
-        let rank = word_index(ranks[number]);
+        let rank = word_index(ordinals[number]);
         gathered(marks, rank);
         j += 1;
     }
@@ -126,10 +130,10 @@ fn gather(
 fn put_in(
     nest: Nest,
     sizes: Sizes,
-    lens: &[u16; 9217],
+    lens: &[u16; TABLE_WORDS],
     kept: &[u8],
-    counts: &[u32; 257],
-    place: Place,
+    counts: &[u32; BLOCKS],
+    place: MessageSlot,
     at: usize,
     memory: &[u32],
     mail: &mut [u32],
@@ -144,7 +148,7 @@ fn put_in(
 {
     let words = place.words;
     let end = at + words;
-    let mut cells = [0u16; 16384];
+    let mut cells = [0u16; MOST_CELLS];
     cells_of(nest, sizes, lens, place, &mut cells[..words]);
     give(kept, counts, &cells[..words], memory, &mut mail[at..end]);
 }
@@ -155,11 +159,11 @@ fn put_in(
 pub fn gather_stage(
     nest: Nest,
     sizes: Sizes,
-    lens: &[u16; 9217],
+    lens: &[u16; TABLE_WORDS],
     kept: &[u8],
-    counts: &[u32; 257],
-    ranks: &[u32; 7169],
-    places: &[u32; 7169],
+    counts: &[u32; BLOCKS],
+    ordinals: &[u32; MESSAGE_ENDS],
+    starts: &[u32; MESSAGE_ENDS],
     memory: &mut [u32],
     mail: &[u32],
     marks: &mut [u8],
@@ -167,13 +171,13 @@ pub fn gather_stage(
     tile: usize,
     finished: u32,
 ) -> Progress
-    requires { ⌜ Tables nest sizes b (now lens) (now kept) (now counts) (now ranks) (now places)
+    requires { ⌜ Tables nest sizes b (now lens) (now kept) (now counts) (now ordinals) (now starts)
         × Lengths (planOf (sizes .route) nest) b (now memory) (now mail) (now marks) ⌝ }
     requires { ⌜ (tile < planOf (sizes .route) nest .tiles) × (planOf (sizes .route) nest .processorOf tile ≡ b) ⌝ }
     ensures { λ r. ⌜ ((l : List ℕ) → length l ≡ 3 → finished ≡ getD l 0 0
         → stateOf (now (memory .exit)) (now (mail .entry)) (setRecord l 0 r) (now (marks .exit))
-        ≡ narrow (planOf (sizes .route) nest) b (carryOut (planOf (sizes .route) nest) []
-        (wide (planOf (sizes .route) nest) b (stateOf (now (memory .entry)) (now (mail .entry)) l (now (marks .entry)))) b (gather tile))) ⌝ }
+        ≡ toPart (planOf (sizes .route) nest) b (carryOut (planOf (sizes .route) nest) []
+        (fromPart (planOf (sizes .route) nest) b (stateOf (now (memory .entry)) (now (mail .entry)) l (now (marks .entry)))) b (gather tile))) ⌝ }
 {
     gather(
         nest,
@@ -181,8 +185,8 @@ pub fn gather_stage(
         lens,
         kept,
         counts,
-        ranks,
-        places,
+        ordinals,
+        starts,
         memory,
         mail,
         marks,
@@ -200,9 +204,9 @@ pub fn gather_stage(
 fn calculate_own(
     nest: Nest,
     sizes: Sizes,
-    lens: &[u16; 9217],
+    lens: &[u16; TABLE_WORDS],
     kept: &[u8],
-    counts: &[u32; 257],
+    counts: &[u32; BLOCKS],
     source: &[u32],
     memory: &mut [u32],
     b: usize,
@@ -218,8 +222,8 @@ fn calculate_own(
         (keptCells (planOf (sizes .route) nest) b) ⌝ }
 {
     let cells = sizes.cells;
-    let mut owned = [0u8; 16384];
-    let mut tally = [0u32; 257];
+    let mut owned = [0u8; MOST_CELLS];
+    let mut tally = [0u32; BLOCKS];
     own_cells(nest, sizes, b, &mut owned[..cells], &mut tally);
     crate::tile::calculate(
         nest,
@@ -240,25 +244,25 @@ fn calculate_own(
 pub fn calculate_stage(
     nest: Nest,
     sizes: Sizes,
-    lens: &[u16; 9217],
+    lens: &[u16; TABLE_WORDS],
     kept: &[u8],
-    counts: &[u32; 257],
-    ranks: &[u32; 7169],
-    places: &[u32; 7169],
+    counts: &[u32; BLOCKS],
+    ordinals: &[u32; MESSAGE_ENDS],
+    starts: &[u32; MESSAGE_ENDS],
     source: &[u32],
     memory: &mut [u32],
     b: usize,
     tile: usize,
     finished: u32,
 ) -> Progress
-    requires { ⌜ Tables nest sizes b (now lens) (now kept) (now counts) (now ranks) (now places)
+    requires { ⌜ Tables nest sizes b (now lens) (now kept) (now counts) (now ordinals) (now starts)
         × (length (now memory) ≡ length (keptCells (planOf (sizes .route) nest) b)) ⌝ }
     requires { ⌜ (tile < planOf (sizes .route) nest .tiles) × ((planOf (sizes .route) nest .processorOf tile ≡ b) × (finished < 16384)) ⌝ }
     requires { ⌜ length (now source) ≡ length (ownCells (planOf (sizes .route) nest) b) ⌝ }
     ensures { λ r. ⌜ ((mail l marks : List ℕ) → Lengths (planOf (sizes .route) nest) b (now (memory .entry)) mail marks → length l ≡ 3 → finished ≡ getD l 0 0
         → stateOf (now (memory .exit)) mail (setRecord l 0 r) marks
-        ≡ narrow (planOf (sizes .route) nest) b (carryOut (planOf (sizes .route) nest) (sourceOf (planOf (sizes .route) nest) b (now (source .entry)))
-        (wide (planOf (sizes .route) nest) b (stateOf (now (memory .entry)) mail l marks)) b (calculate tile))) ⌝ }
+        ≡ toPart (planOf (sizes .route) nest) b (carryOut (planOf (sizes .route) nest) (sourceOf (planOf (sizes .route) nest) b (now (source .entry)))
+        (fromPart (planOf (sizes .route) nest) b (stateOf (now (memory .entry)) mail l marks)) b (calculate tile))) ⌝ }
 {
     calculate_own(nest, sizes, lens, kept, counts, source, memory, b, tile);
     let n = count_at(nest, sizes, lens, tile, 0);
@@ -269,11 +273,11 @@ pub fn calculate_stage(
 pub fn send_stage(
     nest: Nest,
     sizes: Sizes,
-    lens: &[u16; 9217],
+    lens: &[u16; TABLE_WORDS],
     kept: &[u8],
-    counts: &[u32; 257],
-    ranks: &[u32; 7169],
-    places: &[u32; 7169],
+    counts: &[u32; BLOCKS],
+    ordinals: &[u32; MESSAGE_ENDS],
+    starts: &[u32; MESSAGE_ENDS],
     memory: &[u32],
     mail: &mut [u32],
     marks: &mut [u8],
@@ -282,21 +286,21 @@ pub fn send_stage(
     finished: u32,
     sent: usize,
 ) -> Progress
-    requires { ⌜ Tables nest sizes b (now lens) (now kept) (now counts) (now ranks) (now places)
+    requires { ⌜ Tables nest sizes b (now lens) (now kept) (now counts) (now ordinals) (now starts)
         × Lengths (planOf (sizes .route) nest) b (now memory) (now mail) (now marks) ⌝ }
     requires { ⌜ (tile < planOf (sizes .route) nest .tiles) × (planOf (sizes .route) nest .processorOf tile ≡ b) ⌝ }
     requires { ⌜ (finished < 16384) × (sent < length (sendsOf (planOf (sizes .route) nest) tile)) ⌝ }
     ensures { λ r. ⌜ ((l : List ℕ) → length l ≡ 3 → finished ≡ getD l 0 0 → sent ≡ getD l 2 0
         → stateOf (now (memory .entry)) (now (mail .exit)) (setRecord l 0 r) (now (marks .exit))
-        ≡ narrow (planOf (sizes .route) nest) b (carryOut (planOf (sizes .route) nest) []
-        (wide (planOf (sizes .route) nest) b (stateOf (now (memory .entry)) (now (mail .entry)) l (now (marks .entry)))) b
+        ≡ toPart (planOf (sizes .route) nest) b (carryOut (planOf (sizes .route) nest) []
+        (fromPart (planOf (sizes .route) nest) b (stateOf (now (memory .entry)) (now (mail .entry)) l (now (marks .entry)))) b
         (send (getD (sendsOf (planOf (sizes .route) nest) tile) sent 0)))) ⌝ }
 {
     let place = nth_at(nest, sizes, lens, tile, 0, sent);
     let number = place.number;
-    let at = word_index(places[number]);
+    let at = word_index(starts[number]);
     put_in(nest, sizes, lens, kept, counts, place, at, memory, mail, b);
-    let rank = word_index(ranks[number]);
+    let rank = word_index(ordinals[number]);
     marks[rank] = 1;
     let n = count_at(nest, sizes, lens, tile, 0);
     next_record(finished, sent + 1, n)

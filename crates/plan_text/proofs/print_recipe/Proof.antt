@@ -1,6 +1,6 @@
 -- `plan_text::print_recipe` meets its contract: word 0 names the direct route.
 use borrow.Author.Needs.{needs}
-use Rattle.layout.specs.Sizes.{routeOf}
+use Rattle.layout.specs.RouteWords.{routeOf}
 use Rattle.plan_text.proofs.print_recipe.Statement.{statement}
 use Rattle.plan_text.proofs.print_recipe.Tie as tie
 

@@ -4,7 +4,7 @@ use Rattle.text.specs.Writing.{pen}
 use native.Mathlib.Omega.{arith}
 use mathlib.Core.Path.{refl, ap}
 use Rattle.plan.specs.Shaped.{planOf}
-use Rattle.layout.specs.Sizes.{routeOf}
+use Rattle.layout.specs.RouteWords.{routeOf}
 use Rattle.summary.specs.declared.Figures.{Figures}
 use borrow.Author.Needs.{needs}
 use Rattle.plan_text.proofs.put_recipe.Statement.{statement}

@@ -7,13 +7,13 @@ use borrow.Author.Needs.{needs}
 use Rattle.base.specs.Tests.{some}
 use Rattle.base.proofs.Tests.{some-one}
 use Rattle.nest.specs.Nest.{lengthOf}
-use Rattle.nest.specs.Reader.{outside, badLength}
+use Rattle.nest.specs.Reader.{noLength, badLength}
 use Rattle.nest.proofs.Laws as L
 use Rattle.reader.proofs.bad_length.Statement.{statement}
 use Rattle.reader.proofs.bad_length.Tie as tie
 
 abbrev Inv-loop : tie.InvT-loop
-Inv-loop nest n j₀ j = (j ≤ n) × (some (λ i. outside (lengthOf nest i)) j ≡ false)
+Inv-loop nest n j₀ j = (j ≤ n) × (some (λ i. noLength (lengthOf nest i)) j ≡ false)
 
 abbrev μ-loop : tie.MeasureT-loop
 μ-loop nest n j₀ j = n - j
@@ -21,21 +21,21 @@ abbrev μ-loop : tie.MeasureT-loop
 loop-holds : tie.Need-loop-holds Inv-loop μ-loop
 loop-holds c = (omega arith, L.some-start _)
 
-mul-outside : tie.Need-mul-outside Inv-loop μ-loop
-mul-outside c = search needs
+mul-no-length : tie.Need-mul-no-length Inv-loop μ-loop
+mul-no-length c = search needs
 
-element-copy-out-outside : tie.Need-element-copy-out-outside Inv-loop μ-loop
-element-copy-out-outside c = search needs
+element-copy-out-no-length : tie.Need-element-copy-out-no-length Inv-loop μ-loop
+element-copy-out-no-length c = search needs
 
-outside-requires : tie.Need-outside-requires Inv-loop μ-loop
-outside-requires c κs = search needs
+no-length-requires : tie.Need-no-length-requires Inv-loop μ-loop
+no-length-requires c κs = search needs
 
 returns : tie.Need-returns Inv-loop μ-loop
 unfolding badLength
 returns c =
     let at-loop-test = c .before .before .before in
     let at-loop = at-loop-test .before in
-    sym (some-one _ _ (at-loop .loop .j) (at-loop-test .loop-test .taken) (sym (c .before .outside .ensures) ∙ c .if1 .taken))
+    sym (some-one _ _ (at-loop .loop .j) (at-loop-test .loop-test .taken) (sym (c .before .no-length .ensures) ∙ c .if1 .taken))
 
 add-j : tie.Need-add-j Inv-loop μ-loop
 add-j c = search needs
@@ -44,7 +44,7 @@ loop-less : tie.Need-loop-less Inv-loop μ-loop
 loop-less c = search needs
 
 loop-again : tie.Need-loop-again Inv-loop μ-loop
-loop-again c = (omega arith, L.some-step _ _ (c .before .before .before .before .loop .inv .1) (sym (c .before .outside .ensures) ∙ c .if1 .left))
+loop-again c = (omega arith, L.some-step _ _ (c .before .before .before .before .loop .inv .1) (sym (c .before .no-length .ensures) ∙ c .if1 .left))
 
 returns-2 : tie.Need-returns-2 Inv-loop μ-loop
 unfolding badLength
@@ -57,9 +57,9 @@ bad-length-spec =
     Inv-loop
     μ-loop
     loop-holds
-    mul-outside
-    element-copy-out-outside
-    outside-requires
+    mul-no-length
+    element-copy-out-no-length
+    no-length-requires
     returns
     add-j
     loop-less

@@ -51,7 +51,7 @@ use denote.Triple.Clauses.{ensured, lasts}
 use denote.Triple.Table.{entered, cited}
 use denote.Triple.Walked.{says, Stays, stay-none-slice, walkOf, goes-none-slice, Walks, ends-at, walked, walk-meets}
 use denote.Exit.{yes}
-use Rattle.records.specs.Records.{flatWords, Carries, zeros, blank, withRecord}
+use Rattle.records.specs.Records.{flatWords, Flattens, zeros, blank, withRecord}
 use Rattle.records.specs.declared.Progress.{Progress}
 use Rattle.records.specs.declared.Flat.{Flat}
 use Rattle.records.proofs.Laws.{flatFrom, flatOf, offset-fits, words-fit, nearer, more-of, none-of}
@@ -126,7 +126,7 @@ module _ {M : Type 1} (𝓤 : URA M) (H : Heap 𝓤) (A : Atoms 𝓤) (W : Given
   abbrev Post : Val → SProp 𝓤
   Post = walkOf 𝓤 H A flatten.ended stayed (flatten.clauses 𝓤 H A mem run) .post (((κ, tt), (q, tt), tt, (x, tt), at), tt)
 
-  exits : (f : Flat) → Is F f (low f ∷ []) → Carries f (flatWords ys) → ent 𝓤 (⋆ 𝓤 H A (‵ (ShrSlice (named 0) κ R .own x (at .0)) ∷ ‵ (flft κ q) ∷ []))
+  exits : (f : Flat) → Is F f (low f ∷ []) → Flattens f (flatWords ys) → ent 𝓤 (⋆ 𝓤 H A (‵ (ShrSlice (named 0) κ R .own x (at .0)) ∷ ‵ (flft κ q) ∷ []))
       (Post (low f))
   exits f is e =
       qed W (‵ (ShrSlice (named 0) κ R .own x (at .0)) ∷ ‵ (flft κ q) ∷ []) ∵

@@ -1,7 +1,7 @@
 -- The call without the record's store, and the records as it says.
 use mathlib.Core.Path.{sym, ap, _∙_}
 use Rattle.machine.specs.Machine.{stateOf, Answered}
-use Rattle.tenants.specs.Offices.{Lent, lentOf}
+use Rattle.tenants.specs.Tenants.{TenantAreas, tenantAreas}
 use Rattle.sharing.proofs.Starts as starts
 use borrow.Author.Needs.{needs}
 use Rattle.sharing.proofs.turn.Statement.{statement}
@@ -23,9 +23,9 @@ store-after-requires c κs =
     let at-flat-of = at-flat-of2 .before .before .before in
     let A = at-flat-of .before .before .before .before .before .before .before .before .before .before .before .before .args in
     let done = at-turn .turn .ensures (A .progress .now) (A .theirs .now) (at-flat-of .flat-of .ensures) (at-flat-of2 .flat-of2 .ensures) in
-    λ z. starts.turn-inside (A .encoded .now) (A .route) (A .source .now) (A .office)
-    (lentOf (stateOf (A .memories .now) (A .buffer .now) (A .progress .now) (A .status .now)) (A .engaged .now)) (A .theirs .now) (A .processor)
-    (ap (λ (x : Answered Lent). x .number) (sym done) ∙ z)
+    λ z. starts.turn-inside (A .encoded .now) (A .route) (A .source .now) (A .tenant)
+    (tenantAreas (stateOf (A .memories .now) (A .buffer .now) (A .progress .now) (A .status .now)) (A .engaged .now)) (A .theirs .now) (A .processor)
+    (ap (λ (x : Answered TenantAreas). x .number) (sym done) ∙ z)
 
 same-length : tie.Need-same-length
 same-length c =

@@ -23,25 +23,25 @@ loop-holds c = record { few = omega arith; in-box = S.off-none _ _; sifted = c .
 cell-of-requires : tie.Need-cell-of-requires Inv-loop μ-loop
 cell-of-requires c κs = search needs
 
-outside-requires : tie.Need-outside-requires Inv-loop μ-loop
-outside-requires c κs = search needs
+beyond-box-requires : tie.Need-beyond-box-requires Inv-loop μ-loop
+beyond-box-requires c κs = search needs
 
 returns : tie.Need-returns Inv-loop μ-loop
 returns c =
     let at-cell-of = c .before .before in (
       S.off-yes _ _ (at-cell-of .before .before .loop .r) _ (at-cell-of .before .loop-test .taken) (at-cell-of .cell-of .ensures)
-          (sym (c .before .outside .ensures) ∙ c .if1 .taken),
+          (sym (c .before .beyond-box .ensures) ∙ c .if1 .taken),
       λ e. absurd (true≢false e),
     )
 
 note-requires : tie.Need-note-requires Inv-loop μ-loop
 note-requires c κs =
-    let at-outside = c .before .before in
-    let at-cell-of = at-outside .before in
+    let at-beyond-box = c .before .before in
+    let at-cell-of = at-beyond-box .before in
     let at-loop-test = at-cell-of .before in
     let at-loop = at-loop-test .before in
     let start = at-loop .before .before in
-    let inside = leb-false (start .args .size) (at-cell-of .cell-of .result) (sym (at-outside .outside .ensures) ∙ c .before .if1 .left) in
+    let inside = leb-false (start .args .size) (at-cell-of .cell-of .result) (sym (at-beyond-box .beyond-box .ensures) ∙ c .before .if1 .left) in
     (at-loop-test .loop-test .taken, (omega (arith, start .pre .0, inside), at-loop .loop .inv .sifted .long))
 
 add-r : tie.Need-add-r Inv-loop μ-loop
@@ -58,7 +58,7 @@ loop-again c =
     let at-shared-slice-known = at-loop .before in
     let start = at-shared-slice-known .before in
     let x = at-loop .loop .inv in
-    let inside = sym (at-if .before .outside .ensures) ∙ at-if .if1 .left in
+    let inside = sym (at-if .before .beyond-box .ensures) ∙ at-if .if1 .left in
     record {
       few = omega arith;
       in-box = S.off-more _ _ _ _ (x .in-box) (at-cell-of .cell-of .ensures) inside;
@@ -81,7 +81,7 @@ sift-spec =
     μ-loop
     loop-holds
     cell-of-requires
-    outside-requires
+    beyond-box-requires
     returns
     note-requires
     add-r

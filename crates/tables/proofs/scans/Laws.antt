@@ -12,7 +12,7 @@ use Rattle.base.proofs.Select.{those-more, those-none}
 use Rattle.machine.specs.Plan.{Message, offset, noMessage}
 use Rattle.plan.specs.Messages.{messagesOf}
 use Rattle.plan.proofs.Listed.{total, total-append, total-one, step-none, step-one, at-number, number-low, offset-is, room-is, few}
-use Rattle.tables.specs.declared.scans.Place.{Place}
+use Rattle.tables.specs.declared.scans.MessageSlot.{MessageSlot}
 use Rattle.tables.specs.scans.Scans.{Lengths, Summing, Found}
 
 module _ (f : ℕ → Message) where

@@ -17,7 +17,7 @@ use Rattle.base.proofs.Select.{keep-same}
 use Rattle.nest.specs.declared.Nest.{Nest}
 use Rattle.nest.specs.declared.Interval.{Interval}
 use Rattle.nest.specs.Accepted.{Accepted}
-use Rattle.nest.specs.Nest.{lengthOf, tileLength, tileCount, processorCount, component, side, bounded, earlier, slope, offset, cells, boxTiles}
+use Rattle.nest.specs.Nest.{lengthOf, tileLength, tileCount, processorCount, component, side, bounded, earlier, slope, boundOffset, cells, boxTiles}
 use Rattle.nest.specs.Places.{place, cellPlace, tilePlace, boxTileOf}
 use Rattle.nest.specs.Shape.{level, raised, meets, inShape, tiles}
 use Rattle.nest.specs.Spans.{last}
@@ -39,7 +39,7 @@ use Rattle.parcels.specs.shaped.Runs.{inPlace}
 use Rattle.parcels.specs.shaped.Parcels.{Farthest}
 use Rattle.parcels.proofs.shaped.Runs.{shape-cell, shape-at}
 use Rattle.tables.specs.shaped_table.Table.{Like}
-use Rattle.tables.specs.shaped_table.Lines.{Held, Area, Few, Among, Cut, Inner, PlacesIn, Lined}
+use Rattle.tables.specs.shaped_table.Lines.{OneProcessor, Area, Few, Among, Cut, Inner, PlacesIn, Lined}
 use Rattle.tables.proofs.shaped_table.Laws.{whole-slot}
 
 -- ---- tiles of one row
@@ -80,13 +80,13 @@ module _ (x : Nest) (ok : Accepted x) where
   row-owner u v e = rank-same (processorCount x) _ _ (x .spread)
       (λ j h. ap (λ (a : ℕ). a % processorCount x j) (row-place u v j e (omega (arith, ok .spread-low))))
 
-  pub held-none : (u : ℕ) → Held x u 0 0
+  pub held-none : (u : ℕ) → OneProcessor x u 0 0
   held-none u = record { each = λ v h l. absurd (omega arith) }
 
-  pub held-here : (u p e : ℕ) → Held x u p e → u < e → p ≡ processorOf x u
+  pub held-here : (u p e : ℕ) → OneProcessor x u p e → u < e → p ≡ processorOf x u
   held-here u p e f h = sym (f .each u (omega arith) h)
 
-  pub held-later : (u v p e : ℕ) → Held x u p e → u ≤ v → Held x v p e
+  pub held-later : (u v p e : ℕ) → OneProcessor x u p e → u ≤ v → OneProcessor x v p e
   held-later u v p e f h = record { each = λ i k l. f .each i (omega arith) l }
 
   -- the row's end fits
@@ -94,7 +94,7 @@ module _ (x : Nest) (ok : Accepted x) where
   row-fits u n e h =
       (omega (arith, count-pos), (omega (arith, div-add-mod' u n), omega (arith, box-few x ok, count-most x ok (last x) inner)))
 
-  pub held-row : (u n p : ℕ) → n ≡ count → p ≡ processorOf x u → Held x u p (u - u % n + n)
+  pub held-row : (u n p : ℕ) → n ≡ count → p ≡ processorOf x u → OneProcessor x u p (u - u % n + n)
   held-row u n p e q =
       record { each = λ v h l. row-owner u v (same-quotient count u v count-pos (omega (arith, split)) (omega (arith, split, ends l))) ∙ sym q }
     where
@@ -118,7 +118,7 @@ module _ (x : Nest) (ok : Accepted x) where
   boxes-few = box-few x ok
 
   -- the processors of tiles that come later
-  pub held-next : (t v p e : ℕ) → v ≡ boxTile x t → t < tiles x → Held x v p e → (s : ℕ) → t + 1 ≤ s → s < tiles x → Held x (boxTile x s) p e
+  pub held-next : (t v p e : ℕ) → v ≡ boxTile x t → t < tiles x → OneProcessor x v p e → (s : ℕ) → t + 1 ≤ s → s < tiles x → OneProcessor x (boxTile x s) p e
   held-next t v p e q h f s l k = held-later v (boxTile x s) p e f (omega (arith, boxTile-lt x t s h k (omega arith)))
 
 -- ---- an area
@@ -197,7 +197,7 @@ module _ (x : Nest) (ok : Accepted x) (w : Window) (k : ℕ) (l : k < x .bounds)
         go (yes z) = omega (arith, h .0 z, few .high (earlier x k) (omega (arith, earlier-in)))
         go (no z) = omega (arith, h .1 (omega arith), few .low (earlier x k) (omega (arith, earlier-in)))
 
-    pub level-fits : at ≤ 2097152 → (slope x k * at ≤ 4194304) × (slope x k * at + offset x k ≤ 4259840)
+    pub level-fits : at ≤ 2097152 → (slope x k * at ≤ 4194304) × (slope x k * at + boundOffset x k ≤ 4259840)
     level-fits h =
         let m = mul-le-mul {n₁ = slope x k} {m₁ = at} {n₂ = 2} {m₂ = 2097152} (ok .slope-most k) h in
         (omega (arith, m), omega (arith, m, ok .offset-most k))
@@ -216,15 +216,15 @@ module _ (x : Nest) (ok : Accepted x) (w : Window) (k : ℕ) (l : k < x .bounds)
 
     module _ (at : ℕ) (is : side x k ≡ 0)
         (f : (slope x k ≡ 0 → at ≡ getD (w .low) (earlier x k) 0) × (0 < slope x k → at ≡ getD (w .high) (earlier x k) 0)) where
-      lower-met : (i : ℕ → ℕ) → Among x w i → slope x k * at + offset x k ≤ i (bounded x k) + at + 32768 → meets x i k ≡ true
+      lower-met : (i : ℕ → ℕ) → Among x w i → slope x k * at + boundOffset x k ≤ i (bounded x k) + at + 32768 → meets x i k ≡ true
       unfolding meets level raised
       lower-met i b h =
-          pick-true _ _ _ (eq-eqb (side x k) 0 is) ∙ le-leb _ _ (lower-meets (slope x k) (offset x k) (i (bounded x k)) (i (earlier x k))
+          pick-true _ _ _ (eq-eqb (side x k) 0 is) ∙ le-leb _ _ (lower-meets (slope x k) (boundOffset x k) (i (bounded x k)) (i (earlier x k))
           (getD (w .low) (earlier x k) 0) (getD (w .high) (earlier x k) 0) at (ok .slope-most k) (f .0) (f .1) h
           (b (earlier x k) earlier-in .0) (b (earlier x k) earlier-in .1))
 
       -- the bounded dimension is an earlier one
-      pub lower-aside : bounded x k + 1 < x .dimensions → slope x k * at + offset x k ≤ getD (w .low) (bounded x k) 0 + at + 32768 → Cut x w k left left
+      pub lower-aside : bounded x k + 1 < x .dimensions → slope x k * at + boundOffset x k ≤ getD (w .low) (bounded x k) 0 + at + 32768 → Cut x w k left left
       lower-aside d h =
           record {
             part = λ a m n. (m, n);
@@ -237,12 +237,12 @@ module _ (x : Nest) (ok : Accepted x) (w : Window) (k : ℕ) (l : k < x .bounds)
         ends : (i : ℕ → ℕ) → i (bounded x k) ≡ i (last x)
         ends i = ap i (omega (arith, bounded-in))
 
-        pub lower-keeps : slope x k * at + offset x k ≤ left .from + at + 32768 → Cut x w k left left
+        pub lower-keeps : slope x k * at + boundOffset x k ≤ left .from + at + 32768 → Cut x w k left left
         lower-keeps h =
             record { part = λ a m n. (m, n); few = room; is = λ i b m n. lower-met i b (omega (arith, ends i)) }
 
-        pub lower-cuts : Few x w → left .from + at + 32768 < slope x k * at + offset x k
-            → Cut x w k left (record { from = slope x k * at + offset x k - at - 32768; to = left .to })
+        pub lower-cuts : Few x w → left .from + at + 32768 < slope x k * at + boundOffset x k
+            → Cut x w k left (record { from = slope x k * at + boundOffset x k - at - 32768; to = left .to })
         lower-cuts g h =
             record {
               part = λ a m n. (omega arith, n);
@@ -252,14 +252,14 @@ module _ (x : Nest) (ok : Accepted x) (w : Window) (k : ℕ) (l : k < x .bounds)
 
     module _ (at : ℕ) (is : side x k ≢ 0)
         (f : (slope x k ≡ 0 → at ≡ getD (w .high) (earlier x k) 0) × (0 < slope x k → at ≡ getD (w .low) (earlier x k) 0)) where
-      upper-met : (i : ℕ → ℕ) → Among x w i → i (bounded x k) + at + 32768 ≤ slope x k * at + offset x k → meets x i k ≡ true
+      upper-met : (i : ℕ → ℕ) → Among x w i → i (bounded x k) + at + 32768 ≤ slope x k * at + boundOffset x k → meets x i k ≡ true
       unfolding meets level raised
       upper-met i b h =
-          pick-false _ _ _ (ne-eqb (side x k) 0 is) ∙ le-leb _ _ (upper-meets (slope x k) (offset x k) (i (bounded x k)) (i (earlier x k))
+          pick-false _ _ _ (ne-eqb (side x k) 0 is) ∙ le-leb _ _ (upper-meets (slope x k) (boundOffset x k) (i (bounded x k)) (i (earlier x k))
           (getD (w .low) (earlier x k) 0) (getD (w .high) (earlier x k) 0) at (ok .slope-most k) (f .0) (f .1) h
           (b (earlier x k) earlier-in .0) (b (earlier x k) earlier-in .1))
 
-      pub upper-aside : bounded x k + 1 < x .dimensions → getD (w .high) (bounded x k) 0 + at + 32768 ≤ slope x k * at + offset x k → Cut x w k left left
+      pub upper-aside : bounded x k + 1 < x .dimensions → getD (w .high) (bounded x k) 0 + at + 32768 ≤ slope x k * at + boundOffset x k → Cut x w k left left
       upper-aside d h =
           record {
             part = λ a m n. (m, n);
@@ -267,8 +267,8 @@ module _ (x : Nest) (ok : Accepted x) (w : Window) (k : ℕ) (l : k < x .bounds)
             is = λ i b m n. upper-met i b (omega (arith, b (bounded x k) (omega arith) .1));
           }
 
-      pub upper-cuts : x .dimensions ≤ bounded x k + 1 → at + 32768 ≤ slope x k * at + offset x k → (e : ℕ)
-          → e ≡ min (left .to) (slope x k * at + offset x k + 1 - at - 32768) → Cut x w k left (record { from = left .from; to = e })
+      pub upper-cuts : x .dimensions ≤ bounded x k + 1 → at + 32768 ≤ slope x k * at + boundOffset x k → (e : ℕ)
+          → e ≡ min (left .to) (slope x k * at + boundOffset x k + 1 - at - 32768) → Cut x w k left (record { from = left .from; to = e })
       upper-cuts d h e q =
           record {
             part = λ a m n. (m, omega arith);

@@ -17,7 +17,7 @@ use Rattle.base.proofs.Select.{keep-same}
 use Rattle.nest.specs.declared.Nest.{Nest}
 use Rattle.nest.specs.declared.Interval.{Interval}
 use Rattle.nest.specs.Accepted.{Accepted}
-use Rattle.nest.specs.Nest.{lengthOf, tileLength, tileCount, component, side, bounded, earlier, slope, offset, cells, boxTiles}
+use Rattle.nest.specs.Nest.{lengthOf, tileLength, tileCount, component, side, bounded, earlier, slope, boundOffset, cells, boxTiles}
 use Rattle.nest.specs.Places.{rank, cellAt, cellPlace, tileAt, tilePlace, boxTileOf}
 use Rattle.nest.specs.Shape.{level, raised, meets, inShape, tiles}
 use Rattle.nest.specs.Spans.{last}
@@ -98,7 +98,7 @@ module _ (x : Nest) (ok : Accepted x) (s : ℕ → ℕ)
       let e = h (earlier x b) (omega (arith, ok .bounded-low b l, ok .earlier-low b l)) in
       let m : slope x b * k (earlier x b) ≡ slope x b * i (earlier x b) + slope x b * g (earlier x b) =
       ap (λ (a : ℕ). slope x b * a) e ∙ mul-add (slope x b) (i (earlier x b)) (g (earlier x b)) in
-      let up : slope x b * k (earlier x b) + offset x b ≡ slope x b * i (earlier x b) + offset x b + (g (bounded x b) + g (earlier x b)) =
+      let up : slope x b * k (earlier x b) + boundOffset x b ≡ slope x b * i (earlier x b) + boundOffset x b + (g (bounded x b) + g (earlier x b)) =
       omega (arith, m, kept b l) in
       let on : k (bounded x b) + k (earlier x b) + 32768 ≡ i (bounded x b) + i (earlier x b) + 32768 + (g (bounded x b) + g (earlier x b)) =
       omega (arith, o, e) in

@@ -16,7 +16,7 @@ use Rattle.plan.specs.declared.Route.{Route}
 use Rattle.plan.specs.Messages.{ways, slots, slotParcel, slotMessage, messagesTo, messages, boxPlan}
 use Rattle.layout.specs.Sizes.{endAt}
 use Rattle.parcels.specs.Twins.{Twin}
-use Rattle.tables.specs.declared.scans.Place.{Place}
+use Rattle.tables.specs.declared.scans.MessageSlot.{MessageSlot}
 
 -- the nest has no bounds, and `lens` has the length of each slot's parcel
 pub record Table (r : Route) (x : Nest) (lens : List ℕ) : Type 0 where
@@ -73,7 +73,7 @@ unfoldable pub countBelow : List ℕ → ℕ → ℕ → ℕ
 countBelow l n k = sum (λ d. one (ltb (getD l d 0) k)) n
 
 -- message m is found at p
-pub record FoundAt (r : Route) (x : Nest) (m : ℕ) (p : Place) : Type 0 where
+pub record FoundAt (r : Route) (x : Nest) (m : ℕ) (p : MessageSlot) : Type 0 where
   pub number : p .number ≡ m
   pub low : m < count (boxPlan r x)
   pub offset : p .offset ≡ machine.offset (messages r x) m

@@ -8,7 +8,7 @@ use lib.ListN.{length, getD}
 use Rattle.machine.specs.Plan as machine
 use Rattle.machine.specs.Plan.{Message, noMessage}
 use Rattle.plan.specs.Messages.{messagesOf}
-use Rattle.tables.specs.declared.scans.Place.{Place}
+use Rattle.tables.specs.declared.scans.MessageSlot.{MessageSlot}
 
 -- a table of n slots, none with more cells than a nest can have
 pub record Sheet (lens : List ℕ) (n : ℕ) : Type 0 where
@@ -26,7 +26,7 @@ pub record Summing (f : ℕ → Message) (s m o : ℕ) : Type 0 where
   pub offset : o ≡ machine.offset (messagesOf f s) (length (messagesOf f s))
 
 -- message m of n slots is found at p
-pub record Found (f : ℕ → Message) (n m : ℕ) (p : Place) : Type 0 where
+pub record Found (f : ℕ → Message) (n m : ℕ) (p : MessageSlot) : Type 0 where
   pub number : p .number ≡ m
   pub low : m < length (messagesOf f n)
   pub offset : p .offset ≡ machine.offset (messagesOf f n) m

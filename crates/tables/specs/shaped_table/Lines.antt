@@ -18,7 +18,7 @@ use Rattle.parcels.specs.declared.Window.{Window}
 use Rattle.tables.specs.shaped_table.Table.{Like}
 
 -- from tile u of the box on, below `end`, tiles have processor p
-pub record Held (x : Nest) (u p end : ℕ) : Type 0 where
+pub record OneProcessor (x : Nest) (u p end : ℕ) : Type 0 where
   pub each : (v : ℕ) → u ≤ v → v < end → processorOf x v ≡ p
 
 -- in each dimension the components of the cells of the tile at a place, and of those at most so far after them

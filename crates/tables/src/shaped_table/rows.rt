@@ -26,7 +26,7 @@ pub struct Move {
 }
 
 // Of a row of the box's tiles: those, from one number on, below another, that are like the tile so far before them; and where the row ends.
-pub struct Line {
+pub struct TileRow {
     pub from: usize,
     pub to: usize,
     pub far: usize,
@@ -176,7 +176,7 @@ fn line_by(
     at: [usize; 4],
     places: Interval,
     far: usize,
-) -> Line
+) -> TileRow
     requires { ⌜ Sized nest sizes × ((tile < boxTiles nest) × Has at (tilePlace nest tile) (nest .dimensions)) ⌝ }
     requires { ⌜ (places .from ≤ 8400000) × (places .to ≤ 1024) ⌝ }
     ensures { λ r. ⌜ (r .far ≡ far) × ((r .from ≡ tile - getD at (last nest) 0 + places .from)
@@ -185,7 +185,7 @@ fn line_by(
     let last = nest.dimensions - 1;
     let across = sizes.across;
     let first = tile - at[last];
-    Line {
+    TileRow {
         from: first + places.from,
         to: first + places.to,
         far: far,
@@ -194,7 +194,7 @@ fn line_by(
 }
 
 // The row of a tile: those of its tiles that lie, with all that is near, wholly inside the shape, as the tile before them does.
-fn stretch_of(nest: Nest, sizes: Sizes, most: [usize; 4], tile: usize, at: [usize; 4]) -> Line
+fn stretch_of(nest: Nest, sizes: Sizes, most: [usize; 4], tile: usize, at: [usize; 4]) -> TileRow
     requires { ⌜ Sized nest sizes × ((tile < boxTiles nest) × (Farthest nest most × Has at (tilePlace nest tile) (nest .dimensions))) ⌝ }
     ensures { λ r. ⌜ Lined nest (r .far) (r .from) (r .to) ⌝ }
 {
@@ -323,7 +323,7 @@ fn moved_in(nest: Nest, sizes: Sizes, steps: [usize; 4], at: [usize; 4]) -> Inte
 }
 
 // The row of a tile: by the move, or where none of its tiles is like the one a move before, by those that lie wholly inside.
-pub fn line_of(nest: Nest, sizes: Sizes, most: [usize; 4], by: Move, tile: usize) -> Line
+pub fn line_of(nest: Nest, sizes: Sizes, most: [usize; 4], by: Move, tile: usize) -> TileRow
     requires { ⌜ Sized nest sizes × ((tile < boxTiles nest) × (Farthest nest most × Moves nest (by .steps) (by .far))) ⌝ }
     ensures { λ r. ⌜ Lined nest (r .far) (r .from) (r .to) ⌝ }
 {

@@ -19,7 +19,7 @@ use Rattle.machine.specs.Machine.{State, stateOf, answered}
 use Rattle.nest.specs.declared.Nest.{Nest}
 use Rattle.plan.specs.declared.Route.{Route}
 use Rattle.plan.specs.Shaped.{planOf}
-use Rattle.tables.specs.declared.scans.Place.{Place}
+use Rattle.tables.specs.declared.scans.MessageSlot.{MessageSlot}
 use Rattle.tables.specs.Tables.{FoundIn}
 use Rattle.summary.specs.declared.MessageLine.{MessageLine}
 use Rattle.summary.specs.Summary.{lineOf}
@@ -96,7 +96,7 @@ module _ (p : Plan) (s : State) (b m : ℕ) (ws : List ℕ) where
 
 -- ---- the words in their place
 
-module _ (r : Route) (x : Nest) (m : ℕ) (at : Place) (f : FoundIn r x m at) (buffer : List ℕ) (long : length buffer ≡ words (planOf r x)) where
+module _ (r : Route) (x : Nest) (m : ℕ) (at : MessageSlot) (f : FoundIn r x m at) (buffer : List ℕ) (long : length buffer ≡ words (planOf r x)) where
   pub room : at .offset + at .words ≤ length buffer
   room = omega (arith, f .room)
 

@@ -21,7 +21,7 @@ use Rattle.layout.specs.CellRows.{Given}
 use Rattle.layout.proofs.CellRows.{row-last, row-low}
 use Rattle.nest.specs.Places.{place, cellPlace}
 use Rattle.bands.specs.lagged.Bands.{four, Band, Banded, InRow}
-use Rattle.values.specs.row_values.Waves.{mostIn, mostOf, Lasts, Lent, Inner, Inners, Fours}
+use Rattle.values.specs.row_values.Waves.{mostIn, mostOf, Lasts, RowTables, Inner, Inners, Fours}
 use Rattle.values.specs.row_values.Reads.{firstRead, Firsts}
 use Rattle.values.proofs.row_values.Words.{in-row}
 use Rattle.bands.proofs.lagged.Waves.{each-four}
@@ -127,7 +127,7 @@ firsts-copied x ok at first f =
 
 module _ (x : Nest) (ok : Accepted x) (r : Cell) (q : Located x (r .number) r) (n : ℕ) (fits : getD (r .place) (x .dimensions - 1) 0 + n ≤ lengthOf x
     (x .dimensions - 1))
-    (components lasts back weights margin : List ℕ) (lent : Lent x components lasts back weights margin) where
+    (components lasts back weights margin : List ℕ) (lent : RowTables x components lasts back weights margin) where
   pub inner-row : Inner margin (r .place) (x .dimensions - 1) → InRow x (r .number) (getD (r .place) (x .dimensions - 1) 0) n lasts back weights
   inner-row i =
       in-row x ok r q lasts back weights (inner-firsts x ok margin (lent .margins) lasts (lent .firsts) (r .place) i) (lent .backs) (lent .weights-are) n fits
@@ -188,7 +188,7 @@ module _ (x : Nest) (ok : Accepted x) (a b c d : Cell) (w : ℕ) (h : Fours x a 
           go (inl z) ih = rw z (steps k l)
           go (inr z) ih = omega (arith, ih z, steps k l)
 
-  pub fours-banded : (components lasts back weights margin : List ℕ) → Lent x components lasts back weights margin
+  pub fours-banded : (components lasts back weights margin : List ℕ) → RowTables x components lasts back weights margin
       → (from : ℕ) → (3 ≤ from) × ((getD margin (x .dimensions - 1) 0 + 3 ≤ getD (a .place) (x .dimensions - 1) 0 + from) × (from ≤ 1027)) → from ≤ w
       → Inners margin (a .place) (b .place) (c .place) (d .place) (x .dimensions - 1)
       → Banded x (four (a .number) (b .number) (c .number) (d .number)) (getD (a .place) (x .dimensions - 1) 0) from w lasts back weights

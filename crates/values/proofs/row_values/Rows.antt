@@ -14,7 +14,7 @@ use Rattle.layout.specs.Places.{nth, Ranked, Places, Inside, Follows}
 use Rattle.layout.specs.CellRows.{rowOf}
 use Rattle.layout.proofs.Advance.{placed-start}
 use Rattle.bands.specs.lagged.Bands.{four, rowsOf, BandGiven}
-use Rattle.values.specs.row_values.Waves.{Lent, Inner}
+use Rattle.values.specs.row_values.Waves.{RowTables, Inner}
 use Rattle.values.specs.row_values.Given.{RowGiven}
 use Rattle.values.specs.row_values.Boxes.{Boxed, Standing, RowsGiven, Stored}
 use Rattle.values.proofs.row_values.Margins.{margin-most, fours-banded}
@@ -114,7 +114,7 @@ pub stored-rows : (x : Nest) (source N from memory memory′ at : List ℕ) (r n
 stored-rows x source N from memory memory′ at r n k e s = rw (← e) s
 
 -- what is given at a box's first row
-pub given-box : (x : Nest) (components lasts back weights margin source memory N from : List ℕ) → Accepted x → Lent x components lasts back weights margin
+pub given-box : (x : Nest) (components lasts back weights margin source memory N from : List ℕ) → Accepted x → RowTables x components lasts back weights margin
     → (length source ≡ cells x) × (length memory ≡ cells x) → Boxed x N from → length from ≡ 4
     → RowsGiven x components lasts back weights margin source memory (x .lengths) N from from 0
 given-box x components lasts back weights margin source memory N from ok lent areas b long = (

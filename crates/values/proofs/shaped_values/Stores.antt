@@ -10,7 +10,7 @@ use native.Mathlib.Omega.{arith}
 use lib.ListN.{length, getD, drop, set, length-append, List·getD-append, replicate, length-replicate, getD-replicate}
 use lib.Seq.{drop-cons, drop-length, set-append-seam, set-getD, getD-append-seam}
 use Rattle.base.specs.Tests.{_and_, pick, keep, keepIf, tabulate}
-use Rattle.base.specs.Lists.{In, part, put, storeAll}
+use Rattle.base.specs.Lists.{In, sublist, put, storeAll}
 use Rattle.base.proofs.Tests.{pick-true, pick-false, tabulate-same}
 use Rattle.base.proofs.Lists.{store-length}
 use Rattle.base.proofs.Copies.{copied-none, copied-more}
@@ -140,15 +140,15 @@ filled-at n v m l e k i h = ap (λ (z : List ℕ). getD z i 0) e ∙ getD-replic
 -- ---- words copied: a part of the memories to cells side by side
 
 module _ (memories grid : List ℕ) (from to n : ℕ) (fits : to + n ≤ length grid) (there : from + n ≤ length memories) where
-  copied-rowing : (y : ℕ) → y ≤ n → Rowing (λ l c. getD memories (from + (c - to)) 0) grid (put grid to (part memories from y)) to n y
+  copied-rowing : (y : ℕ) → y ≤ n → Rowing (λ l c. getD memories (from + (c - to)) 0) grid (put grid to (sublist memories from y)) to n y
   copied-rowing zero l = rw (copied-none grid memories to from) (rowing-none _ grid to n)
   copied-rowing (suc y) l =
       let z : from + (to + y - to) ≡ from + y = omega arith in
-      subst (λ (i : ℕ). Rowing (λ l c. getD memories (from + (c - to)) 0) grid (put grid to (part memories from i)) to n i) (add-one y)
+      subst (λ (i : ℕ). Rowing (λ l c. getD memories (from + (c - to)) 0) grid (put grid to (sublist memories from i)) to n i) (add-one y)
       (rowing-more (copied-rowing y (omega arith)) _ (omega arith) (sym (copied-more grid memories to from y (omega arith) (omega arith))
-      ∙ ap (λ (i : ℕ). set (put grid to (part memories from y)) (to + y) (getD memories i 0)) (sym z)))
+      ∙ ap (λ (i : ℕ). set (put grid to (sublist memories from y)) (to + y) (getD memories i 0)) (sym z)))
 
-  pub copied-row : put grid to (part memories from n) ≡ storeAll (λ l c. getD memories (from + (c - to)) 0) grid (rowOf to n)
+  pub copied-row : put grid to (sublist memories from n) ≡ storeAll (λ l c. getD memories (from + (c - to)) 0) grid (rowOf to n)
   copied-row = rowing-end (copied-rowing n (omega arith)) (omega arith)
 
 -- ---- a tile

@@ -10,7 +10,7 @@ use native.Mathlib.Omega.{arith}
 use lib.ListN.{getD, set, drop}
 use lib.Seq.{getD-take, getD-drop}
 use Rattle.base.specs.Tests.{pick, sum, product}
-use Rattle.base.specs.Lists.{storeAll, part}
+use Rattle.base.specs.Lists.{storeAll, sublist}
 use Rattle.base.proofs.Tests.{both, sum-same, pick-false}
 use Rattle.base.proofs.Lists.{piece-fits}
 use Rattle.nest.specs.declared.Nest.{Nest}
@@ -38,8 +38,8 @@ use Rattle.values.specs.shaped_values.Rows.{insideOnly, heldWord, Along,
 use Rattle.values.proofs.shaped_values.Runs.{in-run, out-run, span-cell}
 use Rattle.values.proofs.shaped_values.Stores.{row-cut, row-out}
 
-at-part : (l : List ℕ) (i n k : ℕ) → k < n → getD (part l i n) k 0 ≡ getD l (i + k) 0
-unfolding part
+at-part : (l : List ℕ) (i n k : ℕ) → k < n → getD (sublist l i n) k 0 ≡ getD l (i + k) 0
+unfolding sublist
 at-part l i n k h = getD-take n (drop i l) k 0 h ∙ getD-drop i l k 0
 
 -- ---- a sum closed

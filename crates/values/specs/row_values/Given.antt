@@ -11,7 +11,7 @@ use Rattle.nest.specs.Nest.{cells}
 use Rattle.layout.specs.Places.{Located}
 use Rattle.layout.specs.CellRows.{Given}
 use Rattle.values.specs.declared.row_values.Body.{Body}
-use Rattle.values.specs.row_values.Waves.{Lent}
+use Rattle.values.specs.row_values.Waves.{RowTables}
 
 -- the nest that has these numbers, and all else as x: code is handed no nest, so its contracts speak of every nest that has the numbers
 abbrev pub withBody : Nest → Body → Nest
@@ -42,7 +42,7 @@ ReadsBy x components e = Accepted x × ((e < x .distances) × Given x components
 -- an accepted nest, with areas of its length, and what is lent to every row
 abbrev pub RowsLent : Nest → List ℕ → List ℕ → List ℕ → List ℕ → List ℕ → List ℕ → List ℕ → Type 0
 RowsLent x components lasts back weights margin source memory =
-    Accepted x × (Lent x components lasts back weights margin × ((length source ≡ cells x) × (length memory ≡ cells x)))
+    Accepted x × (RowTables x components lasts back weights margin × ((length source ≡ cells x) × (length memory ≡ cells x)))
 
 -- a row of so many cells, from the place and the number of its first cell
 abbrev pub RowGiven : Nest → List ℕ → List ℕ → List ℕ → List ℕ → List ℕ → List ℕ → List ℕ → List ℕ → ℕ → ℕ → Type 0

@@ -28,7 +28,7 @@ pub record Lasts (x : Nest) (first : List ℕ) : Type 0 where
   pub each : (e : ℕ) → e < x .distances → getD first e 0 ≡ component x e (x .dimensions - 1)
 
 -- what is made once in a call and lent to every row
-pub record Lent (x : Nest) (components lasts back weights margin : List ℕ) : Type 0 where
+pub record RowTables (x : Nest) (components lasts back weights margin : List ℕ) : Type 0 where
   pub given : Given x components
   pub backs : Backs x back
   pub weights-are : weights ≡ x .weights

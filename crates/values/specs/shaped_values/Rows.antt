@@ -8,7 +8,7 @@ use mathlib.Core.List.{List}
 use lib.ListN.{getD}
 use lib.Dec.{ltb, leb}
 use Rattle.base.specs.Tests.{_and_, pick, sum}
-use Rattle.base.specs.Lists.{part}
+use Rattle.base.specs.Lists.{sublist}
 use Rattle.nest.specs.declared.Nest.{Nest}
 use Rattle.nest.specs.declared.Interval.{Interval}
 use Rattle.nest.specs.Nest.{cells}
@@ -24,7 +24,7 @@ insideOnly x f memory c = pick (inShape x c) (f memory c) (getD memory c 0)
 
 -- the word of cell c in the memory of its tile's processor
 unfoldable pub heldWord : Nest → List ℕ → List ℕ → ℕ → ℕ
-heldWord x memories grid c = getD (part memories (processorOf x (boxTileOf x c) * cells x) (cells x)) c 0
+heldWord x memories grid c = getD (sublist memories (processorOf x (boxTileOf x c) * cells x) (cells x)) c 0
 
 -- cell c stands in the row of a place
 pub record Along (x : Nest) (at : List ℕ) (c : ℕ) : Type 0 where

@@ -37,8 +37,8 @@ use denote.Triple.Table.{entered, cited}
 use denote.Triple.Walked.{says, Stays, walkOf, ends-at, walked, walk-meets}
 use Rattle.machine.specs.Machine.{stateOf}
 use Rattle.engine.specs.Calls.{answer}
-use Rattle.part_calls.specs.front.Calls.{ownCollectCall}
-use Rattle.records.specs.Records.{flatWords, Carries}
+use Rattle.part_calls.specs.front.Calls.{partCollectCall}
+use Rattle.records.specs.Records.{flatWords, Flattens}
 use Rattle.records.specs.declared.Progress.{Progress}
 use Rattle.records.specs.declared.Flat.{Flat}
 use Rattle.records.proofs.Locals.{rooms, holds, free-all}
@@ -130,7 +130,7 @@ module _ {M : Type 1} (𝓤 : URA M) (H : Heap 𝓤) (A : Atoms 𝓤) (W : Given
   exits : (r : ℕ) (y3 : List ℕ) → r < 2 ^ 32
       → length y3 ≡ length (now x3)
       → answer r y3
-      ≡ ownCollectCall (now x0) route (stateOf (now x1) [] (flatWords (now x2)) []) processor (now x3)
+      ≡ partCollectCall (now x0) route (stateOf (now x1) [] (flatWords (now x2)) []) processor (now x3)
       → ent 𝓤 (⋆ 𝓤 H A (sepAll 𝓤 Lives ∷ ‵ (flft κ2 q2) ∷ ‵ (finally u32 (x3 .name) y3) ∷ [])) (Post (vint w32 r))
   exits r y3 fits e3 said =
       qed W (sepAll 𝓤 Lives ∷ ‵ (flft κ2 q2) ∷ ‵ (finally u32 (x3 .name) y3) ∷ []) ∵
@@ -157,7 +157,7 @@ module _ {M : Type 1} (𝓤 : URA M) (H : Heap 𝓤) (A : Atoms 𝓤) (W : Given
         (rooms 𝓤 ((word, l0) ∷ []) more))
 
     worded : Triple 𝓤 (C #words) (Words 𝓤 H A mem run)
-        → (f : Flat) → Is F f (low f ∷ []) → Carries f (flatWords (now x2))
+        → (f : Flat) → Is F f (low f ∷ []) → Flattens f (flatWords (now x2))
         → Sq W (At (‵ (fat fullShare S′.mir l7 0 (low f))) (Toks ++ slices 𝓤 in-words κw (given-words f)))
         (runs C Λ En mir′.t-2 (atRet En Post))
     worded known₁ f is-f e-f =
@@ -173,7 +173,7 @@ module _ {M : Type 1} (𝓤 : URA M) (H : Heap 𝓤) (A : Atoms 𝓤) (W : Given
         (and-then ! (local ! 15 refl)
         (and-then ! (local ! 13 refl) (and-then ! (local ! 5 refl) (and-then ! (local ! 9 refl) (and-then ! (local ! 1 refl) (no-more !))))))) (λ w.
         comes-back in-words κw (given-words f) ! u32 Lives w _ (ensured 𝓤 H A words.ended (words.clauses 𝓤 H A mem run) κw (given-words f) tt)
-        (λ r us. (l : List ℕ) → Carries f l → answer r (us .1 .1 .1 .1 .1 .0) ≡ ownCollectCall (now x0) route (stateOf (now x1) [] l []) processor (now x3))
+        (λ r us. (l : List ℕ) → Flattens f l → answer r (us .1 .1 .1 .1 .1 .0) ≡ partCollectCall (now x0) route (stateOf (now x1) [] l []) processor (now x3))
         (id⊢ 𝓤 _) (λ r. id⊢ 𝓤 _) (λ r us said.
         move ! (0 ∷ []) $ split ! $ move ! (1 ∷ []) $ feqL ! (λ e3.
         move ! (6 ∷ []) $ split ! $ move ! (1 ∷ []) $

@@ -36,7 +36,7 @@ use denote.Triple.Table.{entered, cited}
 use denote.Triple.Walked.{says, Stays, walkOf, ends-at, walked, walk-meets}
 use Rattle.machine.specs.Machine.{stateOf}
 use Rattle.engine.specs.Calls.{answer}
-use Rattle.part_calls.specs.front.Calls.{ownFreshCall}
+use Rattle.part_calls.specs.front.Calls.{partFreshCall}
 use Rattle.records.specs.Records.{flatWords}
 use Rattle.records.specs.declared.Progress.{Progress}
 use Rattle.records.proofs.Laws.{words-fit}
@@ -129,7 +129,7 @@ module _ {M : Type 1} (𝓤 : URA M) (H : Heap 𝓤) (A : Atoms 𝓤) (W : Given
 
   exits : (r : ℕ) (y1 : List ℕ) (y2 : List ℕ) (y3 : List Progress) (y4 : List ℕ) → r < 2 ^ 32
       → length y1 ≡ length (now x1) → length y2 ≡ length (now x2) → length y3 ≡ length (now x3) → length y4 ≡ length (now x4)
-      → answer r (stateOf y1 y2 (flatWords y3) y4) ≡ ownFreshCall (now x0) route (stateOf (now x1) (now x2) (flatWords (now x3)) (now x4)) processor
+      → answer r (stateOf y1 y2 (flatWords y3) y4) ≡ partFreshCall (now x0) route (stateOf (now x1) (now x2) (flatWords (now x3)) (now x4)) processor
       → ent 𝓤 (⋆ 𝓤 H A (sepAll 𝓤 Lives ∷ ‵ (flft κ3 q3) ∷ ‵ (finally u32 (x1 .name) y1) ∷ ‵ (finally u32 (x2 .name) y2) ∷ ‵ (finally R (x3 .name) y3)
       ∷ ‵ (finally u8 (x4 .name) y4) ∷ [])) (Post (vint w32 r))
   exits r y1 y2 y3 y4 fits e1 e2 e3 e4 said =
@@ -144,7 +144,7 @@ module _ {M : Type 1} (𝓤 : URA M) (H : Heap 𝓤) (A : Atoms 𝓤) (W : Given
 
   -- what the call over the other areas says, for these words of the record
   abbrev Said : ℕ → List ℕ → List ℕ → List ℕ → List ℕ → Type 0
-  Said r y1 y2 y4 l = answer r (stateOf y1 y2 (zerosAfter l r) y4) ≡ ownFreshCall (now x0) route (stateOf (now x1) (now x2) l (now x4)) processor
+  Said r y1 y2 y4 l = answer r (stateOf y1 y2 (zerosAfter l r) y4) ≡ partFreshCall (now x0) route (stateOf (now x1) (now x2) l (now x4)) processor
 
   module _ (C : Calls 𝓤 H) (Λ : Loops 𝓤 H) (fm : FmC 𝓤 H (W .laws) C)
       (l0 l1 l2 l3 l4 l5 l6 l7 l8 l9 l10 l11 l12 l13 l14 l15 l16 l17 l18 l19 : ℕ) where

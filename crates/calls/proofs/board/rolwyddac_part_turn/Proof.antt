@@ -39,8 +39,8 @@ use denote.Triple.Table.{entered, cited}
 use denote.Triple.Walked.{says, Stays, walkOf, ends-at, walked, walk-meets}
 use Rattle.machine.specs.Machine.{stateOf}
 use Rattle.engine.specs.Calls.{answer}
-use Rattle.part_calls.specs.front.Calls.{ownTurnCall}
-use Rattle.records.specs.Records.{flatWords, Carries}
+use Rattle.part_calls.specs.front.Calls.{partTurnCall}
+use Rattle.records.specs.Records.{flatWords, Flattens}
 use Rattle.records.specs.declared.Progress.{Progress}
 use Rattle.records.specs.declared.Flat.{Flat}
 use Rattle.records.proofs.Locals.{rooms, holds, free-all}
@@ -142,7 +142,7 @@ module _ {M : Type 1} (𝓤 : URA M) (H : Heap 𝓤) (A : Atoms 𝓤) (W : Given
 
   exits : (r : ℕ) (y2 : List ℕ) (y3 : List ℕ) (y4 : List Progress) (y5 : List ℕ) → r < 2 ^ 32
       → length y2 ≡ length (now x2) → length y3 ≡ length (now x3) → length y4 ≡ length (now x4) → length y5 ≡ length (now x5)
-      → answer r (stateOf y2 y3 (flatWords y4) y5) ≡ ownTurnCall (now x0) route (now x1) (stateOf (now x2) (now x3) (flatWords (now x4)) (now x5)) processor
+      → answer r (stateOf y2 y3 (flatWords y4) y5) ≡ partTurnCall (now x0) route (now x1) (stateOf (now x2) (now x3) (flatWords (now x4)) (now x5)) processor
       → ent 𝓤 (⋆ 𝓤 H A (sepAll 𝓤 Lives ∷ ‵ (flft κ4 q4) ∷ ‵ (finally u32 (x2 .name) y2) ∷ ‵ (finally u32 (x3 .name) y3) ∷ ‵ (finally R (x4 .name) y4)
       ∷ ‵ (finally u8 (x5 .name) y5) ∷ [])) (Post (vint w32 r))
   exits r y2 y3 y4 y5 fits e2 e3 e4 e5 said =
@@ -157,7 +157,7 @@ module _ {M : Type 1} (𝓤 : URA M) (H : Heap 𝓤) (A : Atoms 𝓤) (W : Given
 
   -- what the call over words says, for these words of records
   abbrev Said : Turned → List ℕ → List ℕ → List ℕ → List ℕ → Type 0
-  Said r y2 y3 y5 l = answer (r .number) (stateOf y2 y3 (recordsAfter l 0 r) y5) ≡ ownTurnCall (now x0) route (now x1) (stateOf (now x2) (now x3) l
+  Said r y2 y3 y5 l = answer (r .number) (stateOf y2 y3 (recordsAfter l 0 r) y5) ≡ partTurnCall (now x0) route (now x1) (stateOf (now x2) (now x3) l
       (now x5)) processor
 
   module _ (C : Calls 𝓤 H) (Λ : Loops 𝓤 H) (fm : FmC 𝓤 H (W .laws) C)
@@ -205,7 +205,7 @@ module _ {M : Type 1} (𝓤 : URA M) (H : Heap 𝓤) (A : Atoms 𝓤) (W : Given
         (stored-after (now x4) 0 r) ∙ said)))
 
     worded : Triple 𝓤 (C #words) (Words 𝓤 H A mem run) → Triple 𝓤 (C #records·put) (Put 𝓤 H A mem run)
-        → (f : Flat) → Is F f (low f ∷ []) → Carries f (flatWords (now x4))
+        → (f : Flat) → Is F f (low f ∷ []) → Flattens f (flatWords (now x4))
         → Sq W (At (‵ (fat fullShare S′.mir l9 0 (low f))) (‵ (froom U′.mir l10 0)) (Toks ++ slices 𝓤 params κs given))
         (runs C Λ En mir′.t-4 (atRet En Post))
     worded known₁ known₂ f is-f e-f =
@@ -222,7 +222,7 @@ module _ {M : Type 1} (𝓤 : URA M) (H : Heap 𝓤) (A : Atoms 𝓤) (W : Given
         (and-then ! (local ! 15 refl) (and-then ! (local ! 11 refl) (and-then ! (local ! 25 refl) (and-then ! (local ! 7 refl) (and-then ! (local ! 27 refl)
         (no-more !))))))))) (λ w.
         comes-back in-words κw (given-words f) ! E Lives w _ (ensured 𝓤 H A words.ended (words.clauses 𝓤 H A mem run) κw (given-words f) tt)
-        (λ r us. (l : List ℕ) → Carries f l → Said r (us .1 .1 .1 .0) (us .1 .1 .1 .1 .0) (us .1 .1 .1 .1 .1 .1 .0) l)
+        (λ r us. (l : List ℕ) → Flattens f l → Said r (us .1 .1 .1 .0) (us .1 .1 .1 .1 .0) (us .1 .1 .1 .1 .1 .1 .0) l)
         (id⊢ 𝓤 _) (λ r. id⊢ 𝓤 _) (λ r us said.
         move ! (4 ∷ []) $ split ! $ move ! (1 ∷ []) $ feqL ! (λ e2. move ! (4 ∷ []) $ split ! $ move ! (1 ∷ []) $
         feqL ! (λ e3. move ! (3 ∷ []) $ split ! $ move ! (1 ∷ []) $ feqL ! (λ e5. move ! (8 ∷ []) $ split ! $ move ! (1 ∷ []) $

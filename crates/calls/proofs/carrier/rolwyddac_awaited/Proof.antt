@@ -45,7 +45,7 @@ use Rattle.transport.specs.declared.Waiting.{Waiting}
 use Rattle.transport.specs.Calls.{waitsOf, awaitedCall}
 use Rattle.transport.proofs.Waiting as U
 use Rattle.transport.proofs.Waiting.Laws as U′
-use Rattle.records.specs.Records.{flatWords, Carries}
+use Rattle.records.specs.Records.{flatWords, Flattens}
 use Rattle.records.specs.declared.Progress.{Progress}
 use Rattle.records.specs.declared.Flat.{Flat}
 use Rattle.records.proofs.Locals.{rooms, holds, free-all}
@@ -223,7 +223,7 @@ module _ {M : Type 1} (𝓤 : URA M) (H : Heap 𝓤) (A : Atoms 𝓤) (W : Given
         ∷ (‵ (finally u8 (x3 .name) (us .1 .1 .1 .1 .1 .0)) ⊛ ‵ (feq ℕ (length (us .1 .1 .1 .1 .1 .0)) (length (now x3)))) ∷ []
 
     worded : Triple 𝓤 (C #transport·core·awaited) (Words 𝓤 H A mem run)
-        → (f : Flat) → Is F f (low f ∷ []) → Carries f (flatWords (now x1))
+        → (f : Flat) → Is F f (low f ∷ []) → Flattens f (flatWords (now x1))
         → Sq W (At (‵ (fat fullShare S′.mir l7 0 (low f))) (‵ (flft κ0 q0) ∷ ‵ (flft κ1 q1) ∷ ‵ (flft κ2 q2) ∷ ‵ (flft κ3 q3) ∷ ‵
         (ShrSlice (named 0) κ0 u8 .own x0 (slice x0 ∷ [])) ∷ ‵ (ShrSlice (named 2) κ2 u8 .own x2 (slice x2 ∷ [])) ∷ ‵
         (MutSlice (named 3) κ3 u8 .own x3 (slice x3 ∷ [])) ∷ []))
@@ -247,9 +247,9 @@ module _ {M : Type 1} (𝓤 : URA M) (H : Heap 𝓤) (A : Atoms 𝓤) (W : Given
         (ensured 𝓤 H A words.ended (words.clauses 𝓤 H A mem run) κw (xw f) tt r)))) (id⊢ 𝓤 _) $
         await ! tt $ pick ! (λ r. split ! $ move ! (1 ∷ []) $
         use1 W (some (λ (us : Unit {0} × (Unit {0} × (Unit {0} × (Unit {0} × (Unit {0} × (List ℕ × Unit {0})))))). sepAll 𝓤 (Lasts us) ⊛
-        raw (fact 𝓤 ((l : List ℕ) → Carries f l → Said r (us .1 .1 .1 .1 .1 .0) l)))) (id⊢ 𝓤 _) $
+        raw (fact 𝓤 ((l : List ℕ) → Flattens f l → Said r (us .1 .1 .1 .1 .1 .0) l)))) (id⊢ 𝓤 _) $
         pick ! (λ us. split ! $ move ! (1 ∷ []) $
-        heard ! ((l : List ℕ) → Carries f l → Said r (us .1 .1 .1 .1 .1 .0) l) (λ said.
+        heard ! ((l : List ℕ) → Flattens f l → Said r (us .1 .1 .1 .1 .1 .0) l) (λ said.
         splits ! (Lasts us) $ split ! $ move ! (1 ∷ []) $ feqL !
         (λ e3. move ! (6 ∷ []) $ split ! $ move ! (1 ∷ []) $
         peeks ! E (Is E) (shows 𝓤 H A E) r (w ∷ []) (λ is′.

@@ -39,7 +39,7 @@ use denote.Triple.Table.{entered, cited}
 use denote.Triple.Walked.{says, Stays, walkOf, ends-at, walked, walk-meets}
 use Rattle.machine.specs.Machine.{stateOf}
 use Rattle.engine.specs.Calls.{answer}
-use Rattle.records.specs.Records.{flatWords, Carries}
+use Rattle.records.specs.Records.{flatWords, Flattens}
 use Rattle.records.specs.declared.Progress.{Progress}
 use Rattle.records.specs.declared.Flat.{Flat}
 use Rattle.records.proofs.Locals.{rooms, holds, free-all}
@@ -56,12 +56,12 @@ use Rattle.engine.specs.declared.core.Turned.{Turned}
 use Rattle.engine.proofs.core.Turned as U
 use Rattle.engine.proofs.core.Turned.Laws as U′
 use Rattle.engine.proofs.Reading.{stored-after}
-use Rattle.timed.proofs.core.turn as words
-use Rattle.timed.proofs.core.turn.Symbol as words-def
-use Rattle.timed.proofs.core.turn.Symbol.{name as #timed·core·turn}
-use Rattle.timed.proofs.core.turn.Met as words-thm
-use Rattle.calendar.specs.Hours.{hoursOf}
-use Rattle.timed.specs.Calls.{turnCallAt}
+use Rattle.calendar_calls.proofs.core.turn as words
+use Rattle.calendar_calls.proofs.core.turn.Symbol as words-def
+use Rattle.calendar_calls.proofs.core.turn.Symbol.{name as #calendar_calls·core·turn}
+use Rattle.calendar_calls.proofs.core.turn.Met as words-thm
+use Rattle.calendar.specs.Windows.{momentOf}
+use Rattle.calendar_calls.specs.Calls.{turnCallAt}
 use Rattle.calls.proofs.Opens.{record-there-at}
 use Rattle.calls.proofs.Walking.{R, F, E, low, high, progress-is, number-fits, word, ref, bytes, words32, records, slice}
 use Rattle.calls.proofs.Params.{Param, number32, flat, reads, changes, Lent, stays, go, spells, tell, values, row, tokens, owning, slices}
@@ -146,7 +146,7 @@ module _ {M : Type 1} (𝓤 : URA M) (H : Heap 𝓤) (A : Atoms 𝓤) (W : Given
 
   exits : (r : ℕ) (y2 : List ℕ) (y3 : List ℕ) (y4 : List Progress) (y5 : List ℕ) → r < 2 ^ 32
       → length y2 ≡ length (now x2) → length y3 ≡ length (now x3) → length y4 ≡ length (now x4) → length y5 ≡ length (now x5)
-      → answer r (stateOf y2 y3 (flatWords y4) y5) ≡ turnCallAt (now x0) route (now x1) (hoursOf (now x6) minute)
+      → answer r (stateOf y2 y3 (flatWords y4) y5) ≡ turnCallAt (now x0) route (now x1) (momentOf (now x6) minute)
       (stateOf (now x2) (now x3) (flatWords (now x4)) (now x5)) processor
       → ent 𝓤 (⋆ 𝓤 H A (sepAll 𝓤 Lives ∷ ‵ (flft κ4 q4) ∷ ‵ (finally u32 (x2 .name) y2) ∷ ‵ (finally u32 (x3 .name) y3) ∷ ‵ (finally R (x4 .name) y4)
       ∷ ‵ (finally u8 (x5 .name) y5) ∷ [])) (Post (vint w32 r))
@@ -164,7 +164,7 @@ module _ {M : Type 1} (𝓤 : URA M) (H : Heap 𝓤) (A : Atoms 𝓤) (W : Given
   -- what the call over words says, for these words of records
   abbrev Said : Turned → List ℕ → List ℕ → List ℕ → List ℕ → Type 0
   Said r y2 y3 y5 l = answer (r .number) (stateOf y2 y3 (recordsAfter l processor r) y5) ≡ turnCallAt (now x0) route (now x1)
-      (hoursOf (now x6) minute) (stateOf (now x2) (now x3) l (now x5)) processor
+      (momentOf (now x6) minute) (stateOf (now x2) (now x3) l (now x5)) processor
 
   module _ (C : Calls 𝓤 H) (Λ : Loops 𝓤 H) (fm : FmC 𝓤 H (W .laws) C)
       (l0 l1 l2 l3 l4 l5 l6 l7 l8 l9 l10 l11 l12 l13 l14 l15 l16 l17 l18 l19 l20 l21 l22 l23 : ℕ) where
@@ -214,8 +214,8 @@ module _ {M : Type 1} (𝓤 : URA M) (H : Heap 𝓤) (A : Atoms 𝓤) (W : Given
         (ap (λ (l : List Progress). answer (r .number) (stateOf y2 y3 (flatWords l) y5)) put ∙ ap
         (λ (l : List ℕ). answer (r .number) (stateOf y2 y3 l y5)) (stored-after (now x4) processor r) ∙ said)))
 
-    worded : Triple 𝓤 (C #timed·core·turn) (Words 𝓤 H A mem run) → Triple 𝓤 (C #records·put) (Put 𝓤 H A mem run)
-        → (f : Flat) → Is F f (low f ∷ []) → Carries f (flatWords (now x4))
+    worded : Triple 𝓤 (C #calendar_calls·core·turn) (Words 𝓤 H A mem run) → Triple 𝓤 (C #records·put) (Put 𝓤 H A mem run)
+        → (f : Flat) → Is F f (low f ∷ []) → Flattens f (flatWords (now x4))
         → Sq W (At (‵ (fat fullShare S′.mir l11 0 (low f))) (‵ (froom U′.mir l12 0))
         (Toks ++ slices 𝓤 params κs given))
         (runs C Λ En mir′.t-4 (atRet En Post))
@@ -240,7 +240,7 @@ module _ {M : Type 1} (𝓤 : URA M) (H : Heap 𝓤) (A : Atoms 𝓤) (W : Given
         (and-then ! (local ! 31 refl)
         (and-then ! (local ! 29 refl) (and-then ! (local ! 27 refl) (no-more !))))))))))) (λ w.
         comes-back in-words κw (given-words f) ! E Lives w _ (ensured 𝓤 H A words.ended (words.clauses 𝓤 H A mem run) κw (given-words f) tt)
-        (λ r us. (l : List ℕ) → Carries f l → Said r (us .1 .1 .1 .0) (us .1 .1 .1 .1 .0) (us .1 .1 .1 .1 .1 .1 .0) l)
+        (λ r us. (l : List ℕ) → Flattens f l → Said r (us .1 .1 .1 .0) (us .1 .1 .1 .1 .0) (us .1 .1 .1 .1 .1 .1 .0) l)
         (id⊢ 𝓤 _) (λ r. id⊢ 𝓤 _) (λ r us said.
         move ! (6 ∷ []) $ split ! $ move ! (1 ∷ []) $ feqL ! (λ e2. move ! (6 ∷ []) $ split ! $ move ! (1 ∷ []) $
         feqL ! (λ e3. move ! (5 ∷ []) $ split ! $ move ! (1 ∷ []) $ feqL ! (λ e5. move ! (10 ∷ []) $ split ! $ move ! (1 ∷ []) $
@@ -252,7 +252,7 @@ module _ {M : Type 1} (𝓤 : URA M) (H : Heap 𝓤) (A : Atoms 𝓤) (W : Given
         stored-part known₂ r (subst (λ (us : List Val). Is E r us) (LL.tells U.the-type U′.the-laws r (w ∷ []) is′) is′)
         (us .1 .1 .1 .0) (us .1 .1 .1 .1 .0) (us .1 .1 .1 .1 .1 .1 .0) e2 e3 e5 (said (flatWords (now x4)) e-f)))))))
 
-    begun : Triple 𝓤 (C #records·flatten) (Flatten 𝓤 H A mem run) → Triple 𝓤 (C #timed·core·turn) (Words 𝓤 H A mem run) → Triple 𝓤 (C #records·put)
+    begun : Triple 𝓤 (C #records·flatten) (Flatten 𝓤 H A mem run) → Triple 𝓤 (C #calendar_calls·core·turn) (Words 𝓤 H A mem run) → Triple 𝓤 (C #records·put)
         (Put 𝓤 H A mem run)
         → Sq W (At (‵ (froom S′.mir l11 0)) (‵ (froom U′.mir l12 0))
         (Toks ++ slices 𝓤 params κs given))
@@ -268,7 +268,7 @@ module _ {M : Type 1} (𝓤 : URA M) (H : Heap 𝓤) (A : Atoms 𝓤) (W : Given
 
   walk : (C : Calls 𝓤 H) (Λ : Loops 𝓤 H) → FmC 𝓤 H (W .laws) C
       → Triple 𝓤 (C #records·flatten) (Flatten 𝓤 H A mem run)
-      → Triple 𝓤 (C #timed·core·turn) (Words 𝓤 H A mem run)
+      → Triple 𝓤 (C #calendar_calls·core·turn) (Words 𝓤 H A mem run)
       → Triple 𝓤 (C #records·put) (Put 𝓤 H A mem run)
       → ent 𝓤 (onEntry 𝓤 H A turn.signature κs qs given (values params κs given)) (WpFn 𝓤 H C Λ code.function (row params κs given) Post)
   walk C Λ fm known₀ known₁ known₂ =
@@ -285,7 +285,7 @@ module _ {M : Type 1} (𝓤 : URA M) (H : Heap 𝓤) (A : Atoms 𝓤) (W : Given
 turn-meets : {M : Type 1} (𝓤 : URA M) (H : Heap 𝓤) (A : Atoms 𝓤) (W : Given 𝓤 H A) (mem : Memory → SProp 𝓤) (run : Routine → Fun 𝓤)
     (𝓣 : Tables 𝓤 H)
     → Triple 𝓤 (𝓣 .C #records·flatten) (Flatten 𝓤 H A mem run)
-    → Triple 𝓤 (𝓣 .C #timed·core·turn) (Words 𝓤 H A mem run)
+    → Triple 𝓤 (𝓣 .C #calendar_calls·core·turn) (Words 𝓤 H A mem run)
     → Triple 𝓤 (𝓣 .C #records·put) (Put 𝓤 H A mem run)
     → Meets 𝓤 H A turn.signature (WpFn 𝓤 H (𝓣 .C) (𝓣 .Λ) code.function) (turn.spec 𝓤 H A mem run)
 turn-meets 𝓤 H A W mem run 𝓣 known₀ known₁ known₂ =
@@ -311,5 +311,6 @@ rolwyddac-turn-at-spec 𝓤 H 𝓜 𝓖 𝓡 =
     (tables 𝓤 H 𝓜 𝓡 code.env .C) (tables 𝓤 H 𝓜 𝓡 code.env .Λ) #calls·turn code.function (code.unfolded 𝓤 H 𝓜 𝓡)
     (turn-meets 𝓤 H (𝓖 .A) (givenOf 𝓤 H 𝓜 𝓖) (𝓜 .mem) (𝓡 .run) (tablesOf 𝓤 H 𝓜 (tables 𝓤 H 𝓜 𝓡 code.env))
     (cited 𝓤 H (Flatten 𝓤 H (𝓖 .A) (𝓜 .mem) (𝓡 .run)) 𝓜 𝓡 code.env #records·flatten flatten-def.routine code.calls-records·flatten (flatten-thm.met 𝓤 H 𝓜 𝓖 𝓡))
-    (cited 𝓤 H (Words 𝓤 H (𝓖 .A) (𝓜 .mem) (𝓡 .run)) 𝓜 𝓡 code.env #timed·core·turn words-def.routine code.calls-timed·core·turn (words-thm.met 𝓤 H 𝓜 𝓖 𝓡))
+    (cited 𝓤 H (Words 𝓤 H (𝓖 .A) (𝓜 .mem) (𝓡 .run)) 𝓜 𝓡 code.env #calendar_calls·core·turn words-def.routine code.calls-calendar-calls·core·turn
+    (words-thm.met 𝓤 H 𝓜 𝓖 𝓡))
     (cited 𝓤 H (Put 𝓤 H (𝓖 .A) (𝓜 .mem) (𝓡 .run)) 𝓜 𝓡 code.env #records·put put-def.routine code.calls-records·put (put-thm.met 𝓤 H 𝓜 𝓖 𝓡)))

@@ -41,7 +41,7 @@ use denote.Triple.Walked.{says, Stays, stay-dropped, gave-slice, walkOf, goes-dr
 use denote.Exit.{yes}
 use Rattle.machine.specs.Machine.{stateOf}
 use Rattle.engine.specs.Calls.{answer}
-use Rattle.records.specs.Records.{flatWords, Carries}
+use Rattle.records.specs.Records.{flatWords, Flattens}
 use Rattle.records.specs.declared.Progress.{Progress}
 use Rattle.records.specs.declared.Flat.{Flat}
 use Rattle.records.proofs.Locals.{rooms, holds, free-all}
@@ -401,7 +401,7 @@ module _ {M : Type 1} (𝓤 : URA M) (H : Heap 𝓤) (A : Atoms 𝓤) (W : Given
         x8)))) ∷ []
 
     worded : Triple 𝓤 (C #wire·inbox·receive) (Words 𝓤 H A mem run′)
-        → (f : Flat) → Is F f (low f ∷ []) → Carries f (flatWords (now x4))
+        → (f : Flat) → Is F f (low f ∷ []) → Flattens f (flatWords (now x4))
         → Sq W (At (‵ (fat fullShare S′.mir l13 0 (low f))) (‵ (flft κ0 q0) ∷ ‵ (flft κ1 q1) ∷ ‵ (flft κ2 q2) ∷ ‵ (flft κ3 q3) ∷ ‵ (flft κ4 q4) ∷ ‵ (flft κ5
         q5) ∷ ‵ (flft κ6 q6) ∷ ‵ (flft κ7 q7) ∷ ‵ (flft κ8 q8) ∷ ‵ (ShrSlice (named 0) κ0 u8 .own x0 (slice x0 ∷ [])) ∷ ‵ (ShrSlice (named 1) κ1 u32 .own x1
         (slice x1 ∷ [])) ∷ ‵ (ShrSlice (named 2) κ2 u32 .own x2 (slice x2 ∷ [])) ∷ ‵ (MutSlice (named 3) κ3 u32 .own x3 (slice x3 ∷ [])) ∷ ‵ (MutSlice (named
@@ -443,10 +443,10 @@ module _ {M : Type 1} (𝓤 : URA M) (H : Heap 𝓤) (A : Atoms 𝓤) (W : Given
         await ! tt $ pick ! (λ r. split ! $ move ! (1 ∷ []) $
         use1 W (some (λ (us : Unit {0} × (Unit {0} × (Unit {0} × (Unit {0} × (Unit {0} × (List ℕ × (Unit {0} × (List ℕ × (Unit {0} × (Unit {0} × (List ℕ ×
         (List ℕ × Unit {0})))))))))))). sepAll 𝓤 (Lasts us) ⊛ raw
-        (fact 𝓤 ((l : List ℕ) → Carries f l → Said r (us .1 .1 .1 .1 .1 .0) (us .1 .1 .1 .1 .1 .1 .1 .0) (us .1 .1 .1 .1 .1 .1 .1 .1 .1 .1 .0) (us .1 .1 .1
+        (fact 𝓤 ((l : List ℕ) → Flattens f l → Said r (us .1 .1 .1 .1 .1 .0) (us .1 .1 .1 .1 .1 .1 .1 .0) (us .1 .1 .1 .1 .1 .1 .1 .1 .1 .1 .0) (us .1 .1 .1
         .1 .1 .1 .1 .1 .1 .1 .1 .0) l)))) (id⊢ 𝓤 _) $
         pick ! (λ us. split ! $ move ! (1 ∷ []) $
-        heard ! ((l : List ℕ) → Carries f l → Said r (us .1 .1 .1 .1 .1 .0) (us .1 .1 .1 .1 .1 .1 .1 .0) (us .1 .1 .1 .1 .1 .1 .1 .1 .1 .1 .0) (us .1 .1 .1
+        heard ! ((l : List ℕ) → Flattens f l → Said r (us .1 .1 .1 .1 .1 .0) (us .1 .1 .1 .1 .1 .1 .1 .0) (us .1 .1 .1 .1 .1 .1 .1 .1 .1 .1 .0) (us .1 .1 .1
         .1 .1 .1 .1 .1 .1 .1 .1 .0) l) (λ said.
         splits ! (Lasts us) $ move ! (6 ∷ []) $ split ! $ move ! (1 ∷ []) $ feqL ! (λ e3. move ! (5 ∷ []) $ split ! $ move ! (1 ∷ []) $ feqL ! (λ e5. move !
         (3 ∷ []) $ split ! $ move ! (1 ∷ []) $ feqL ! (λ e7. move ! (3 ∷ []) $ split ! $ move ! (1 ∷ []) $ feqL ! (λ e8.

@@ -1,5 +1,5 @@
 -- `rolwyddac_fresh_both` meets its contract: a walk of its MIR, by hand. `core::fresh` is called on the number of the records' words and all else
--- that was lent, and `clear` on the records of each office. All that the proof knows of the two is that they meet their contracts. Assumes nothing.
+-- that was lent, and `clear` on the records of each tenant. All that the proof knows of the two is that they meet their contracts. Assumes nothing.
 use mathlib.Core.Path.{_≡_, refl, sym, ap, _∙_}
 use Prim.Native.Nat.{ℕ, _*_, _<_, _^_}
 use mathlib.Core.List.{List, [], _∷_, _++_}
@@ -36,8 +36,8 @@ use denote.Triple.Table.{entered, cited}
 use denote.Triple.Walked.{says, Stays, walkOf, ends-at, walked, walk-meets}
 use Rattle.machine.specs.Machine.{stateOf}
 use Rattle.engine.specs.Calls.{answer}
-use Rattle.tenants.specs.Offices.{rigOf, sourcesOf}
-use Rattle.sharing.specs.Calls.{freshRigCall}
+use Rattle.tenants.specs.Tenants.{sharingOf, sourcesOf}
+use Rattle.sharing.specs.Calls.{freshSharingCall}
 use Rattle.records.specs.Records.{flatWords}
 use Rattle.records.specs.declared.Progress.{Progress}
 use Rattle.records.proofs.Laws.{words-fit}
@@ -140,8 +140,8 @@ module _ {M : Type 1} (𝓤 : URA M) (H : Heap 𝓤) (A : Atoms 𝓤) (W : Given
       (y11 : List ℕ) → r < 2 ^ 32
       → length y2 ≡ length (now x2) → length y3 ≡ length (now x3) → length y4 ≡ length (now x4) → length y5 ≡ length (now x5) → length y7 ≡ length (now x7)
       → length y8 ≡ length (now x8) → length y9 ≡ length (now x9) → length y10 ≡ length (now x10) → length y11 ≡ length (now x11)
-      → answer r (rigOf (stateOf y2 y3 (flatWords y4) y5) (stateOf y7 y8 (flatWords y9) y10) y11)
-      ≡ freshRigCall (now x0) route (sourcesOf (now x1) (now x6)) (rigOf (stateOf (now x2) (now x3) (flatWords (now x4)) (now x5))
+      → answer r (sharingOf (stateOf y2 y3 (flatWords y4) y5) (stateOf y7 y8 (flatWords y9) y10) y11)
+      ≡ freshSharingCall (now x0) route (sourcesOf (now x1) (now x6)) (sharingOf (stateOf (now x2) (now x3) (flatWords (now x4)) (now x5))
       (stateOf (now x7) (now x8) (flatWords (now x9)) (now x10)) (now x11))
       → ent 𝓤 (⋆ 𝓤 H A (sepAll 𝓤 Lives ∷ ‵ (flft κ4 q4) ∷ ‵ (flft κ9 q9) ∷ ‵ (finally u32 (x2 .name) y2) ∷ ‵ (finally u32 (x3 .name) y3)
       ∷ ‵ (finally R (x4 .name) y4) ∷ ‵ (finally u8 (x5 .name) y5) ∷ ‵ (finally u32 (x7 .name) y7) ∷ ‵ (finally u32 (x8 .name) y8)
@@ -161,8 +161,8 @@ module _ {M : Type 1} (𝓤 : URA M) (H : Heap 𝓤) (A : Atoms 𝓤) (W : Given
   -- what the call over the other areas says, for these words of records
   abbrev Said : ℕ → List ℕ → List ℕ → List ℕ → List ℕ → List ℕ → List ℕ → List ℕ → List ℕ → List ℕ → Type 0
   Said r y2 y3 y5 y7 y8 y10 y11 l m =
-      answer r (rigOf (stateOf y2 y3 (zerosAfter l r) y5) (stateOf y7 y8 (zerosAfter m r) y10) y11)
-      ≡ freshRigCall (now x0) route (sourcesOf (now x1) (now x6)) (rigOf (stateOf (now x2) (now x3) l (now x5)) (stateOf (now x7) (now x8) m (now x10))
+      answer r (sharingOf (stateOf y2 y3 (zerosAfter l r) y5) (stateOf y7 y8 (zerosAfter m r) y10) y11)
+      ≡ freshSharingCall (now x0) route (sourcesOf (now x1) (now x6)) (sharingOf (stateOf (now x2) (now x3) l (now x5)) (stateOf (now x7) (now x8) m (now x10))
       (now x11))
 
   module _ (C : Calls 𝓤 H) (Λ : Loops 𝓤 H) (fm : FmC 𝓤 H (W .laws) C)
@@ -214,8 +214,8 @@ module _ {M : Type 1} (𝓤 : URA M) (H : Heap 𝓤) (A : Atoms 𝓤) (W : Given
         forgets ! 4 (((_, _), _) ∷ ((_, _), _) ∷ ((_, _), _) ∷ ((_, _), _) ∷ []) refl $
         sorts ! 4 74 (keep ! (4 ∷ 2 ∷ 0 ∷ 5 ∷ 6 ∷ 3 ∷ 7 ∷ 8 ∷ 9 ∷ 1 ∷ 10 ∷ 11 ∷ [])) $ turned ! 37 $
         free-all ! _ $ by ! (exits r y2 y3 y4 y5 y7 y8 y9 y10 y11 fits e2 e3 e4 e5 e7 e8 e9 e10 e11
-        (ap (λ (l : List ℕ). answer r (rigOf (stateOf y2 y3 l y5) (stateOf y7 y8 (flatWords y9) y10) y11)) (ap (λ (l : List Progress). flatWords l) put4
-        ∙ cleared-after (now x4) r) ∙ ap (λ (l : List ℕ). answer r (rigOf (stateOf y2 y3 (zerosAfter (flatWords (now x4)) r) y5) (stateOf y7 y8 l y10) y11))
+        (ap (λ (l : List ℕ). answer r (sharingOf (stateOf y2 y3 l y5) (stateOf y7 y8 (flatWords y9) y10) y11)) (ap (λ (l : List Progress). flatWords l) put4
+        ∙ cleared-after (now x4) r) ∙ ap (λ (l : List ℕ). answer r (sharingOf (stateOf y2 y3 (zerosAfter (flatWords (now x4)) r) y5) (stateOf y7 y8 l y10) y11))
         (ap (λ (l : List Progress). flatWords l) put9 ∙ cleared-after (now x9) r) ∙ said))))
 
     begun : Triple 𝓤 (C #sharing·core·fresh) (Words 𝓤 H A mem run) → Triple 𝓤 (C #records·clear) (Clear 𝓤 H A mem run)

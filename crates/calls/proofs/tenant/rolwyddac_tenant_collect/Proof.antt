@@ -1,4 +1,4 @@
--- `rolwyddac_tenant_collect` meets its contract: a walk of its MIR, by hand. `flatten` is called on the records of each office, and `core::collect` on
+-- `rolwyddac_tenant_collect` meets its contract: a walk of its MIR, by hand. `flatten` is called on the records of each tenant, and `core::collect` on
 -- their words and all that was lent. All that the proof knows of the two is that they meet their contracts. Assumes nothing.
 use mathlib.Core.Path.{_≡_, refl, ap}
 use Prim.Native.Nat.{ℕ, _<_, _^_}
@@ -37,9 +37,9 @@ use denote.Triple.Table.{entered, cited}
 use denote.Triple.Walked.{says, Stays, walkOf, ends-at, walked, walk-meets}
 use Rattle.machine.specs.Machine.{stateOf}
 use Rattle.engine.specs.Calls.{answer}
-use Rattle.tenants.specs.Offices.{lentOf}
+use Rattle.tenants.specs.Tenants.{tenantAreas}
 use Rattle.sharing.specs.Calls.{collectCallFor}
-use Rattle.records.specs.Records.{flatWords, Carries}
+use Rattle.records.specs.Records.{flatWords, Flattens}
 use Rattle.records.specs.declared.Progress.{Progress}
 use Rattle.records.specs.declared.Flat.{Flat}
 use Rattle.records.proofs.Locals.{rooms, holds, free-all}
@@ -94,7 +94,7 @@ module _ {M : Type 1} (𝓤 : URA M) (H : Heap 𝓤) (A : Atoms 𝓤) (W : Given
     (κ5 : Lft) (q5 : Share) (x5 : RefT (List ℕ)) (g5 : Room u8 (length (now x5)))
     (κ6 : Lft) (q6 : Share) (x6 : RefT (List ℕ)) (g6 : Room u32 (length (now x6)))
     (κ7 : Lft) (q7 : Share) (x7 : RefT (List Progress)) (g7 : Room R (length (now x7)))
-    (office : ℕ) (office-fits : office < 2 ^ 32)
+    (tenant : ℕ) (tenant-fits : tenant < 2 ^ 32)
     (κ8 : Lft) (q8 : Share) (x8 : RefT (List ℕ)) (g8 : Room u32 (length (now x8)))
     (bounds : AllOutlive 9 (collect.signature .outlives) (κ0, (κ1, (κ2, (κ3, (κ4, (κ5, (κ6, (κ7, (κ8, tt)))))))))) where
   -- the lifetimes, all of them and those that the call over words is lent; the arguments, f and g being the records' words
@@ -111,10 +111,10 @@ module _ {M : Type 1} (𝓤 : URA M) (H : Heap 𝓤) (A : Atoms 𝓤) (W : Given
   qw = (q0, (q1, (q2, (q3, (q5, (q6, (q8, tt)))))))
 
   abbrev given : Lent κs params
-  given = (x0, (route, (x1, (x2, (x3, (x4, (x5, (x6, (x7, (office, (x8, tt)))))))))))
+  given = (x0, (route, (x1, (x2, (x3, (x4, (x5, (x6, (x7, (tenant, (x8, tt)))))))))))
 
   abbrev given-words : Flat → Flat → Lent κw in-words
-  given-words f g = (x0, (route, (x1, (x2, (x3, (f, (x5, (x6, (g, (office, (x8, tt)))))))))))
+  given-words f g = (x0, (route, (x1, (x2, (x3, (f, (x5, (x6, (g, (tenant, (x8, tt)))))))))))
 
   abbrev entry : walkOf 𝓤 H A collect.ended stayed (collect.clauses 𝓤 H A mem run) .Ghost
   entry = ((κs, qs, bounds, given, values params κs given), tt)
@@ -138,7 +138,8 @@ module _ {M : Type 1} (𝓤 : URA M) (H : Heap 𝓤) (A : Atoms 𝓤) (W : Given
   exits : (r : ℕ) (y8 : List ℕ) → r < 2 ^ 32
       → length y8 ≡ length (now x8)
       → answer r y8
-      ≡ collectCallFor (now x0) route (now x1) office (lentOf (stateOf (now x2) (now x3) (flatWords (now x4)) (now x5)) (now x6)) (flatWords (now x7)) (now x8)
+      ≡ collectCallFor (now x0) route (now x1) tenant (tenantAreas (stateOf (now x2) (now x3) (flatWords (now x4)) (now x5)) (now x6)) (flatWords (now x7))
+      (now x8)
       → ent 𝓤 (⋆ 𝓤 H A (sepAll 𝓤 Lives ∷ ‵ (flft κ4 q4) ∷ ‵ (flft κ7 q7) ∷ ‵ (finally u32 (x8 .name) y8) ∷ [])) (Post (vint w32 r))
   exits r y8 fits e8 said =
       qed W (sepAll 𝓤 Lives ∷ ‵ (flft κ4 q4) ∷ ‵ (flft κ7 q7) ∷ ‵ (finally u32 (x8 .name) y8) ∷ []) ∵
@@ -167,7 +168,7 @@ module _ {M : Type 1} (𝓤 : URA M) (H : Heap 𝓤) (A : Atoms 𝓤) (W : Given
         (rooms 𝓤 ((word, l0) ∷ []) more))
 
     worded : Triple 𝓤 (C #sharing·core·collect) (Words 𝓤 H A mem run)
-        → (f : Flat) → Is F f (low f ∷ []) → Carries f (flatWords (now x4)) → (g : Flat) → Is F g (low g ∷ []) → Carries g (flatWords (now x7))
+        → (f : Flat) → Is F f (low f ∷ []) → Flattens f (flatWords (now x4)) → (g : Flat) → Is F g (low g ∷ []) → Flattens g (flatWords (now x7))
         → Sq W (At (‵ (fat fullShare S′.mir l12 0 (low f))) (‵ (fat fullShare S′.mir l13 0 (low g))) (Toks ++ slices 𝓤 in-words κw (given-words f g)))
         (runs C Λ En mir′.t-3 (atRet En Post))
     worded known₁ f is-f e-f g is-g e-g =
@@ -175,7 +176,7 @@ module _ {M : Type 1} (𝓤 : URA M) (H : Heap 𝓤) (A : Atoms 𝓤) (W : Given
         owned ! u32 (Is u32) (uint-makes 𝓤 H A W w32) route _ (refl, route-fits) $
         owned ! F (Is F) (LL.makes S.the-type S′.the-plain 𝓤 H A) f _ is-f $
         owned ! F (Is F) (LL.makes S.the-type S′.the-plain 𝓤 H A) g _ is-g $
-        owned ! u32 (Is u32) (uint-makes 𝓤 H A W w32) office _ (refl, office-fits) $
+        owned ! u32 (Is u32) (uint-makes 𝓤 H A W w32) tenant _ (refl, tenant-fits) $
         move ! (51 ∷ 0 ∷ 1 ∷ 50 ∷ 49 ∷ 2 ∷ 48 ∷ 47 ∷ 46 ∷ 3 ∷ 45 ∷ []) $ fjoins ! (owning in-words κw (given-words f g)) $
         move ! (41 ∷ 39 ∷ 38 ∷ 36 ∷ 35 ∷ 34 ∷ 33 ∷ []) $ joins ! Lives $
         use2 W (raw (Words 𝓤 H A mem run .pre (to-words f g))) (goes-words f g (e-f .room, e-g .room)) $
@@ -183,8 +184,8 @@ module _ {M : Type 1} (𝓤 : URA M) (H : Heap 𝓤) (A : Atoms 𝓤) (W : Given
         (and-then ! (local ! 23 refl) (and-then ! (local ! 21 refl) (and-then ! (local ! 7 refl) (and-then ! (local ! 17 refl) (and-then ! (local ! 15 refl)
         (and-then ! (local ! 5 refl) (and-then ! (local ! 11 refl) (and-then ! (local ! 1 refl) (no-more !)))))))))))) (λ w.
         comes-back in-words κw (given-words f g) ! u32 Lives w _ (ensured 𝓤 H A words.ended (words.clauses 𝓤 H A mem run) κw (given-words f g) tt)
-        (λ r us. (l m : List ℕ) → Carries f l → Carries g m → answer r (us .1 .1 .1 .1 .1 .1 .1 .1 .1 .1 .0) ≡ collectCallFor (now x0) route (now x1) office
-        (lentOf (stateOf (now x2) (now x3) l (now x5)) (now x6)) m (now x8))
+        (λ r us. (l m : List ℕ) → Flattens f l → Flattens g m → answer r (us .1 .1 .1 .1 .1 .1 .1 .1 .1 .1 .0) ≡ collectCallFor (now x0) route (now x1) tenant
+        (tenantAreas (stateOf (now x2) (now x3) l (now x5)) (now x6)) m (now x8))
         (id⊢ 𝓤 _) (λ r. id⊢ 𝓤 _) (λ r us said.
         split ! $ move ! (1 ∷ []) $ feqL ! (λ e8. move ! (11 ∷ []) $ split ! $ move ! (1 ∷ []) $
         peeks ! u32 (Is u32) (shows 𝓤 H A u32) r (w ∷ []) (λ is′.
@@ -217,7 +218,7 @@ module _ {M : Type 1} (𝓤 : URA M) (H : Heap 𝓤) (A : Atoms 𝓤) (W : Given
       enter ! C Λ code.function (row params κs given) _ $
       allots ! _ (λ l0 l1 l2 l3 l4 l5 l6 l7 l8 l9 l10 l11 l12 l13 l14 l15.
       takes-in params κs given (l1 ∷ l2 ∷ l3 ∷ l4 ∷ l5 ∷ l6 ∷ l7 ∷ l8 ∷ l9 ∷ l10 ∷ l11 ∷ []) !
-      (g0 .0, (route-fits, (g1 .0, (g2 .0, (g3 .0, (g4 .0, (g5 .0, (g6 .0, (g7 .0, (office-fits, (g8 .0, tt))))))))))) _ _ $
+      (g0 .0, (route-fits, (g1 .0, (g2 .0, (g3 .0, (g4 .0, (g5 .0, (g6 .0, (g7 .0, (tenant-fits, (g8 .0, tt))))))))))) _ _ $
       fronts ! 24 8 $ turned ! 4 $ move ! (33 ∷ []) $ fsplits ! (owning params κs given) $ move ! (43 ∷ []) $
       splits ! Toks $
       sorts ! 20 32 (keep ! (8 ∷ 7 ∷ 6 ∷ 5 ∷ 4 ∷ 3 ∷ 2 ∷ 1 ∷ 0 ∷ 19 ∷ 17 ∷ 16 ∷ 15 ∷ 14 ∷ 13 ∷ 12 ∷ 11 ∷ 9 ∷ [])) $

@@ -1,4 +1,4 @@
--- `rolwyddac_tenant_deliver` meets its contract: a walk of its MIR, by hand. `flatten` is called on the records of each office, and `core::deliver` on
+-- `rolwyddac_tenant_deliver` meets its contract: a walk of its MIR, by hand. `flatten` is called on the records of each tenant, and `core::deliver` on
 -- their words and all that was lent. All that the proof knows of the two is that they meet their contracts. Assumes nothing.
 use mathlib.Core.Path.{_≡_, refl, ap}
 use Prim.Native.Nat.{ℕ, _<_, _^_}
@@ -37,9 +37,9 @@ use denote.Triple.Table.{entered, cited}
 use denote.Triple.Walked.{says, Stays, walkOf, ends-at, walked, walk-meets}
 use Rattle.machine.specs.Machine.{stateOf}
 use Rattle.engine.specs.Calls.{answer}
-use Rattle.tenants.specs.Offices.{lentOf}
+use Rattle.tenants.specs.Tenants.{tenantAreas}
 use Rattle.sharing.specs.Calls.{deliverCallFor}
-use Rattle.records.specs.Records.{flatWords, Carries}
+use Rattle.records.specs.Records.{flatWords, Flattens}
 use Rattle.records.specs.declared.Progress.{Progress}
 use Rattle.records.specs.declared.Flat.{Flat}
 use Rattle.records.proofs.Locals.{rooms, holds, free-all}
@@ -93,7 +93,7 @@ module _ {M : Type 1} (𝓤 : URA M) (H : Heap 𝓤) (A : Atoms 𝓤) (W : Given
     (κ5 : Lft) (q5 : Share) (x5 : RefT (List ℕ)) (g5 : Room u8 (length (now x5)))
     (κ6 : Lft) (q6 : Share) (x6 : RefT (List ℕ)) (g6 : Room u32 (length (now x6)))
     (κ7 : Lft) (q7 : Share) (x7 : RefT (List Progress)) (g7 : Room R (length (now x7)))
-    (office : ℕ) (office-fits : office < 2 ^ 32)
+    (tenant : ℕ) (tenant-fits : tenant < 2 ^ 32)
     (message : ℕ) (message-fits : message < 2 ^ 32)
     (bounds : AllOutlive 8 (deliver.signature .outlives) (κ0, (κ1, (κ2, (κ3, (κ4, (κ5, (κ6, (κ7, tt))))))))) where
   -- the lifetimes, all of them and those that the call over words is lent; the arguments, f and g being the records' words
@@ -110,10 +110,10 @@ module _ {M : Type 1} (𝓤 : URA M) (H : Heap 𝓤) (A : Atoms 𝓤) (W : Given
   qw = (q0, (q1, (q2, (q3, (q5, (q6, tt))))))
 
   abbrev given : Lent κs params
-  given = (x0, (route, (x1, (x2, (x3, (x4, (x5, (x6, (x7, (office, (message, tt)))))))))))
+  given = (x0, (route, (x1, (x2, (x3, (x4, (x5, (x6, (x7, (tenant, (message, tt)))))))))))
 
   abbrev given-words : Flat → Flat → Lent κw in-words
-  given-words f g = (x0, (route, (x1, (x2, (x3, (f, (x5, (x6, (g, (office, (message, tt)))))))))))
+  given-words f g = (x0, (route, (x1, (x2, (x3, (f, (x5, (x6, (g, (tenant, (message, tt)))))))))))
 
   abbrev entry : walkOf 𝓤 H A deliver.ended stayed (deliver.clauses 𝓤 H A mem run) .Ghost
   entry = ((κs, qs, bounds, given, values params κs given), tt)
@@ -136,8 +136,9 @@ module _ {M : Type 1} (𝓤 : URA M) (H : Heap 𝓤) (A : Atoms 𝓤) (W : Given
 
   exits : (r : ℕ) (y5 : List ℕ) → r < 2 ^ 32
       → length y5 ≡ length (now x5)
-      → answer r (lentOf (stateOf (now x2) (now x3) (flatWords (now x4)) y5) (now x6))
-      ≡ deliverCallFor (now x0) route (now x1) office (lentOf (stateOf (now x2) (now x3) (flatWords (now x4)) (now x5)) (now x6)) (flatWords (now x7)) message
+      → answer r (tenantAreas (stateOf (now x2) (now x3) (flatWords (now x4)) y5) (now x6))
+      ≡ deliverCallFor (now x0) route (now x1) tenant (tenantAreas (stateOf (now x2) (now x3) (flatWords (now x4)) (now x5)) (now x6)) (flatWords (now x7))
+      message
       → ent 𝓤 (⋆ 𝓤 H A (sepAll 𝓤 Lives ∷ ‵ (flft κ4 q4) ∷ ‵ (flft κ7 q7) ∷ ‵ (finally u8 (x5 .name) y5) ∷ [])) (Post (vint w32 r))
   exits r y5 fits e5 said =
       qed W (sepAll 𝓤 Lives ∷ ‵ (flft κ4 q4) ∷ ‵ (flft κ7 q7) ∷ ‵ (finally u8 (x5 .name) y5) ∷ []) ∵
@@ -166,7 +167,7 @@ module _ {M : Type 1} (𝓤 : URA M) (H : Heap 𝓤) (A : Atoms 𝓤) (W : Given
         (rooms 𝓤 ((word, l0) ∷ []) more))
 
     worded : Triple 𝓤 (C #sharing·core·deliver) (Words 𝓤 H A mem run)
-        → (f : Flat) → Is F f (low f ∷ []) → Carries f (flatWords (now x4)) → (g : Flat) → Is F g (low g ∷ []) → Carries g (flatWords (now x7))
+        → (f : Flat) → Is F f (low f ∷ []) → Flattens f (flatWords (now x4)) → (g : Flat) → Is F g (low g ∷ []) → Flattens g (flatWords (now x7))
         → Sq W (At (‵ (fat fullShare S′.mir l12 0 (low f))) (‵ (fat fullShare S′.mir l13 0 (low g))) (Toks ++ slices 𝓤 in-words κw (given-words f g)))
         (runs C Λ En mir′.t-3 (atRet En Post))
     worded known₁ f is-f e-f g is-g e-g =
@@ -174,7 +175,7 @@ module _ {M : Type 1} (𝓤 : URA M) (H : Heap 𝓤) (A : Atoms 𝓤) (W : Given
         owned ! u32 (Is u32) (uint-makes 𝓤 H A W w32) route _ (refl, route-fits) $
         owned ! F (Is F) (LL.makes S.the-type S′.the-plain 𝓤 H A) f _ is-f $
         owned ! F (Is F) (LL.makes S.the-type S′.the-plain 𝓤 H A) g _ is-g $
-        owned ! u32 (Is u32) (uint-makes 𝓤 H A W w32) office _ (refl, office-fits) $
+        owned ! u32 (Is u32) (uint-makes 𝓤 H A W w32) tenant _ (refl, tenant-fits) $
         owned ! u32 (Is u32) (uint-makes 𝓤 H A W w32) message _ (refl, message-fits) $
         move ! (0 ∷ 1 ∷ 2 ∷ 50 ∷ 49 ∷ 3 ∷ 48 ∷ 47 ∷ 46 ∷ 4 ∷ 45 ∷ []) $ fjoins ! (owning in-words κw (given-words f g)) $
         move ! (39 ∷ 38 ∷ 36 ∷ 35 ∷ 34 ∷ 33 ∷ []) $
@@ -183,8 +184,8 @@ module _ {M : Type 1} (𝓤 : URA M) (H : Heap 𝓤) (A : Atoms 𝓤) (W : Given
         (and-then ! (local ! 23 refl) (and-then ! (local ! 21 refl) (and-then ! (local ! 7 refl) (and-then ! (local ! 1 refl) (and-then ! (local ! 15 refl)
         (and-then ! (local ! 5 refl) (and-then ! (local ! 11 refl) (and-then ! (local ! 9 refl) (no-more !)))))))))))) (λ w.
         comes-back in-words κw (given-words f g) ! u32 Lives w _ (ensured 𝓤 H A words.ended (words.clauses 𝓤 H A mem run) κw (given-words f g) tt)
-        (λ r us. (l m : List ℕ) → Carries f l → Carries g m → answer r (lentOf (stateOf (now x2) (now x3) l (us .1 .1 .1 .1 .1 .1 .0)) (now x6))
-        ≡ deliverCallFor (now x0) route (now x1) office (lentOf (stateOf (now x2) (now x3) l (now x5)) (now x6)) m message)
+        (λ r us. (l m : List ℕ) → Flattens f l → Flattens g m → answer r (tenantAreas (stateOf (now x2) (now x3) l (us .1 .1 .1 .1 .1 .1 .0)) (now x6))
+        ≡ deliverCallFor (now x0) route (now x1) tenant (tenantAreas (stateOf (now x2) (now x3) l (now x5)) (now x6)) m message)
         (id⊢ 𝓤 _) (λ r. id⊢ 𝓤 _) (λ r us said.
         move ! (4 ∷ []) $ split ! $ move ! (1 ∷ []) $ feqL ! (λ e5. move ! (11 ∷ []) $ split ! $ move ! (1 ∷ []) $
         peeks ! u32 (Is u32) (shows 𝓤 H A u32) r (w ∷ []) (λ is′.
@@ -217,7 +218,7 @@ module _ {M : Type 1} (𝓤 : URA M) (H : Heap 𝓤) (A : Atoms 𝓤) (W : Given
       enter ! C Λ code.function (row params κs given) _ $
       allots ! _ (λ l0 l1 l2 l3 l4 l5 l6 l7 l8 l9 l10 l11 l12 l13 l14 l15.
       takes-in params κs given (l1 ∷ l2 ∷ l3 ∷ l4 ∷ l5 ∷ l6 ∷ l7 ∷ l8 ∷ l9 ∷ l10 ∷ l11 ∷ []) !
-      (g0 .0, (route-fits, (g1 .0, (g2 .0, (g3 .0, (g4 .0, (g5 .0, (g6 .0, (g7 .0, (office-fits, (message-fits, tt))))))))))) _ _ $
+      (g0 .0, (route-fits, (g1 .0, (g2 .0, (g3 .0, (g4 .0, (g5 .0, (g6 .0, (g7 .0, (tenant-fits, (message-fits, tt))))))))))) _ _ $
       fronts ! 24 8 $ turned ! 4 $ move ! (33 ∷ []) $ fsplits ! (owning params κs given) $ move ! (43 ∷ []) $
       splits ! Toks $
       sorts ! 19 32 (keep ! (7 ∷ 6 ∷ 5 ∷ 4 ∷ 3 ∷ 2 ∷ 1 ∷ 0 ∷ 18 ∷ 16 ∷ 15 ∷ 14 ∷ 13 ∷ 12 ∷ 11 ∷ 10 ∷ [])) $

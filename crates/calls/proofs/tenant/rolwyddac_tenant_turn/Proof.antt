@@ -1,5 +1,5 @@
--- `rolwyddac_tenant_turn` meets its contract: a walk of its MIR, by hand. `flatten` is called on the office's records, lent as `&` for the
--- call, and on the other's; `core::turn` on the words of both and all else that was lent; and `put` on the office's records and the one that
+-- `rolwyddac_tenant_turn` meets its contract: a walk of its MIR, by hand. `flatten` is called on the tenant's records, lent as `&` for the
+-- call, and on the other's; `core::turn` on the words of both and all else that was lent; and `put` on the tenant's records and the one that
 -- the turn made. All that the proof knows of them is that they meet their contracts. Assumes nothing.
 use mathlib.Core.Path.{_≡_, refl, ap, subst, _∙_}
 use Prim.Native.Nat.{ℕ, _<_, _^_}
@@ -38,9 +38,9 @@ use denote.Triple.Table.{entered, cited}
 use denote.Triple.Walked.{says, Stays, walkOf, ends-at, walked, walk-meets}
 use Rattle.machine.specs.Machine.{stateOf}
 use Rattle.engine.specs.Calls.{answer}
-use Rattle.tenants.specs.Offices.{lentOf}
+use Rattle.tenants.specs.Tenants.{tenantAreas}
 use Rattle.sharing.specs.Calls.{turnCallFor}
-use Rattle.records.specs.Records.{flatWords, Carries}
+use Rattle.records.specs.Records.{flatWords, Flattens}
 use Rattle.records.specs.declared.Progress.{Progress}
 use Rattle.records.specs.declared.Flat.{Flat}
 use Rattle.records.proofs.Locals.{rooms, holds, free-all}
@@ -104,7 +104,7 @@ module _ {M : Type 1} (𝓤 : URA M) (H : Heap 𝓤) (A : Atoms 𝓤) (W : Given
     (κ5 : Lft) (q5 : Share) (x5 : RefT (List ℕ)) (g5 : Room u8 (length (now x5)))
     (κ6 : Lft) (q6 : Share) (x6 : RefT (List ℕ)) (g6 : Room u32 (length (now x6)))
     (κ7 : Lft) (q7 : Share) (x7 : RefT (List Progress)) (g7 : Room R (length (now x7)))
-    (office : ℕ) (office-fits : office < 2 ^ 32)
+    (tenant : ℕ) (tenant-fits : tenant < 2 ^ 32)
     (processor : ℕ) (processor-fits : processor < 2 ^ 32)
     (bounds : AllOutlive 8 (turn.signature .outlives) (κ0, (κ1, (κ2, (κ3, (κ4, (κ5, (κ6, (κ7, tt))))))))) where
   -- the lifetimes, all of them and those that the call over words is lent; the arguments, f and g being the records' words
@@ -121,10 +121,10 @@ module _ {M : Type 1} (𝓤 : URA M) (H : Heap 𝓤) (A : Atoms 𝓤) (W : Given
   qw = (q0, (q1, (q2, (q3, (q5, (q6, tt))))))
 
   abbrev given : Lent κs params
-  given = (x0, (route, (x1, (x2, (x3, (x4, (x5, (x6, (x7, (office, (processor, tt)))))))))))
+  given = (x0, (route, (x1, (x2, (x3, (x4, (x5, (x6, (x7, (tenant, (processor, tt)))))))))))
 
   abbrev given-words : Flat → Flat → Lent κw in-words
-  given-words f g = (x0, (route, (x1, (x2, (x3, (f, (x5, (x6, (g, (office, (processor, tt)))))))))))
+  given-words f g = (x0, (route, (x1, (x2, (x3, (f, (x5, (x6, (g, (tenant, (processor, tt)))))))))))
 
   abbrev entry : walkOf 𝓤 H A turn.ended stayed (turn.clauses 𝓤 H A mem run) .Ghost
   entry = ((κs, qs, bounds, given, values params κs given), tt)
@@ -147,8 +147,9 @@ module _ {M : Type 1} (𝓤 : URA M) (H : Heap 𝓤) (A : Atoms 𝓤) (W : Given
 
   exits : (r : ℕ) (y2 : List ℕ) (y3 : List ℕ) (y4 : List Progress) (y5 : List ℕ) (y6 : List ℕ) → r < 2 ^ 32
       → length y2 ≡ length (now x2) → length y3 ≡ length (now x3) → length y4 ≡ length (now x4) → length y5 ≡ length (now x5) → length y6 ≡ length (now x6)
-      → answer r (lentOf (stateOf y2 y3 (flatWords y4) y5) y6)
-      ≡ turnCallFor (now x0) route (now x1) office (lentOf (stateOf (now x2) (now x3) (flatWords (now x4)) (now x5)) (now x6)) (flatWords (now x7)) processor
+      → answer r (tenantAreas (stateOf y2 y3 (flatWords y4) y5) y6)
+      ≡ turnCallFor (now x0) route (now x1) tenant (tenantAreas (stateOf (now x2) (now x3) (flatWords (now x4)) (now x5)) (now x6)) (flatWords (now x7))
+      processor
       → ent 𝓤 (⋆ 𝓤 H A (sepAll 𝓤 Lives ∷ ‵ (flft κ4 q4) ∷ ‵ (flft κ7 q7) ∷ ‵ (finally u32 (x2 .name) y2) ∷ ‵ (finally u32 (x3 .name) y3)
       ∷ ‵ (finally R (x4 .name) y4) ∷ ‵ (finally u8 (x5 .name) y5) ∷ ‵ (finally u32 (x6 .name) y6) ∷ [])) (Post (vint w32 r))
   exits r y2 y3 y4 y5 y6 fits e2 e3 e4 e5 e6 said =
@@ -165,8 +166,8 @@ module _ {M : Type 1} (𝓤 : URA M) (H : Heap 𝓤) (A : Atoms 𝓤) (W : Given
   -- what the call over words says, for these words of records
   abbrev Said : Turned → List ℕ → List ℕ → List ℕ → List ℕ → List ℕ → List ℕ → Type 0
   Said r y2 y3 y5 y6 l m =
-      answer (r .number) (lentOf (stateOf y2 y3 (recordsAfter l processor r) y5) y6)
-      ≡ turnCallFor (now x0) route (now x1) office (lentOf (stateOf (now x2) (now x3) l (now x5)) (now x6)) m processor
+      answer (r .number) (tenantAreas (stateOf y2 y3 (recordsAfter l processor r) y5) y6)
+      ≡ turnCallFor (now x0) route (now x1) tenant (tenantAreas (stateOf (now x2) (now x3) l (now x5)) (now x6)) m processor
 
   module _ (C : Calls 𝓤 H) (Λ : Loops 𝓤 H) (fm : FmC 𝓤 H (W .laws) C)
       (l0 l1 l2 l3 l4 l5 l6 l7 l8 l9 l10 l11 l12 l13 l14 l15 l16 l17 l18 l19 l20 l21 l22 l23 l24 l25 l26 l27 : ℕ) where
@@ -200,7 +201,7 @@ module _ {M : Type 1} (𝓤 : URA M) (H : Heap 𝓤) (A : Atoms 𝓤) (W : Given
     stored-part known₂ r is y2 y3 y5 y6 e2 e3 e5 e6 said =
         lends-on ! 42 2 0 refl refl refl refl refl (sub ! 0 refl (whole !)) (sub ! 1 refl (whole !)) (tt, tt) (tt, (tt, (record { fits = g4 .0 }, tt))) $
         move ! (57 ∷ 59 ∷ []) $ puts-at mem run κ4 q4 x4 ! fm known₂ (named 4) (r .number) processor (r .progress)
-        (number-fits r is) processor-fits (progress-is r is) (record-there-for (now x0) route (now x1) office (now x2) (now x3) (now x5) (now x6) (now x4)
+        (number-fits r is) processor-fits (progress-is r is) (record-there-for (now x0) route (now x1) tenant (now x2) (now x3) (now x5) (now x6) (now x4)
         (now x7) processor (r .number) _ said)
         (and-then ! (local ! 1 refl) (and-then ! (load ! (from ! (fld ! refl (stop !))) (look-in ! 27 (sub ! 0 refl (whole !))))
         (and-then ! (local ! 33 refl) (and-then ! (load ! (from ! (fld ! refl (stop !))) (look-in ! 27 (sub ! 1 refl (whole !)))) (no-more !))))) (λ y4 e4 put.
@@ -213,11 +214,11 @@ module _ {M : Type 1} (𝓤 : URA M) (H : Heap 𝓤) (A : Atoms 𝓤) (W : Given
         forget ! 28 refl $ forgets ! 2 (((_, _), _) ∷ ((_, _), _) ∷ ((_, _), _) ∷ []) refl $
         sorts ! 2 56 (keep ! (2 ∷ 0 ∷ 3 ∷ 4 ∷ 5 ∷ 1 ∷ 6 ∷ 7 ∷ [])) $ turned ! 28 $
         free-all ! _ $ by ! (exits (r .number) y2 y3 y4 y5 y6 (number-fits r is) e2 e3 e4 e5 e6
-        (ap (λ (l : List Progress). answer (r .number) (lentOf (stateOf y2 y3 (flatWords l) y5) y6)) put ∙ ap (λ (l : List ℕ). answer (r .number)
-        (lentOf (stateOf y2 y3 l y5) y6)) (stored-after (now x4) processor r) ∙ said)))
+        (ap (λ (l : List Progress). answer (r .number) (tenantAreas (stateOf y2 y3 (flatWords l) y5) y6)) put ∙ ap (λ (l : List ℕ). answer (r .number)
+        (tenantAreas (stateOf y2 y3 l y5) y6)) (stored-after (now x4) processor r) ∙ said)))
 
     worded : Triple 𝓤 (C #sharing·core·turn) (Words 𝓤 H A mem run) → Triple 𝓤 (C #records·put) (Put 𝓤 H A mem run)
-        → (f : Flat) → Is F f (low f ∷ []) → Carries f (flatWords (now x4)) → (g : Flat) → Is F g (low g ∷ []) → Carries g (flatWords (now x7))
+        → (f : Flat) → Is F f (low f ∷ []) → Flattens f (flatWords (now x4)) → (g : Flat) → Is F g (low g ∷ []) → Flattens g (flatWords (now x7))
         → Sq W (At (‵ (fat fullShare S′.mir l12 0 (low f))) (‵ (fat fullShare S′.mir l13 0 (low g))) (‵ (froom U′.mir l14 0)) (‵ (flft κ0 q0)
         ∷ ‵ (flft κ1 q1) ∷ ‵ (flft κ2 q2) ∷ ‵ (flft κ3 q3) ∷ ‵ (flft κ4 q4) ∷ ‵ (flft κ5 q5) ∷ ‵ (flft κ6 q6) ∷ ‵ (flft κ7 q7)
         ∷ ‵ (ShrSlice (named 0) κ0 u8 .own x0 (slice x0 ∷ [])) ∷ ‵ (ShrSlice (named 1) κ1 u32 .own x1 (slice x1 ∷ []))
@@ -233,7 +234,7 @@ module _ {M : Type 1} (𝓤 : URA M) (H : Heap 𝓤) (A : Atoms 𝓤) (W : Given
         owned ! u32 (Is u32) (uint-makes 𝓤 H A W w32) route _ (refl, route-fits) $
         owned ! F (Is F) (LL.makes S.the-type S′.the-plain 𝓤 H A) f _ is-f $
         owned ! F (Is F) (LL.makes S.the-type S′.the-plain 𝓤 H A) g _ is-g $
-        owned ! u32 (Is u32) (uint-makes 𝓤 H A W w32) office _ (refl, office-fits) $
+        owned ! u32 (Is u32) (uint-makes 𝓤 H A W w32) tenant _ (refl, tenant-fits) $
         owned ! u32 (Is u32) (uint-makes 𝓤 H A W w32) processor _ (refl, processor-fits) $
         move ! (0 ∷ 1 ∷ 2 ∷ 75 ∷ 74 ∷ 3 ∷ 72 ∷ 71 ∷ 70 ∷ 4 ∷ 69 ∷ []) $ fjoins ! (owning in-words κw (given-words f g)) $
         move ! (63 ∷ 62 ∷ 60 ∷ 59 ∷ 58 ∷ 57 ∷ []) $
@@ -242,7 +243,7 @@ module _ {M : Type 1} (𝓤 : URA M) (H : Heap 𝓤) (A : Atoms 𝓤) (W : Given
         (and-then ! (local ! 19 refl) (and-then ! (local ! 15 refl) (and-then ! (local ! 31 refl) (and-then ! (local ! 11 refl) (and-then ! (local ! 7 refl)
         (and-then ! (local ! 29 refl) (and-then ! (local ! 35 refl) (and-then ! (local ! 33 refl) (no-more !)))))))))))) (λ w.
         comes-back in-words κw (given-words f g) ! E Lives w _ (ensured 𝓤 H A words.ended (words.clauses 𝓤 H A mem run) κw (given-words f g) tt)
-        (λ r us. (l m : List ℕ) → Carries f l → Carries g m → Said r (us .1 .1 .1 .0) (us .1 .1 .1 .1 .0) (us .1 .1 .1 .1 .1 .1 .0) (us .1 .1 .1 .1 .1 .1 .1
+        (λ r us. (l m : List ℕ) → Flattens f l → Flattens g m → Said r (us .1 .1 .1 .0) (us .1 .1 .1 .1 .0) (us .1 .1 .1 .1 .1 .1 .0) (us .1 .1 .1 .1 .1 .1 .1
         .0) l m)
         (id⊢ 𝓤 _) (λ r. id⊢ 𝓤 _) (λ r us said.
         move ! (7 ∷ []) $ split ! $ move ! (1 ∷ []) $ feqL ! (λ e2. move ! (7 ∷ []) $ split ! $ move ! (1 ∷ []) $
@@ -282,7 +283,7 @@ module _ {M : Type 1} (𝓤 : URA M) (H : Heap 𝓤) (A : Atoms 𝓤) (W : Given
       enter ! C Λ code.function (row params κs given) _ $
       allots ! _ (λ l0 l1 l2 l3 l4 l5 l6 l7 l8 l9 l10 l11 l12 l13 l14 l15 l16 l17 l18 l19 l20 l21 l22 l23 l24 l25 l26 l27.
       takes-in params κs given (l1 ∷ l2 ∷ l3 ∷ l4 ∷ l5 ∷ l6 ∷ l7 ∷ l8 ∷ l9 ∷ l10 ∷ l11 ∷ []) !
-      (g0 .0, (route-fits, (g1 .0, (g2 .0, (g3 .0, (g4 .0, (g5 .0, (g6 .0, (g7 .0, (office-fits, (processor-fits, tt))))))))))) _ _ $
+      (g0 .0, (route-fits, (g1 .0, (g2 .0, (g3 .0, (g4 .0, (g5 .0, (g6 .0, (g7 .0, (tenant-fits, (processor-fits, tt))))))))))) _ _ $
       fronts ! 24 32 $ turned ! 16 $ move ! (57 ∷ []) $ fsplits ! (owning params κs given) $ move ! (67 ∷ []) $
       splits ! Toks $
       sorts ! 19 56 (keep ! (7 ∷ 6 ∷ 5 ∷ 4 ∷ 3 ∷ 2 ∷ 1 ∷ 0 ∷ 18 ∷ 16 ∷ 15 ∷ 14 ∷ 13 ∷ 12 ∷ 11 ∷ 10 ∷ [])) $

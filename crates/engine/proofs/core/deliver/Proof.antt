@@ -19,8 +19,8 @@ returns c =
     λ l h. lines.deliver-read (A .encoded .now) (A .route) (A .source .now) (stateOf (A .memories .now) (A .buffer .now) l (A .status .now)) (A .message)
     (opens .result .number) (opens .ensures .number) (c .if1 .taken)
 
-unfit-requires : tie.Need-unfit-requires
-unfit-requires c κs =
+refusal-of-areas-requires : tie.Need-refusal-of-areas-requires
+refusal-of-areas-requires c κs =
     let at-if1 = c .before .before .before .before in
     let at-open = at-if1 .before in
     let S = at-open .before .before .before .before .before .before .before in
@@ -33,19 +33,19 @@ same-length c = search needs
 
 returns-2 : tie.Need-returns-2
 returns-2 c =
-    let at-unfit = c .before in
-    let at-if1 = at-unfit .before .before .before .before .before in
+    let at-refusal-of-areas = c .before in
+    let at-if1 = at-refusal-of-areas .before .before .before .before .before in
     let at-open = at-if1 .before in
     let S = at-open .before .before .before .before .before .before .before in
     let opens = at-open .«open» in
     let if1 = at-if1 .if1 in
     let if2 = c .if2 in
-    let unfit = at-unfit .unfit in
+    let refusal-of-areas = at-refusal-of-areas .refusal-of-areas in
     let A = S .args in
     let p = planOf (opens .result .sizes .route) (opens .result .nest) in
     λ l h. lines.deliver-unfit (A .encoded .now) (A .route) (A .source .now) (stateOf (A .memories .now) (A .buffer .now) l (A .status .now)) (A .message) p
-    (opens .ensures .opened (if1 .left)) (unfit .result)
-    (unfit .ensures .0 l h) (if2 .taken)
+    (opens .ensures .opened (if1 .left)) (refusal-of-areas .result)
+    (refusal-of-areas .ensures .0 l h) (if2 .taken)
 
 hand-over-requires : tie.Need-hand-over-requires
 hand-over-requires c κs = search needs
@@ -57,20 +57,20 @@ returns-3 : tie.Need-returns-3
 returns-3 c =
     let at-hand-over = c .before .before in
     let at-if2 = at-hand-over .before .before in
-    let at-unfit = at-if2 .before in
-    let at-if1 = at-unfit .before .before .before .before .before in
+    let at-refusal-of-areas = at-if2 .before in
+    let at-if1 = at-refusal-of-areas .before .before .before .before .before in
     let at-open = at-if1 .before in
     let S = at-open .before .before .before .before .before .before .before in
     let opens = at-open .«open» in
     let if1 = at-if1 .if1 in
     let if2 = at-if2 .if2 in
-    let unfit = at-unfit .unfit in
+    let refusal-of-areas = at-refusal-of-areas .refusal-of-areas in
     let hand-over = at-hand-over .hand-over in
     let A = S .args in
     let p = planOf (opens .result .sizes .route) (opens .result .nest) in
     λ l h. lines.deliver-over (A .encoded .now) (A .route) (A .source .now) (stateOf (A .memories .now) (A .buffer .now) l (A .status .now)) (A .message) p
-    (opens .ensures .opened (if1 .left)) (unfit .result)
-    (unfit .ensures .0 l h) (if2 .left) (hand-over .result) (hand-over .last .0) (hand-over .ensures)
+    (opens .ensures .opened (if1 .left)) (refusal-of-areas .result)
+    (refusal-of-areas .ensures .0 l h) (if2 .left) (hand-over .result) (hand-over .last .0) (hand-over .ensures)
 
 pub deliver-spec : {M : Type 1} → statement M
 deliver-spec =
@@ -78,7 +78,7 @@ deliver-spec =
     (tie.spec
     open-requires
     returns
-    unfit-requires
+    refusal-of-areas-requires
     same-length
     returns-2
     hand-over-requires

@@ -17,8 +17,8 @@ returns c =
     taken-refused (chunkOf (at4 .args .chunk) (at4 .args .chunks) (at4 .args .words .now)) (at4 .args .area .now) (at4 .args .mask)
     (c .before .number-of .result) (c .before .number-of .ensures) (c .if1 .taken)
 
-place-requires : tie.Need-place-requires
-place-requires c κs =
+put-chunk-requires : tie.Need-put-chunk-requires
+put-chunk-requires c κs =
     let at2 = c .before .before in
     let at5 = at2 .before .before .before in
     let f = fitting (chunkOf (at5 .args .chunk) (at5 .args .chunks) (at5 .args .words .now)) (length (at5 .args .area .now))
@@ -46,8 +46,8 @@ returns-2 c =
     let at7 = at6 .before in
     let at10 = at7 .before .before .before in
     taken-done (chunkOf (at10 .args .chunk) (at10 .args .chunks) (at10 .args .words .now)) (at10 .args .area .now) (at10 .args .mask)
-    (at4 .place .last .1 .1 .0) (at4 .place .result) (c .flag .result) (c .before .is-complete .result)
-    (sym (sym (at7 .number-of .ensures) ∙ at6 .if1 .left)) (at4 .place .ensures) (c .before .is-complete .ensures) (c .flag .ensures)
+    (at4 .put-chunk .last .1 .1 .0) (at4 .put-chunk .result) (c .flag .result) (c .before .is-complete .result)
+    (sym (sym (at7 .number-of .ensures) ∙ at6 .if1 .left)) (at4 .put-chunk .ensures) (c .before .is-complete .ensures) (c .flag .ensures)
 
 pub take-chunk-spec : {M : Type 1} → statement M
 take-chunk-spec =
@@ -55,7 +55,7 @@ take-chunk-spec =
     (tie.spec
     number-of-requires
     returns
-    place-requires
+    put-chunk-requires
     is-complete-requires
     flag-requires
     same-length

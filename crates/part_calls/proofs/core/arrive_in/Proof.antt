@@ -23,8 +23,8 @@ returns c =
     λ l h. answers.arrive-length p (A .b) (S .pre .0 .low) (stateOf (A .memory .now) (A .mail .now) l (A .marks .now)) _ refl (A .m) (A .words .now)
     (sym (as-long .ensures (A .words .now) refl) ∙ not-true _ (if1 .taken))
 
-unfit-requires : tie.Need-unfit-requires
-unfit-requires c κs =
+refusal-of-areas-requires : tie.Need-refusal-of-areas-requires
+refusal-of-areas-requires c κs =
     let S = c .before .before .before .before .before .before .before .before in
     S .pre
 
@@ -38,19 +38,20 @@ returns-2 : tie.Need-returns-2
 returns-2 c =
     let S = c .before .before .before .before .before .before .before .before .before .before in
     let A = S .args in
-    let unfit = c .before .unfit in
+    let refusal-of-areas = c .before .refusal-of-areas in
     let as-long = c .before .before .before .before .before .as-long in
     let if1 = c .before .before .before .before .if1 in
     let if2 = c .if2 in
     let p = planOf (A .sizes .route) (A .nest) in
-    λ l h. answers.arrive-unfit p (A .b) (S .pre .0 .low) (stateOf (A .memory .now) (A .mail .now) l (A .marks .now)) (unfit .result) (unfit .ensures .0 l h)
+    λ l h. answers.arrive-unfit p (A .b) (S .pre .0 .low) (stateOf (A .memory .now) (A .mail .now) l (A .marks .now)) (refusal-of-areas .result)
+    (refusal-of-areas .ensures .0 l h)
     (A .m) (A .words .now) (sym (as-long .ensures (A .words .now) refl) ∙ not-false _ (if1 .left)) (if2 .taken)
 
 receive-requires : tie.Need-receive-requires
 receive-requires c κs =
     let S = c .before .before .before .before .before .before .before .before .before .before .before .before in
     let A = S .args in
-    let unfit = c .before .before .before .unfit in
+    let refusal-of-areas = c .before .before .before .refusal-of-areas in
     let if2 = c .before .before .if2 in
     let as-long = c .before .before .before .before .before .before .before .as-long in
     let if1 = c .before .before .before .before .before .before .if1 in
@@ -58,7 +59,8 @@ receive-requires c κs =
       S .pre .0,
       (
         S .pre .1 .0 .messages,
-        answers.may-arrive p (A .b) (A .memory .now) (A .mail .now) (A .marks .now) (A .progress) (S .pre .1 .1) (unfit .result) (unfit .ensures)
+        answers.may-arrive p (A .b) (A .memory .now) (A .mail .now) (A .marks .now) (A .progress) (S .pre .1 .1) (refusal-of-areas .result)
+            (refusal-of-areas .ensures)
             (if2 .left) (A .m) (A .words .now) (sym (as-long .ensures (A .words .now) refl) ∙ not-false _ (if1 .left)),
       ),
     )
@@ -73,13 +75,14 @@ returns-3 : tie.Need-returns-3
 returns-3 c =
     let S = c .before .before .before .before .before .before .before .before .before .before .before .before .before .before .before .before .before in
     let A = S .args in
-    let unfit = c .before .before .before .before .before .before .before .before .unfit in
+    let refusal-of-areas = c .before .before .before .before .before .before .before .before .refusal-of-areas in
     let as-long = c .before .before .before .before .before .before .before .before .before .before .before .before .as-long in
     let if1 = c .before .before .before .before .before .before .before .before .before .before .before .if1 in
     let if2 = c .before .before .before .before .before .before .before .if2 in
     let receive = c .before .before .before .before .receive in
     let p = planOf (A .sizes .route) (A .nest) in
-    λ l h. answers.arrive-come p (A .b) (S .pre .0 .low) (stateOf (A .memory .now) (A .mail .now) l (A .marks .now)) (unfit .result) (unfit .ensures .0 l h)
+    λ l h. answers.arrive-come p (A .b) (S .pre .0 .low) (stateOf (A .memory .now) (A .mail .now) l (A .marks .now)) (refusal-of-areas .result)
+    (refusal-of-areas .ensures .0 l h)
     (A .m) (A .words .now) (sym (as-long .ensures (A .words .now) refl) ∙ not-false _ (if1 .left)) (if2 .left) _ (receive .ensures (A .memory .now) l)
 
 pub arrive-in-spec : {M : Type 1} → statement M
@@ -87,7 +90,7 @@ arrive-in-spec =
     tie.close
     (tie.spec
     as-long-requires
-    unfit-requires
+    refusal-of-areas-requires
     receive-requires
     returns
     same-length

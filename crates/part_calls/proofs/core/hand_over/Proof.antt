@@ -65,7 +65,7 @@ returns-2 c =
     let p = planOf (A .sizes .route) (A .nest) in
     let lo : A .m < count p = omega (arith, if1 .left, S .pre .1 .0) in
     λ ms us l. answers.over-anothers p (A .b) (stateOf ms us l (A .marks .now)) (A .m) lo (answers.same-rank p (A .b) (A .m) (word-index .result)
-    (word-index2 .result) (word-index .ensures ∙ S .pre .0 .ranks (A .m) (omega (arith, lo))) (word-index2 .ensures ∙ S .pre .0 .ranks (A .m + 1)
+    (word-index2 .result) (word-index .ensures ∙ S .pre .0 .ordinals (A .m) (omega (arith, lo))) (word-index2 .ensures ∙ S .pre .0 .ordinals (A .m + 1)
     (omega (arith, lo))) (if2 .taken))
 
 slice-read-if3 : tie.Need-slice-read-if3
@@ -78,9 +78,9 @@ slice-read-if3 c =
     let if2 = c .before .if2 in
     let p = planOf (A .sizes .route) (A .nest) in
     let lo : A .m < count p = omega (arith, if1 .left, S .pre .1 .0) in
-    let mine = answers.other-rank p (A .b) (A .m) (word-index .result) (word-index2 .result) (word-index .ensures ∙ S .pre .0 .ranks (A .m)
-    (omega (arith, lo))) (word-index2 .ensures ∙ S .pre .0 .ranks (A .m + 1) (omega (arith, lo))) (if2 .left) in
-    answers.mark-low p (A .b) (A .m) (word-index .result) (A .marks .now) (S .pre .1 .1) lo mine (word-index .ensures ∙ S .pre .0 .ranks (A .m)
+    let mine = answers.other-rank p (A .b) (A .m) (word-index .result) (word-index2 .result) (word-index .ensures ∙ S .pre .0 .ordinals (A .m)
+    (omega (arith, lo))) (word-index2 .ensures ∙ S .pre .0 .ordinals (A .m + 1) (omega (arith, lo))) (if2 .left) in
+    answers.mark-low p (A .b) (A .m) (word-index .result) (A .marks .now) (S .pre .1 .1) lo mine (word-index .ensures ∙ S .pre .0 .ordinals (A .m)
     (omega (arith, lo)))
 
 returns-3 : tie.Need-returns-3
@@ -94,9 +94,9 @@ returns-3 c =
     let if3 = c .if3 in
     let p = planOf (A .sizes .route) (A .nest) in
     let lo : A .m < count p = omega (arith, if1 .left, S .pre .1 .0) in
-    let mine = answers.other-rank p (A .b) (A .m) (word-index .result) (word-index2 .result) (word-index .ensures ∙ S .pre .0 .ranks (A .m)
-    (omega (arith, lo))) (word-index2 .ensures ∙ S .pre .0 .ranks (A .m + 1) (omega (arith, lo))) (if2 .left) in
-    λ ms us l. answers.over-not p (A .b) (stateOf ms us l (A .marks .now)) (A .m) lo mine (word-index .result) (word-index .ensures ∙ S .pre .0 .ranks (A .m)
+    let mine = answers.other-rank p (A .b) (A .m) (word-index .result) (word-index2 .result) (word-index .ensures ∙ S .pre .0 .ordinals (A .m)
+    (omega (arith, lo))) (word-index2 .ensures ∙ S .pre .0 .ordinals (A .m + 1) (omega (arith, lo))) (if2 .left) in
+    λ ms us l. answers.over-not p (A .b) (stateOf ms us l (A .marks .now)) (A .m) lo mine (word-index .result) (word-index .ensures ∙ S .pre .0 .ordinals (A .m)
     (omega (arith, lo))) (if3 .taken)
 
 slice-write-marks : tie.Need-slice-write-marks
@@ -109,9 +109,9 @@ slice-write-marks c =
     let if2 = c .before .before .if2 in
     let p = planOf (A .sizes .route) (A .nest) in
     let lo : A .m < count p = omega (arith, if1 .left, S .pre .1 .0) in
-    let mine = answers.other-rank p (A .b) (A .m) (word-index .result) (word-index2 .result) (word-index .ensures ∙ S .pre .0 .ranks (A .m)
-    (omega (arith, lo))) (word-index2 .ensures ∙ S .pre .0 .ranks (A .m + 1) (omega (arith, lo))) (if2 .left) in
-    answers.mark-low p (A .b) (A .m) (word-index .result) (A .marks .now) (S .pre .1 .1) lo mine (word-index .ensures ∙ S .pre .0 .ranks (A .m)
+    let mine = answers.other-rank p (A .b) (A .m) (word-index .result) (word-index2 .result) (word-index .ensures ∙ S .pre .0 .ordinals (A .m)
+    (omega (arith, lo))) (word-index2 .ensures ∙ S .pre .0 .ordinals (A .m + 1) (omega (arith, lo))) (if2 .left) in
+    answers.mark-low p (A .b) (A .m) (word-index .result) (A .marks .now) (S .pre .1 .1) lo mine (word-index .ensures ∙ S .pre .0 .ordinals (A .m)
     (omega (arith, lo)))
 
 same-length : tie.Need-same-length
@@ -128,10 +128,10 @@ returns-4 c =
     let if3 = c .if3 in
     let p = planOf (A .sizes .route) (A .nest) in
     let lo : A .m < count p = omega (arith, if1 .left, S .pre .1 .0) in
-    let mine = answers.other-rank p (A .b) (A .m) (word-index .result) (word-index2 .result) (word-index .ensures ∙ S .pre .0 .ranks (A .m)
-    (omega (arith, lo))) (word-index2 .ensures ∙ S .pre .0 .ranks (A .m + 1) (omega (arith, lo))) (if2 .left) in
+    let mine = answers.other-rank p (A .b) (A .m) (word-index .result) (word-index2 .result) (word-index .ensures ∙ S .pre .0 .ordinals (A .m)
+    (omega (arith, lo))) (word-index2 .ensures ∙ S .pre .0 .ordinals (A .m + 1) (omega (arith, lo))) (if2 .left) in
     λ ms us l. answers.over-done p (A .b) (stateOf ms us l (A .marks .now)) (A .m) lo mine (word-index .result)
-    (word-index .ensures ∙ S .pre .0 .ranks (A .m) (omega (arith, lo))) (if3 .left)
+    (word-index .ensures ∙ S .pre .0 .ordinals (A .m) (omega (arith, lo))) (if3 .left)
 
 pub hand-over-spec : {M : Type 1} → statement M
 hand-over-spec =

@@ -18,8 +18,8 @@ kept-count-requires c κs =
     let S = c .before .before .before .before .before .before .before .before in
     (prepare .ensures .0 .planned, S .pre .1 .1 .0)
 
-unfit-requires : tie.Need-unfit-requires
-unfit-requires c κs =
+refusal-of-areas-requires : tie.Need-refusal-of-areas-requires
+refusal-of-areas-requires c κs =
     let prepare = c .before .before .before .before .before .before .prepare in
     let kept-count = c .before .before .before .before .kept-count in
     let S = c .before .before .before .before .before .before .before .before .before .before .before .before .before in
@@ -32,10 +32,11 @@ returns : tie.Need-returns
 returns c =
     let S = c .before .before .before .before .before .before .before .before .before .before .before .before .before .before .before in
     let A = S .args in
-    let unfit = c .before .unfit in
+    let refusal-of-areas = c .before .refusal-of-areas in
     let if1 = c .if1 in
     let p = planOf (A .sizes .route) (A .nest) in
-    λ l h. answers.post-unfit p (A .b) (S .pre .1 .1 .0) (stateOf (A .memory .now) (A .mail .now) l (A .marks .now)) (unfit .result) (unfit .ensures .0 l h)
+    λ l h. answers.post-unfit p (A .b) (S .pre .1 .1 .0) (stateOf (A .memory .now) (A .mail .now) l (A .marks .now)) (refusal-of-areas .result)
+    (refusal-of-areas .ensures .0 l h)
     (A .m) (if1 .taken)
 
 hand-over-requires : tie.Need-hand-over-requires
@@ -44,14 +45,14 @@ hand-over-requires c κs =
     .before .before in
     let A = S .args in
     let prepare = c .before .before .before .before .before .before .before .before .before .before .before .before .prepare in
-    let unfit = c .before .before .before .before .before .unfit in
+    let refusal-of-areas = c .before .before .before .before .before .refusal-of-areas in
     let if1 = c .before .before .before .before .if1 in
     let p = planOf (A .sizes .route) (A .nest) in (
       prepare .ensures .0,
       (
         prepare .ensures .1,
-        answers.marks-lent p (A .b) (A .memory .now) (A .mail .now) (A .marks .now) (A .progress) (S .pre .1 .1 .1) (unfit .result)
-            (unfit .ensures) (if1 .left),
+        answers.marks-lent p (A .b) (A .memory .now) (A .mail .now) (A .marks .now) (A .progress) (S .pre .1 .1 .1) (refusal-of-areas .result)
+            (refusal-of-areas .ensures) (if1 .left),
       ),
     )
 
@@ -63,11 +64,12 @@ returns-2 c =
     let S = c .before .before .before .before .before .before .before .before .before .before .before .before .before .before .before .before .before
     .before .before .before .before .before in
     let A = S .args in
-    let unfit = c .before .before .before .before .before .before .before .before .unfit in
+    let refusal-of-areas = c .before .before .before .before .before .before .before .before .refusal-of-areas in
     let if1 = c .before .before .before .before .before .before .before .if1 in
     let hand-over = c .before .before .hand-over in
     let p = planOf (A .sizes .route) (A .nest) in
-    λ l h. answers.post-over p (A .b) (S .pre .1 .1 .0) (stateOf (A .memory .now) (A .mail .now) l (A .marks .now)) (unfit .result) (unfit .ensures .0 l h)
+    λ l h. answers.post-over p (A .b) (S .pre .1 .1 .0) (stateOf (A .memory .now) (A .mail .now) l (A .marks .now)) (refusal-of-areas .result)
+    (refusal-of-areas .ensures .0 l h)
     (A .m) (if1 .left) _ (hand-over .ensures (A .memory .now) (A .mail .now) l)
 
 pub post-part-spec : {M : Type 1} → statement M
@@ -76,7 +78,7 @@ post-part-spec =
     (tie.spec
     prepare-requires
     kept-count-requires
-    unfit-requires
+    refusal-of-areas-requires
     hand-over-requires
     same-length
     returns

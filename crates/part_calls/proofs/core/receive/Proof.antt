@@ -98,7 +98,7 @@ arrived-requires c κs =
     let here = sym (word-index .ensures) ∙ if2 .left in
     let mine = answers.come-handled p (A .b) (stateOf [] (A .mail .now) [] (A .marks .now)) (A .m) (A .words .now) (line-at .result)
     (line-at .ensures ∙ ap (lineOf p) (nth .ensures .number)) lo here in
-    answers.mark-low p (A .b) (A .m) (word-index2 .result) (A .marks .now) (S .pre .1 .1 .marks-long) lo mine (word-index2 .ensures ∙ S .pre .0 .ranks (A .m)
+    answers.mark-low p (A .b) (A .m) (word-index2 .result) (A .marks .now) (S .pre .1 .1 .marks-long) lo mine (word-index2 .ensures ∙ S .pre .0 .ordinals (A .m)
     (omega (arith, lo)))
 
 store-words-requires : tie.Need-store-words-requires
@@ -118,7 +118,7 @@ store-words-requires c κs =
     let mine = answers.come-handled p (A .b) (stateOf [] (A .mail .now) [] (A .marks .now)) (A .m) (A .words .now) (line-at .result)
     (line-at .ensures ∙ ap (lineOf p) (nth .ensures .number)) lo here in
     answers.room p (A .b) (A .m) (word-index3 .result) _ (A .mail .now) (S .pre .1 .1 .mail-long) lo mine
-    (word-index3 .ensures ∙ S .pre .0 .places (A .m) (omega (arith, lo))) (taking.long-here p (A .m) (A .words .now) lo (S .pre .1 .1 .long))
+    (word-index3 .ensures ∙ S .pre .0 .starts (A .m) (omega (arith, lo))) (taking.long-here p (A .m) (A .words .now) lo (S .pre .1 .1 .long))
 
 same-length : tie.Need-same-length
 same-length c = search needs
@@ -145,9 +145,9 @@ returns-3 c =
     let lo : A .m < count p = omega (arith, if1 .left, S .pre .1 .0) in
     let here = sym (word-index .ensures) ∙ if2 .left in
     λ ms l. answers.come-done p (A .b) (stateOf ms (A .mail .now) l (A .marks .now)) (A .m) (A .words .now) (line-at .result)
-    (line-at .ensures ∙ ap (lineOf p) (nth .ensures .number)) lo here (word-index2 .result) (word-index2 .ensures ∙ S .pre .0 .ranks (A .m)
+    (line-at .ensures ∙ ap (lineOf p) (nth .ensures .number)) lo here (word-index2 .result) (word-index2 .ensures ∙ S .pre .0 .ordinals (A .m)
     (omega (arith, lo))) (arrived .result) (arrived .ensures .0) (if3 .taken) _ _
-    (store-words .ensures ∙ ap (λ (i : ℕ). put (A .mail .now) i (A .words .now)) (word-index3 .ensures ∙ S .pre .0 .places (A .m) (omega (arith, lo))))
+    (store-words .ensures ∙ ap (λ (i : ℕ). put (A .mail .now) i (A .words .now)) (word-index3 .ensures ∙ S .pre .0 .starts (A .m) (omega (arith, lo))))
     (arrived .ensures .1 ∙ pick-true _ _ _ (if3 .taken))
 
 same-length-3 : tie.Need-same-length-3
@@ -169,7 +169,7 @@ returns-4 c =
     let lo : A .m < count p = omega (arith, if1 .left, S .pre .1 .0) in
     let here = sym (word-index .ensures) ∙ if2 .left in
     λ ms l. answers.come-again p (A .b) (stateOf ms (A .mail .now) l (A .marks .now)) (A .m) (A .words .now) (line-at .result)
-    (line-at .ensures ∙ ap (lineOf p) (nth .ensures .number)) lo here (word-index2 .result) (word-index2 .ensures ∙ S .pre .0 .ranks (A .m)
+    (line-at .ensures ∙ ap (lineOf p) (nth .ensures .number)) lo here (word-index2 .result) (word-index2 .ensures ∙ S .pre .0 .ordinals (A .m)
     (omega (arith, lo))) (arrived .result) (arrived .ensures .0) (if3 .left) _
     (state-is refl refl refl (arrived .ensures .1 ∙ pick-false _ _ _ (if3 .left)))
 

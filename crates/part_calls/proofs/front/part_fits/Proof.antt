@@ -22,13 +22,13 @@ mul-word-index : tie.Need-mul-word-index
 mul-word-index c =
     let S = c .before .before .before .before in
     let A = S .args in
-    omega (arith, front.last-low (A .nest) (A .sizes) (A .b) (A .lens .now) (A .ranks .now) (A .places .now) (S .pre .0) (A .messages) (S .pre .1 .messages))
+    omega (arith, front.last-low (A .nest) (A .sizes) (A .b) (A .lens .now) (A .ordinals .now) (A .starts .now) (S .pre .0) (A .messages) (S .pre .1 .messages))
 
 element-copy-out-word-index : tie.Need-element-copy-out-word-index
 element-copy-out-word-index c =
     let S = c .before .before .before .before in
     let A = S .args in
-    front.last-low (A .nest) (A .sizes) (A .b) (A .lens .now) (A .ranks .now) (A .places .now) (S .pre .0) (A .messages) (S .pre .1 .messages)
+    front.last-low (A .nest) (A .sizes) (A .b) (A .lens .now) (A .ordinals .now) (A .starts .now) (S .pre .0) (A .messages) (S .pre .1 .messages)
 
 word-index-requires : tie.Need-word-index-requires
 word-index-requires c κs = search needs
@@ -40,7 +40,7 @@ returns-2 c =
     let word-index = c .before .word-index in
     let if2 = c .if2 in
     let p = planOf (A .sizes .route) (A .nest) in
-    let all-mail = word-index .ensures ∙ front.all-mail (A .nest) (A .sizes) (A .b) (A .lens .now) (A .ranks .now) (A .places .now) (S .pre .0) (A .messages)
+    let all-mail = word-index .ensures ∙ front.all-mail (A .nest) (A .sizes) (A .b) (A .lens .now) (A .ordinals .now) (A .starts .now) (S .pre .0) (A .messages)
     (S .pre .1 .messages) in
     λ l h. front.no-mail p (A .b) (stateOf (A .memory .now) (A .mail .now) l (A .marks .now)) (λ q. if2 .taken (q ∙ sym all-mail))
 
@@ -56,13 +56,13 @@ mul-word-index-2 : tie.Need-mul-word-index-2
 mul-word-index-2 c =
     let S = c .before .before .before .before .before .before .before .before in
     let A = S .args in
-    omega (arith, front.last-low (A .nest) (A .sizes) (A .b) (A .lens .now) (A .ranks .now) (A .places .now) (S .pre .0) (A .messages) (S .pre .1 .messages))
+    omega (arith, front.last-low (A .nest) (A .sizes) (A .b) (A .lens .now) (A .ordinals .now) (A .starts .now) (S .pre .0) (A .messages) (S .pre .1 .messages))
 
 element-copy-out-word-index-2 : tie.Need-element-copy-out-word-index-2
 element-copy-out-word-index-2 c =
     let S = c .before .before .before .before .before .before .before .before in
     let A = S .args in
-    front.last-low (A .nest) (A .sizes) (A .b) (A .lens .now) (A .ranks .now) (A .places .now) (S .pre .0) (A .messages) (S .pre .1 .messages)
+    front.last-low (A .nest) (A .sizes) (A .b) (A .lens .now) (A .ordinals .now) (A .starts .now) (S .pre .0) (A .messages) (S .pre .1 .messages)
 
 word-index-requires-2 : tie.Need-word-index-requires-2
 word-index-requires-2 c κs = search needs
@@ -77,10 +77,10 @@ returns-4 c =
     let if2 = c .before .before .before .if2 in
     let if3 = c .before .before .if3 in
     let p = planOf (A .sizes .route) (A .nest) in
-    let all-mail = word-index .ensures ∙ front.all-mail (A .nest) (A .sizes) (A .b) (A .lens .now) (A .ranks .now) (A .places .now) (S .pre .0) (A .messages)
+    let all-mail = word-index .ensures ∙ front.all-mail (A .nest) (A .sizes) (A .b) (A .lens .now) (A .ordinals .now) (A .starts .now) (S .pre .0) (A .messages)
     (S .pre .1 .messages) in
-    λ l h. ap (eqb (length (A .marks .now))) (word-index2 .ensures ∙ front.all-handled (A .nest) (A .sizes) (A .b) (A .lens .now) (A .ranks .now)
-    (A .places .now) (S .pre .0) (A .messages) (S .pre .1 .messages))
+    λ l h. ap (eqb (length (A .marks .now))) (word-index2 .ensures ∙ front.all-handled (A .nest) (A .sizes) (A .b) (A .lens .now) (A .ordinals .now)
+    (A .starts .now) (S .pre .0) (A .messages) (S .pre .1 .messages))
     ∙ front.by-marks p (A .b) (stateOf (A .memory .now) (A .mail .now) l (A .marks .now)) (if1 .left ∙ S .pre .1 .kept) (if2 .left ∙ all-mail)
     (sym h ∙ if3 .left)
 

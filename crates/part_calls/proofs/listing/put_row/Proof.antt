@@ -65,7 +65,7 @@ mul-at c =
       arith,
       S .pre .0 .1,
       S .pre .0 .0 .few,
-      rows.rank-few p (A .b) (A .m) (word-index .result) (word-index .ensures ∙ S .pre .0 .0 .ranks (A .m)
+      rows.rank-few p (A .b) (A .m) (word-index .result) (word-index .ensures ∙ S .pre .0 .0 .ordinals (A .m)
           (omega (arith, lo))),
     )
 
@@ -80,7 +80,7 @@ add-end c =
       arith,
       S .pre .0 .1,
       S .pre .0 .0 .few,
-      rows.rank-few p (A .b) (A .m) (word-index .result) (word-index .ensures ∙ S .pre .0 .0 .ranks (A .m)
+      rows.rank-few p (A .b) (A .m) (word-index .result) (word-index .ensures ∙ S .pre .0 .0 .ordinals (A .m)
           (omega (arith, lo))),
     )
 
@@ -95,7 +95,7 @@ mul-store-row c =
       arith,
       S .pre .0 .1,
       S .pre .0 .0 .few,
-      rows.rank-few p (A .b) (A .m) (word-index .result) (word-index .ensures ∙ S .pre .0 .0 .ranks (A .m)
+      rows.rank-few p (A .b) (A .m) (word-index .result) (word-index .ensures ∙ S .pre .0 .0 .ordinals (A .m)
           (omega (arith, lo))),
     )
 
@@ -114,9 +114,9 @@ part-store-row-end c =
     let if1 = c .before .before .if1 in
     let p = planOf (A .sizes .route) (A .nest) in
     let lo = S .pre .0 .1 in
-    let mine = answers.other-rank p (A .b) (A .m) (word-index .result) (word-index2 .result) (word-index .ensures ∙ S .pre .0 .0 .ranks (A .m)
-    (omega (arith, lo))) (word-index2 .ensures ∙ S .pre .0 .0 .ranks (A .m + 1) (omega (arith, lo))) (if1 .taken) in
-    rows.room p (A .b) (A .m) lo (A .out .now) (S .pre .1) mine (word-index .result) (word-index .ensures ∙ S .pre .0 .0 .ranks (A .m) (omega (arith, lo)))
+    let mine = answers.other-rank p (A .b) (A .m) (word-index .result) (word-index2 .result) (word-index .ensures ∙ S .pre .0 .0 .ordinals (A .m)
+    (omega (arith, lo))) (word-index2 .ensures ∙ S .pre .0 .0 .ordinals (A .m + 1) (omega (arith, lo))) (if1 .taken) in
+    rows.room p (A .b) (A .m) lo (A .out .now) (S .pre .1) mine (word-index .result) (word-index .ensures ∙ S .pre .0 .0 .ordinals (A .m) (omega (arith, lo)))
 
 cast-store-row : tie.Need-cast-store-row
 cast-store-row c =
@@ -142,9 +142,9 @@ store-row-requires c κs =
     let if1 = c .before .before .before .before .if1 in
     let p = planOf (A .sizes .route) (A .nest) in
     let lo = S .pre .0 .1 in
-    let mine = answers.other-rank p (A .b) (A .m) (word-index .result) (word-index2 .result) (word-index .ensures ∙ S .pre .0 .0 .ranks (A .m)
-    (omega (arith, lo))) (word-index2 .ensures ∙ S .pre .0 .0 .ranks (A .m + 1) (omega (arith, lo))) (if1 .taken) in
-    rows.lent p (A .b) (A .m) lo (A .out .now) (S .pre .1) mine (word-index .result) (word-index .ensures ∙ S .pre .0 .0 .ranks (A .m) (omega (arith, lo)))
+    let mine = answers.other-rank p (A .b) (A .m) (word-index .result) (word-index2 .result) (word-index .ensures ∙ S .pre .0 .0 .ordinals (A .m)
+    (omega (arith, lo))) (word-index2 .ensures ∙ S .pre .0 .0 .ordinals (A .m + 1) (omega (arith, lo))) (if1 .taken) in
+    rows.lent p (A .b) (A .m) lo (A .out .now) (S .pre .1) mine (word-index .result) (word-index .ensures ∙ S .pre .0 .0 .ordinals (A .m) (omega (arith, lo)))
 
 same-length : tie.Need-same-length
 same-length c = search needs
@@ -161,10 +161,10 @@ returns c =
     let store-row = c .before .before .store-row in
     let p = planOf (A .sizes .route) (A .nest) in
     let lo = S .pre .0 .1 in
-    let mine = answers.other-rank p (A .b) (A .m) (word-index .result) (word-index2 .result) (word-index .ensures ∙ S .pre .0 .0 .ranks (A .m)
-    (omega (arith, lo))) (word-index2 .ensures ∙ S .pre .0 .0 .ranks (A .m + 1) (omega (arith, lo))) (if1 .taken) in
-    rows.stored p (A .b) (A .m) lo (A .out .now) (S .pre .1) mine (word-index .result) (word-index .ensures ∙ S .pre .0 .0 .ranks (A .m) (omega (arith, lo)))
-    (line-at .result) (line-at .ensures ∙ ap (lineOf p) (nth .ensures .number)) (A .m) _ refl (S .pre .0 .0 .places (A .m) (omega (arith, lo)))
+    let mine = answers.other-rank p (A .b) (A .m) (word-index .result) (word-index2 .result) (word-index .ensures ∙ S .pre .0 .0 .ordinals (A .m)
+    (omega (arith, lo))) (word-index2 .ensures ∙ S .pre .0 .0 .ordinals (A .m + 1) (omega (arith, lo))) (if1 .taken) in
+    rows.stored p (A .b) (A .m) lo (A .out .now) (S .pre .1) mine (word-index .result) (word-index .ensures ∙ S .pre .0 .0 .ordinals (A .m) (omega (arith, lo)))
+    (line-at .result) (line-at .ensures ∙ ap (lineOf p) (nth .ensures .number)) (A .m) _ refl (S .pre .0 .0 .starts (A .m) (omega (arith, lo)))
     (store-row .last .0) (store-row .kept .0) (store-row .ensures)
 
 returns-2 : tie.Need-returns-2
@@ -177,7 +177,7 @@ returns-2 c =
     let p = planOf (A .sizes .route) (A .nest) in
     let lo = S .pre .0 .1 in
     rows.passed p (A .b) (A .m) lo (A .out .now) (S .pre .1) (answers.same-rank p (A .b) (A .m) (word-index .result) (word-index2 .result)
-    (word-index .ensures ∙ S .pre .0 .0 .ranks (A .m) (omega (arith, lo))) (word-index2 .ensures ∙ S .pre .0 .0 .ranks (A .m + 1) (omega (arith, lo)))
+    (word-index .ensures ∙ S .pre .0 .0 .ordinals (A .m) (omega (arith, lo))) (word-index2 .ensures ∙ S .pre .0 .0 .ordinals (A .m + 1) (omega (arith, lo)))
     (if1 .left))
 
 pub put-row-spec : {M : Type 1} → statement M

@@ -8,10 +8,10 @@ use Rattle.part_calls.proofs.listing.put_rows.Statement.{statement}
 use Rattle.part_calls.proofs.listing.put_rows.Tie as tie
 
 abbrev Inv-loop : tie.InvT-loop
-Inv-loop nest sizes lens ranks places messages b out₀ m₀ out m = rows.Rowed (planOf (sizes .route) nest) b out₀ out m
+Inv-loop nest sizes lens ordinals starts messages b out₀ m₀ out m = rows.Rowed (planOf (sizes .route) nest) b out₀ out m
 
 abbrev μ-loop : tie.MeasureT-loop
-μ-loop nest sizes lens ranks places messages b out₀ m₀ out m = messages - m
+μ-loop nest sizes lens ordinals starts messages b out₀ m₀ out m = messages - m
 
 loop-holds : tie.Need-loop-holds Inv-loop μ-loop
 loop-holds c =

@@ -19,7 +19,7 @@ ready-requires c κs =
     let A = S .args in
     let p = planOf (A .sizes .route) (A .nest) in (
       (S .pre .0 .known .planned, S .pre .1 .1 .low),
-      stage.ranked (A .nest) (A .sizes) (A .b) (A .lens .now) (A .kept .now) (A .counts .now) (A .ranks .now) (A .places .now)
+      stage.ranked (A .nest) (A .sizes) (A .b) (A .lens .now) (A .kept .now) (A .counts .now) (A .ordinals .now) (A .starts .now)
           (S .pre .0) (A .tile) (stage.stands-own p (A .progress .now) (A .b) (A .tile) (S .pre .1 .1)) (A .marks .now) (S .pre .1 .0 .marks),
     )
 
@@ -40,7 +40,8 @@ returns c =
     let s = stateOf (A .memory .now) (A .mail .now) (A .progress .now) (A .marks .now) in
     λ source may z. reading.refuses (refused .result) 12 (refused .ensures) (λ q. omega arith) s 0 _ (turned.stops-waiting p (A .b) source s may
     (getD (A .progress .now) 0 0) (length (tilesOf p (A .b))) refl refl (A .tile) (getD (A .progress .now) 1 0) ((S .pre .1 .1) .left) ((S .pre .1 .1) .tile)
-    refl (A .ranks .now) (A .places .now) (S .pre .0 .known .ranks) (S .pre .0 .known .places) (ready .result) (ready .ensures) z (not-true _ (if1 .taken)))
+    refl (A .ordinals .now) (A .starts .now) (S .pre .0 .known .ordinals) (S .pre .0 .known .starts) (ready .result) (ready .ensures) z
+    (not-true _ (if1 .taken)))
 
 shared-slice-read-finished : tie.Need-shared-slice-read-finished
 shared-slice-read-finished c = search needs
@@ -75,7 +76,8 @@ returns-2 c =
     let s = stateOf (A .memory .now) (A .mail .now) (A .progress .now) (A .marks .now) in
     λ source may z. reading.does (done .result) (gather-stage .result) (done .ensures) _ _ _ _ 0 _
     (turned.gathers p (A .b) source s may (getD (A .progress .now) 0 0) (length (tilesOf p (A .b))) refl refl (A .tile) (getD (A .progress .now) 1 0)
-    ((S .pre .1 .1) .left) ((S .pre .1 .1) .tile) refl (A .ranks .now) (A .places .now) (S .pre .0 .known .ranks) (S .pre .0 .known .places) (ready .result)
+    ((S .pre .1 .1) .left) ((S .pre .1 .1) .tile) refl (A .ordinals .now) (A .starts .now) (S .pre .0 .known .ordinals) (S .pre .0 .known .starts)
+    (ready .result)
     (ready .ensures) z (not-false _ (if1 .left)) _ (gather-stage .ensures (A .progress .now) (S .pre .1 .0 .progress) refl))
 
 pub first-stage-spec : {M : Type 1} → statement M

@@ -16,8 +16,8 @@ use borrow.Author.Needs.{needs}
 use Rattle.part_calls.proofs.turn.turn_in.Statement.{statement}
 use Rattle.part_calls.proofs.turn.turn_in.Tie as tie
 
-unfit-requires : tie.Need-unfit-requires
-unfit-requires c κs =
+refusal-of-areas-requires : tie.Need-refusal-of-areas-requires
+refusal-of-areas-requires c κs =
     let S = c .before .before .before .before .before .before .before .before in
     (S .pre .0 .0 .known, S .pre .0 .1)
 
@@ -38,11 +38,13 @@ returns c =
     let S = c .before .before .before .before .before .before .before .before .before .before .before in
     let A = S .args in
     let refused = c .refused in
-    let unfit = c .before .before .unfit in
+    let refusal-of-areas = c .before .before .refusal-of-areas in
     let if1 = c .before .if1 in
     let p = planOf (A .sizes .route) (A .nest) in
-    let s : List ℕ → State = λ l. stateOf (A .memory .now) (A .mail .now) l (A .marks .now) in λ l h. reading.refuses (refused .result) (unfit .result)
-    (refused .ensures) (if1 .taken) (s l) 0 _ (turned.no-part p (A .b) (A .source .now) (s l) (S .pre .1) (unfit .result) (unfit .ensures .0 l h)
+    let s : List ℕ → State = λ l. stateOf (A .memory .now) (A .mail .now) l (A .marks .now) in λ l h. reading.refuses (refused .result)
+    (refusal-of-areas .result)
+    (refused .ensures) (if1 .taken) (s l) 0 _ (turned.no-part p (A .b) (A .source .now) (s l) (S .pre .1) (refusal-of-areas .result)
+    (refusal-of-areas .ensures .0 l h)
     (if1 .taken))
 
 array-share-prefix-words : tie.Need-array-share-prefix-words
@@ -58,13 +60,14 @@ step-requires : tie.Need-step-requires
 step-requires c κs =
     let S = c .before .before .before .before .before .before .before .before .before .before .before .before .before .before .before in
     let A = S .args in
-    let unfit = c .before .before .before .before .before .before .unfit in
+    let refusal-of-areas = c .before .before .before .before .before .before .refusal-of-areas in
     let if1 = c .before .before .before .before .before .if1 in
     let p = planOf (A .sizes .route) (A .nest) in
     let s : List ℕ → State = λ l. stateOf (A .memory .now) (A .mail .now) l (A .marks .now) in (
       S .pre .0 .0,
-      turned.may-step p (A .b) (A .source .now) (s (take 3 (A .progress .words))) (S .pre .1) (unfit .result)
-          (unfit .ensures .0 _ (turned.three-carried (A .progress) (S .pre .0 .1 .1) (unfit .ensures .1 (if1 .left)))) (if1 .left) (S .pre .0 .0 .known .low),
+      turned.may-step p (A .b) (A .source .now) (s (take 3 (A .progress .words))) (S .pre .1) (refusal-of-areas .result)
+          (refusal-of-areas .ensures .0 _ (turned.three-carried (A .progress) (S .pre .0 .1 .1) (refusal-of-areas .ensures .1 (if1 .left)))) (if1 .left)
+          (S .pre .0 .0 .known .low),
     )
 
 same-length-4 : tie.Need-same-length-4
@@ -83,21 +86,23 @@ returns-2 c =
     .before .before .before .before in
     let A = S .args in
     let step = c .before .before .before .before .before .before .step in
-    let unfit = c .before .before .before .before .before .before .before .before .before .before .before .before .before .unfit in
+    let refusal-of-areas = c .before .before .before .before .before .before .before .before .before .before .before .before .before .refusal-of-areas in
     let if1 = c .before .before .before .before .before .before .before .before .before .before .before .before .if1 in
     let p = planOf (A .sizes .route) (A .nest) in
     let s : List ℕ → State = λ l. stateOf (A .memory .now) (A .mail .now) l (A .marks .now) in
     λ l h. subst (λ (k : List ℕ). answer (step .result .number) (stateOf (step .last .1 .1 .1 .1 .1 .1 .1 .1 .0) (step .last .1 .1 .1 .1 .1 .1 .1 .1 .1 .0)
     (recordsAfter k 0 (step .result)) (step .last .1 .1 .1 .1 .1 .1 .1 .1 .1 .1 .1 .0)) ≡ turnedOr p (A .source .now) (s k) (A .b))
-    (turned.three-are (A .progress) l (unfit .ensures .1 (if1 .left)) h) (turned.turned-is p (A .b) (A .source .now) (s (take 3 (A .progress .words)))
-    (S .pre .1) (unfit .result) (unfit .ensures .0 _ (turned.three-carried (A .progress) (S .pre .0 .1 .1) (unfit .ensures .1 (if1 .left)))) (if1 .left) _
+    (turned.three-are (A .progress) l (refusal-of-areas .ensures .1 (if1 .left)) h) (turned.turned-is p (A .b) (A .source .now)
+    (s (take 3 (A .progress .words)))
+    (S .pre .1) (refusal-of-areas .result) (refusal-of-areas .ensures .0 _ (turned.three-carried (A .progress) (S .pre .0 .1 .1)
+    (refusal-of-areas .ensures .1 (if1 .left)))) (if1 .left) _
     (step .ensures))
 
 pub turn-in-spec : {M : Type 1} → statement M
 turn-in-spec =
     tie.close
     (tie.spec
-    unfit-requires
+    refusal-of-areas-requires
     refused-requires
     array-share-prefix-words
     slice-aggregate-step

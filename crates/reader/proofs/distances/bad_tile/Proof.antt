@@ -7,13 +7,13 @@ use borrow.Author.Needs.{needs}
 use Rattle.base.specs.Tests.{_or_, some}
 use Rattle.base.proofs.Tests.{some-one, or-left, or-right, or-false}
 use Rattle.nest.specs.Nest.{tileLength}
-use Rattle.nest.specs.Reader.{outside, reached, badTile}
+use Rattle.nest.specs.Reader.{noLength, reached, badTile}
 use Rattle.nest.proofs.Laws as L
 use Rattle.reader.proofs.distances.bad_tile.Statement.{statement}
 use Rattle.reader.proofs.distances.bad_tile.Tie as tie
 
 abbrev Inv-loop : tie.InvT-loop
-Inv-loop nest n j₀ j = (j ≤ n) × (some (λ i. outside (tileLength nest i) or reached nest i) j ≡ false)
+Inv-loop nest n j₀ j = (j ≤ n) × (some (λ i. noLength (tileLength nest i) or reached nest i) j ≡ false)
 
 abbrev μ-loop : tie.MeasureT-loop
 μ-loop nest n j₀ j = n - j
@@ -21,21 +21,21 @@ abbrev μ-loop : tie.MeasureT-loop
 loop-holds : tie.Need-loop-holds Inv-loop μ-loop
 loop-holds c = (omega arith, L.some-start _)
 
-mul-outside : tie.Need-mul-outside Inv-loop μ-loop
-mul-outside c = search needs
+mul-no-length : tie.Need-mul-no-length Inv-loop μ-loop
+mul-no-length c = search needs
 
-element-copy-out-outside : tie.Need-element-copy-out-outside Inv-loop μ-loop
-element-copy-out-outside c = search needs
+element-copy-out-no-length : tie.Need-element-copy-out-no-length Inv-loop μ-loop
+element-copy-out-no-length c = search needs
 
-outside-requires : tie.Need-outside-requires Inv-loop μ-loop
-outside-requires c κs = search needs
+no-length-requires : tie.Need-no-length-requires Inv-loop μ-loop
+no-length-requires c κs = search needs
 
 returns : tie.Need-returns Inv-loop μ-loop
 unfolding badTile
 returns c =
     let at-loop-test = c .before .before .before in
     let at-loop = at-loop-test .before in
-    sym (some-one _ _ (at-loop .loop .j) (at-loop-test .loop-test .taken) (or-left _ (sym (c .before .outside .ensures) ∙ c .if1 .taken)))
+    sym (some-one _ _ (at-loop .loop .j) (at-loop-test .loop-test .taken) (or-left _ (sym (c .before .no-length .ensures) ∙ c .if1 .taken)))
 
 reached-requires : tie.Need-reached-requires Inv-loop μ-loop
 reached-requires c κs = search needs
@@ -55,10 +55,10 @@ loop-less c = search needs
 
 loop-again : tie.Need-loop-again Inv-loop μ-loop
 loop-again c =
-    let at-outside = c .before .before .before in
-    let at-loop = at-outside .before .before .before in (
+    let at-no-length = c .before .before .before in
+    let at-loop = at-no-length .before .before .before in (
       omega arith,
-      L.some-step _ _ (at-loop .loop .inv .1) (or-false (sym (at-outside .outside .ensures) ∙ c .before .before .if1 .left)
+      L.some-step _ _ (at-loop .loop .inv .1) (or-false (sym (at-no-length .no-length .ensures) ∙ c .before .before .if1 .left)
           (sym (c .before .reached .ensures) ∙ c .if2 .left)),
     )
 
@@ -73,9 +73,9 @@ bad-tile-spec =
     Inv-loop
     μ-loop
     loop-holds
-    mul-outside
-    element-copy-out-outside
-    outside-requires
+    mul-no-length
+    element-copy-out-no-length
+    no-length-requires
     returns
     reached-requires
     returns-2

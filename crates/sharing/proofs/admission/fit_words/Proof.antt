@@ -9,17 +9,18 @@ use Rattle.base.specs.Tests.{every}
 use Rattle.base.proofs.Tests.{every-not}
 use borrow.Author.Needs.{needs}
 use Rattle.machine.specs.Machine.{progressOnly}
-use Rattle.tenants.specs.Offices.{lentOf, stageAgrees, fitWord}
+use Rattle.tenants.specs.Tenants.{tenantAreas, stageAgrees, fitWord}
 use Rattle.base.proofs.Loops as loops
 use Rattle.sharing.proofs.Tests as tests
 use Rattle.sharing.proofs.admission.fit_words.Statement.{statement}
 use Rattle.sharing.proofs.admission.fit_words.Tie as tie
 
 abbrev Inv-loop : tie.InvT-loop
-Inv-loop engaged progress theirs office second b₀ b = (b ≤ length engaged) × (every (fitWord office (lentOf (progressOnly progress) engaged) theirs) b ≡ true)
+Inv-loop engaged progress theirs tenant second b₀ b = (b ≤ length engaged) × (every (fitWord tenant (tenantAreas (progressOnly progress) engaged) theirs) b ≡
+    true)
 
 abbrev μ-loop : tie.MeasureT-loop
-μ-loop engaged progress theirs office second b₀ b = length engaged - b
+μ-loop engaged progress theirs tenant second b₀ b = length engaged - b
 
 other-requires : tie.Need-other-requires Inv-loop μ-loop
 other-requires c κs =
@@ -29,7 +30,7 @@ other-requires c κs =
 loop-holds : tie.Need-loop-holds Inv-loop μ-loop
 loop-holds c =
     let A = c .before .before .before .before .args in
-    let f = fitWord (A .office) (lentOf (progressOnly (A .progress .now)) (A .engaged .now)) (A .theirs .now) in
+    let f = fitWord (A .tenant) (tenantAreas (progressOnly (A .progress .now)) (A .engaged .now)) (A .theirs .now) in
     (omega arith, loops.every-start f)
 
 mul-holder : tie.Need-mul-holder Inv-loop μ-loop
@@ -48,8 +49,8 @@ returns c =
     let loop-test = c .before .before .loop-test in
     let if1 = c .if1 in
     let A = start .args in
-    let f = fitWord (A .office) (lentOf (progressOnly (A .progress .now)) (A .engaged .now)) (A .theirs .now) in
-    sym (every-not f (length (A .engaged .now)) (loop .b) (omega (arith, loop-test .taken)) (tests.word-high (A .office) (A .progress .now) (A .engaged .now)
+    let f = fitWord (A .tenant) (tenantAreas (progressOnly (A .progress .now)) (A .engaged .now)) (A .theirs .now) in
+    sym (every-not f (length (A .engaged .now)) (loop .b) (omega (arith, loop-test .taken)) (tests.word-high (A .tenant) (A .progress .now) (A .engaged .now)
     (A .theirs .now) (loop .b) (if1 .taken)))
 
 mul-stage-agrees : tie.Need-mul-stage-agrees Inv-loop μ-loop
@@ -77,8 +78,8 @@ returns-2 c =
     let stage-agrees = c .before .stage-agrees in
     let if2 = c .if2 in
     let A = start .args in
-    let f = fitWord (A .office) (lentOf (progressOnly (A .progress .now)) (A .engaged .now)) (A .theirs .now) in
-    sym (every-not f (length (A .engaged .now)) (loop .b) (omega (arith, loop-test .taken)) (tests.word-own (A .office) (A .progress .now) (A .engaged .now)
+    let f = fitWord (A .tenant) (tenantAreas (progressOnly (A .progress .now)) (A .engaged .now)) (A .theirs .now) in
+    sym (every-not f (length (A .engaged .now)) (loop .b) (omega (arith, loop-test .taken)) (tests.word-own (A .tenant) (A .progress .now) (A .engaged .now)
     (A .theirs .now) (loop .b) (sym (stage-agrees .ensures) ∙ not-true _ (if2 .taken))))
 
 mul-stage-agrees-3 : tie.Need-mul-stage-agrees-3 Inv-loop μ-loop
@@ -108,8 +109,8 @@ returns-3 c =
     let stage-agrees2 = c .before .stage-agrees2 in
     let if3 = c .if3 in
     let A = start .args in
-    let f = fitWord (A .office) (lentOf (progressOnly (A .progress .now)) (A .engaged .now)) (A .theirs .now) in
-    sym (every-not f (length (A .engaged .now)) (loop .b) (omega (arith, loop-test .taken)) (tests.word-theirs (A .office) (A .progress .now)
+    let f = fitWord (A .tenant) (tenantAreas (progressOnly (A .progress .now)) (A .engaged .now)) (A .theirs .now) in
+    sym (every-not f (length (A .engaged .now)) (loop .b) (omega (arith, loop-test .taken)) (tests.word-theirs (A .tenant) (A .progress .now)
     (A .engaged .now) (A .theirs .now) (loop .b) (ap (λ (k : ℕ). stageAgrees (getD (A .engaged .now) (loop .b) 0) k (getD (A .theirs .now) (3 * loop .b + 1)
     0)) (sym (other .ensures)) ∙ sym (stage-agrees2 .ensures) ∙ not-true _ (if3 .taken))))
 
@@ -137,9 +138,9 @@ loop-again c =
     let stage-agrees2 = c .before .stage-agrees2 in
     let if3 = c .if3 in
     let A = start .args in
-    let f = fitWord (A .office) (lentOf (progressOnly (A .progress .now)) (A .engaged .now)) (A .theirs .now) in (
+    let f = fitWord (A .tenant) (tenantAreas (progressOnly (A .progress .now)) (A .engaged .now)) (A .theirs .now) in (
       omega (arith, loop-test .taken),
-      loops.every-step f (loop .b) (loop .inv .1) (tests.word-fits (A .office) (A .progress .now) (A .engaged .now)
+      loops.every-step f (loop .b) (loop .inv .1) (tests.word-fits (A .tenant) (A .progress .now) (A .engaged .now)
           (A .theirs .now) (loop .b) (omega (arith, if1 .left)) (sym (stage-agrees .ensures) ∙ not-false _ (if2 .left))
           (ap (λ (k : ℕ). stageAgrees (getD (A .engaged .now) (loop .b) 0) k (getD (A .theirs .now) (3 * loop .b + 1) 0)) (sym (other .ensures))
           ∙ sym (stage-agrees2 .ensures) ∙ not-false _ (if3 .left))),
@@ -150,7 +151,7 @@ returns-4 c =
     let loop = c .before .loop in
     let loop-test = c .loop-test in
     let A = c .before .before .before .before .before .before .args in
-    let f = fitWord (A .office) (lentOf (progressOnly (A .progress .now)) (A .engaged .now)) (A .theirs .now) in
+    let f = fitWord (A .tenant) (tenantAreas (progressOnly (A .progress .now)) (A .engaged .now)) (A .theirs .now) in
     sym (loops.every-end f (length (A .engaged .now)) (loop .b) (loop .inv .0) (omega (arith, loop-test .left)) (loop .inv .1))
 
 pub fit-words-spec : {M : Type 1} → statement M

@@ -27,7 +27,7 @@ returns c =
     let tile-count = c .before .tile-count in
     let if1 = c .if1 in
     let A = c .before .before .before .before .before .before .args in
-    tests.held-over (planOf (A .sizes .route) (A .nest)) (A .office) (A .progress .now) (A .engaged .now) (A .b)
+    tests.held-over (planOf (A .sizes .route) (A .nest)) (A .tenant) (A .progress .now) (A .engaged .now) (A .b)
     (omega (arith, word-index .ensures, tile-count .ensures .0, if1 .taken))
 
 mul-result : tie.Need-mul-result
@@ -49,15 +49,15 @@ returns-2 c =
     let if1 = c .before .before .if1 in
     let other = c .other in
     let A = start .args in
-    tests.held-left (planOf (A .sizes .route) (A .nest)) (A .office) (A .progress .now) (A .engaged .now) (A .b) (omega (
+    tests.held-left (planOf (A .sizes .route) (A .nest)) (A .tenant) (A .progress .now) (A .engaged .now) (A .b) (omega (
       arith,
       word-index .ensures,
       tile-count .ensures .0,
       if1 .left,
     )) (other .result) (other .ensures)
 
-pub held-spec : {M : Type 1} → statement M
-held-spec =
+pub held-by-other-spec : {M : Type 1} → statement M
+held-by-other-spec =
     tie.close
     (tie.spec
     mul-word-index

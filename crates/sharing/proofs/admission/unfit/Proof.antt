@@ -6,7 +6,7 @@ use lib.ListN.{take, drop}
 use borrow.Author.Tests.{not-true, not-false, le-leb, lt-leb}
 use Rattle.machine.specs.Machine.{stateOf}
 use Rattle.plan.specs.Shaped.{planOf}
-use Rattle.tenants.specs.Offices.{lentOf}
+use Rattle.tenants.specs.Tenants.{tenantAreas}
 use Rattle.engine.proofs.Lines as areas
 use Rattle.engine.proofs.Reading as reading
 use Rattle.sharing.proofs.Lines as lines
@@ -23,8 +23,8 @@ returns c =
     let if1 = c .if1 in
     let A = c .before .before .before .before .before .before .before .args in
     let p = planOf (A .sizes .route) (A .nest) in (
-      λ l q h k. lines.unfit-9 p (A .source .now) (A .office) (lentOf (stateOf (A .memories .now) (A .buffer .now) l (A .status .now)) (A .engaged .now)) q
-          (lines.no-own p (A .source .now) (lentOf (stateOf (A .memories .now) (A .buffer .now) l (A .status .now)) (A .engaged .now)) q
+      λ l q h k. lines.unfit-9 p (A .source .now) (A .tenant) (tenantAreas (stateOf (A .memories .now) (A .buffer .now) l (A .status .now)) (A .engaged .now)) q
+          (lines.no-own p (A .source .now) (tenantAreas (stateOf (A .memories .now) (A .buffer .now) l (A .status .now)) (A .engaged .now)) q
           (sym (areas-fit .ensures .0 l (h .counted)) ∙ not-true _ (if1 .taken))),
       λ z. absurd (omega arith),
     )
@@ -35,8 +35,8 @@ returns-2 c =
     let S = c .before .before .before .before .before .before .before .before .before in
     let A = S .args in
     let p = planOf (A .sizes .route) (A .nest) in (
-      λ l q h k. lines.unfit-9 p (A .source .now) (A .office) (lentOf (stateOf (A .memories .now) (A .buffer .now) l (A .status .now)) (A .engaged .now)) q
-          (lines.no-words p (A .source .now) (lentOf (stateOf (A .memories .now) (A .buffer .now) l (A .status .now)) (A .engaged .now)) q
+      λ l q h k. lines.unfit-9 p (A .source .now) (A .tenant) (tenantAreas (stateOf (A .memories .now) (A .buffer .now) l (A .status .now)) (A .engaged .now)) q
+          (lines.no-words p (A .source .now) (tenantAreas (stateOf (A .memories .now) (A .buffer .now) l (A .status .now)) (A .engaged .now)) q
           (λ e. if2 .taken (e ∙ sym (S .pre .0 .0 .processors)))),
       λ z. absurd (omega arith),
     )
@@ -50,8 +50,8 @@ returns-3 c =
     let S = c .before .before .before .before .before .before .before .before .before .before .before in
     let A = S .args in
     let p = planOf (A .sizes .route) (A .nest) in (
-      λ l q h k. lines.unfit-9 p (A .source .now) (A .office) (lentOf (stateOf (A .memories .now) (A .buffer .now) l (A .status .now)) (A .engaged .now)) q
-          (lines.no-theirs p (A .source .now) (lentOf (stateOf (A .memories .now) (A .buffer .now) l (A .status .now)) (A .engaged .now)) q
+      λ l q h k. lines.unfit-9 p (A .source .now) (A .tenant) (tenantAreas (stateOf (A .memories .now) (A .buffer .now) l (A .status .now)) (A .engaged .now)) q
+          (lines.no-theirs p (A .source .now) (tenantAreas (stateOf (A .memories .now) (A .buffer .now) l (A .status .now)) (A .engaged .now)) q
           (λ e. if3 .taken (k .counted ∙ e ∙ sym (areas.records-are (A .nest) (A .sizes) (S .pre .0 .0))))),
       λ z. absurd (omega arith),
     )
@@ -69,21 +69,22 @@ returns-4 c =
     let if4 = c .if4 in
     let A = S .args in
     let p = planOf (A .sizes .route) (A .nest) in (
-      λ l q h k. lines.unfit-11 p (A .source .now) (A .office) (lentOf (stateOf (A .memories .now) (A .buffer .now) l (A .status .now)) (A .engaged .now)) q
-          (lines.all-long p (A .source .now) (lentOf (stateOf (A .memories .now) (A .buffer .now) l (A .status .now)) (A .engaged .now)) q
+      λ l q h k. lines.unfit-11 p (A .source .now) (A .tenant) (tenantAreas (stateOf (A .memories .now) (A .buffer .now) l (A .status .now)) (A .engaged .now))
+          q
+          (lines.all-long p (A .source .now) (tenantAreas (stateOf (A .memories .now) (A .buffer .now) l (A .status .now)) (A .engaged .now)) q
           (sym (areas-fit .ensures .0 l (h .counted)) ∙ not-false _ (if1 .left)) (if2 .left ∙ S .pre .0 .0 .processors) (sym (k .counted) ∙ if3 .left
           ∙ areas.records-are (A .nest) (A .sizes) (S .pre .0 .0))) (lt-leb _ _ (if4 .taken)),
       λ z. absurd (omega arith),
     )
 
-sub-fit-rig : tie.Need-sub-fit-rig
-sub-fit-rig c = search needs
+sub-fit-sharing : tie.Need-sub-fit-sharing
+sub-fit-sharing c = search needs
 
-part-fit-rig-start : tie.Need-part-fit-rig-start
-part-fit-rig-start c = search needs
+part-fit-sharing-start : tie.Need-part-fit-sharing-start
+part-fit-sharing-start c = search needs
 
-part-fit-rig-end : tie.Need-part-fit-rig-end
-part-fit-rig-end c =
+part-fit-sharing-end : tie.Need-part-fit-sharing-end
+part-fit-sharing-end c =
     let at-if1 = c .before .before .before .before .before .before .before .before in
     let at-areas-fit = at-if1 .before in
     let S = at-areas-fit .before .before .before .before .before .before in
@@ -92,17 +93,17 @@ part-fit-rig-end c =
     let A = S .args in
     omega (arith, S .pre .1 .0, reading.few-words (A .nest) (A .sizes) (S .pre .0 .0) (A .progress .count) (areas-fit .ensures .1 (not-false _ (if1 .left))))
 
-sub-fit-rig-2 : tie.Need-sub-fit-rig-2
-sub-fit-rig-2 c = search needs
+sub-fit-sharing-2 : tie.Need-sub-fit-sharing-2
+sub-fit-sharing-2 c = search needs
 
-part-fit-rig-start-2 : tie.Need-part-fit-rig-start-2
-part-fit-rig-start-2 c = search needs
+part-fit-sharing-start-2 : tie.Need-part-fit-sharing-start-2
+part-fit-sharing-start-2 c = search needs
 
-part-fit-rig-end-2 : tie.Need-part-fit-rig-end-2
-part-fit-rig-end-2 c = search needs
+part-fit-sharing-end-2 : tie.Need-part-fit-sharing-end-2
+part-fit-sharing-end-2 c = search needs
 
-fit-rig-requires : tie.Need-fit-rig-requires
-fit-rig-requires c κs =
+fit-sharing-requires : tie.Need-fit-sharing-requires
+fit-sharing-requires c κs =
     let at-if4 = c .before .before .before .before .before .before in
     let at-if3 = at-if4 .before in
     let at-if2 = at-if3 .before .before in
@@ -152,7 +153,7 @@ returns-5 c =
     let if3 = at-if3 .if3 in
     let if2 = at-if2 .if2 in
     let if4 = at-if4 .if4 in
-    let fit-rig = c .before .fit-rig in
+    let fit-sharing = c .before .fit-sharing in
     let if5 = c .if5 in
     let A = S .args in
     let p = planOf (A .sizes .route) (A .nest) in
@@ -161,12 +162,13 @@ returns-5 c =
     let n = (areas-fit .ensures .1 (not-false _ (if1 .left))) in
     let few = reading.few-words (A .nest) (A .sizes) (S .pre .0 .0) (A .progress .count) n in
     let few2 = reading.few-words (A .nest) (A .sizes) (S .pre .0 .0) (A .theirs .count) (if3 .left ∙ areas.records-are (A .nest) (A .sizes) (S .pre .0 .0)) in (
-      λ l q h k. lines.unfit-10 p (A .source .now) (A .office) (lentOf (stateOf (A .memories .now) (A .buffer .now) l (A .status .now)) (A .engaged .now)) q
-          (lines.all-long p (A .source .now) (lentOf (stateOf (A .memories .now) (A .buffer .now) l (A .status .now)) (A .engaged .now)) q
+      λ l q h k. lines.unfit-10 p (A .source .now) (A .tenant) (tenantAreas (stateOf (A .memories .now) (A .buffer .now) l (A .status .now)) (A .engaged .now))
+          q
+          (lines.all-long p (A .source .now) (tenantAreas (stateOf (A .memories .now) (A .buffer .now) l (A .status .now)) (A .engaged .now)) q
           (sym (areas-fit .ensures .0 l (h .counted)) ∙ not-false _ (if1 .left)) (if2 .left ∙ S .pre .0 .0 .processors) (sym (k .counted) ∙ if3 .left
-          ∙ areas.records-are (A .nest) (A .sizes) (S .pre .0 .0))) (le-leb (A .office) 1 (omega (arith, if4 .left)))
-          (sym (lines.fit-as p (A .office) (A .memories .now) (A .buffer .now) own l (A .status .now) (A .engaged .now) other q (reading.part-is (A .progress) l
-          few h) (reading.part-is (A .theirs) q few2 k)) ∙ sym (fit-rig .ensures) ∙ not-true _ (if5 .taken)),
+          ∙ areas.records-are (A .nest) (A .sizes) (S .pre .0 .0))) (le-leb (A .tenant) 1 (omega (arith, if4 .left)))
+          (sym (lines.fit-as p (A .tenant) (A .memories .now) (A .buffer .now) own l (A .status .now) (A .engaged .now) other q (reading.part-is (A .progress) l
+          few h) (reading.part-is (A .theirs) q few2 k)) ∙ sym (fit-sharing .ensures) ∙ not-true _ (if5 .taken)),
       λ z. absurd (omega arith),
     )
 
@@ -183,7 +185,7 @@ returns-6 c =
     let if3 = at-if3 .if3 in
     let if2 = at-if2 .if2 in
     let if4 = at-if4 .if4 in
-    let fit-rig = c .before .fit-rig in
+    let fit-sharing = c .before .fit-sharing in
     let if5 = c .if5 in
     let A = S .args in
     let p = planOf (A .sizes .route) (A .nest) in
@@ -192,12 +194,12 @@ returns-6 c =
     let n = (areas-fit .ensures .1 (not-false _ (if1 .left))) in
     let few = reading.few-words (A .nest) (A .sizes) (S .pre .0 .0) (A .progress .count) n in
     let few2 = reading.few-words (A .nest) (A .sizes) (S .pre .0 .0) (A .theirs .count) (if3 .left ∙ areas.records-are (A .nest) (A .sizes) (S .pre .0 .0)) in (
-      λ l q h k. lines.unfit-0 p (A .source .now) (A .office) (lentOf (stateOf (A .memories .now) (A .buffer .now) l (A .status .now)) (A .engaged .now)) q
-          (lines.all-long p (A .source .now) (lentOf (stateOf (A .memories .now) (A .buffer .now) l (A .status .now)) (A .engaged .now)) q
+      λ l q h k. lines.unfit-0 p (A .source .now) (A .tenant) (tenantAreas (stateOf (A .memories .now) (A .buffer .now) l (A .status .now)) (A .engaged .now)) q
+          (lines.all-long p (A .source .now) (tenantAreas (stateOf (A .memories .now) (A .buffer .now) l (A .status .now)) (A .engaged .now)) q
           (sym (areas-fit .ensures .0 l (h .counted)) ∙ not-false _ (if1 .left)) (if2 .left ∙ S .pre .0 .0 .processors) (sym (k .counted) ∙ if3 .left
-          ∙ areas.records-are (A .nest) (A .sizes) (S .pre .0 .0))) (le-leb (A .office) 1 (omega (arith, if4 .left)))
-          (sym (lines.fit-as p (A .office) (A .memories .now) (A .buffer .now) own l (A .status .now) (A .engaged .now) other q (reading.part-is (A .progress) l
-          few h) (reading.part-is (A .theirs) q few2 k)) ∙ sym (fit-rig .ensures) ∙ not-false _ (if5 .left)),
+          ∙ areas.records-are (A .nest) (A .sizes) (S .pre .0 .0))) (le-leb (A .tenant) 1 (omega (arith, if4 .left)))
+          (sym (lines.fit-as p (A .tenant) (A .memories .now) (A .buffer .now) own l (A .status .now) (A .engaged .now) other q (reading.part-is (A .progress) l
+          few h) (reading.part-is (A .theirs) q few2 k)) ∙ sym (fit-sharing .ensures) ∙ not-false _ (if5 .left)),
       λ z. (
         n,
         if3 .left ∙ areas.records-are (A .nest)
@@ -205,8 +207,8 @@ returns-6 c =
       ),
     )
 
-pub unfit-spec : {M : Type 1} → statement M
-unfit-spec =
+pub refusal-of-areas-spec : {M : Type 1} → statement M
+refusal-of-areas-spec =
     tie.close
     (tie.spec
     areas-fit-requires
@@ -215,12 +217,12 @@ unfit-spec =
     mul-if3
     returns-3
     returns-4
-    sub-fit-rig
-    part-fit-rig-start
-    part-fit-rig-end
-    sub-fit-rig-2
-    part-fit-rig-start-2
-    part-fit-rig-end-2
-    fit-rig-requires
+    sub-fit-sharing
+    part-fit-sharing-start
+    part-fit-sharing-end
+    sub-fit-sharing-2
+    part-fit-sharing-start-2
+    part-fit-sharing-end-2
+    fit-sharing-requires
     returns-5
     returns-6)

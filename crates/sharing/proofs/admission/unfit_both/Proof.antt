@@ -3,7 +3,7 @@ use mathlib.Core.Path.{sym, _∙_}
 use borrow.Author.Tests.{not-true, not-false}
 use Rattle.machine.specs.Machine.{stateOf}
 use Rattle.plan.specs.Shaped.{planOf}
-use Rattle.tenants.specs.Offices.{rigOf, sourcesOf}
+use Rattle.tenants.specs.Tenants.{sharingOf, sourcesOf}
 use Rattle.engine.proofs.Lines.{Opened}
 use Rattle.sharing.proofs.Starts as starts
 use borrow.Author.Needs.{needs}
@@ -18,7 +18,7 @@ returns c =
     let opens = c .before .«open» in
     let A = c .before .before .before .before .before .before .before .before .before .before .before .before .args in
     λ l q e h k w. starts.number-read (A .encoded .now) (A .route) (sourcesOf (A .source0 .now) (A .source1 .now))
-    (rigOf (stateOf (A .memories0 .now) (A .buffer0 .now) l (A .status0 .now)) (stateOf (A .memories1 .now) (A .buffer1 .now) q (A .status1 .now)) e)
+    (sharingOf (stateOf (A .memories0 .now) (A .buffer0 .now) l (A .status0 .now)) (stateOf (A .memories1 .now) (A .buffer1 .now) q (A .status1 .now)) e)
     (opens .result .number) (opens .ensures .number) (c .if1 .taken)
 
 areas-fit-requires : tie.Need-areas-fit-requires
@@ -37,9 +37,9 @@ returns-2 c =
     let p = planOf (opens .result .sizes .route) (opens .result .nest) in
     let op : Opened (A .encoded .now) (A .route) p = opened-as in
     λ l q e h k w. starts.number-area (A .encoded .now) (A .route) (sourcesOf (A .source0 .now) (A .source1 .now))
-    (rigOf (stateOf (A .memories0 .now) (A .buffer0 .now) l (A .status0 .now)) (stateOf (A .memories1 .now) (A .buffer1 .now) q (A .status1 .now)) e)
+    (sharingOf (stateOf (A .memories0 .now) (A .buffer0 .now) l (A .status0 .now)) (stateOf (A .memories1 .now) (A .buffer1 .now) q (A .status1 .now)) e)
     p op (starts.no-first p (sourcesOf (A .source0 .now) (A .source1 .now))
-    (rigOf (stateOf (A .memories0 .now) (A .buffer0 .now) l (A .status0 .now)) (stateOf (A .memories1 .now) (A .buffer1 .now) q (A .status1 .now)) e)
+    (sharingOf (stateOf (A .memories0 .now) (A .buffer0 .now) l (A .status0 .now)) (stateOf (A .memories1 .now) (A .buffer1 .now) q (A .status1 .now)) e)
     (sym (c .before .areas-fit .ensures .0 l h) ∙ not-true _ (c .if2 .taken)))
 
 areas-fit-requires-2 : tie.Need-areas-fit-requires-2
@@ -58,9 +58,9 @@ returns-3 c =
     let p = planOf (opens .result .sizes .route) (opens .result .nest) in
     let op : Opened (A .encoded .now) (A .route) p = opened-as in
     λ l q e h k w. starts.number-area (A .encoded .now) (A .route) (sourcesOf (A .source0 .now) (A .source1 .now))
-    (rigOf (stateOf (A .memories0 .now) (A .buffer0 .now) l (A .status0 .now)) (stateOf (A .memories1 .now) (A .buffer1 .now) q (A .status1 .now)) e)
+    (sharingOf (stateOf (A .memories0 .now) (A .buffer0 .now) l (A .status0 .now)) (stateOf (A .memories1 .now) (A .buffer1 .now) q (A .status1 .now)) e)
     p op (starts.no-second p (sourcesOf (A .source0 .now) (A .source1 .now))
-    (rigOf (stateOf (A .memories0 .now) (A .buffer0 .now) l (A .status0 .now)) (stateOf (A .memories1 .now) (A .buffer1 .now) q (A .status1 .now)) e)
+    (sharingOf (stateOf (A .memories0 .now) (A .buffer0 .now) l (A .status0 .now)) (stateOf (A .memories1 .now) (A .buffer1 .now) q (A .status1 .now)) e)
     (sym (c .before .areas-fit2 .ensures .0 q k) ∙ not-true _ (c .if3 .taken)))
 
 returns-4 : tie.Need-returns-4
@@ -73,9 +73,9 @@ returns-4 c =
     let p = planOf (opens .result .sizes .route) (opens .result .nest) in
     let op : Opened (A .encoded .now) (A .route) p = opened-as in
     λ l q e h k w. starts.number-area (A .encoded .now) (A .route) (sourcesOf (A .source0 .now) (A .source1 .now))
-    (rigOf (stateOf (A .memories0 .now) (A .buffer0 .now) l (A .status0 .now)) (stateOf (A .memories1 .now) (A .buffer1 .now) q (A .status1 .now)) e)
+    (sharingOf (stateOf (A .memories0 .now) (A .buffer0 .now) l (A .status0 .now)) (stateOf (A .memories1 .now) (A .buffer1 .now) q (A .status1 .now)) e)
     p op (starts.no-shared p (sourcesOf (A .source0 .now) (A .source1 .now))
-    (rigOf (stateOf (A .memories0 .now) (A .buffer0 .now) l (A .status0 .now)) (stateOf (A .memories1 .now) (A .buffer1 .now) q (A .status1 .now)) e)
+    (sharingOf (stateOf (A .memories0 .now) (A .buffer0 .now) l (A .status0 .now)) (stateOf (A .memories1 .now) (A .buffer1 .now) q (A .status1 .now)) e)
     (λ is. c .if4 .taken (w ∙ is ∙ sym (planned .0 .processors))))
 
 returns-5 : tie.Need-returns-5
@@ -90,14 +90,14 @@ returns-5 c =
     let at-if3 = c .before .before in
     let at-if2 = at-if3 .before .before .before in
     λ l q e h k w. starts.number-none (A .encoded .now) (A .route) (sourcesOf (A .source0 .now) (A .source1 .now))
-    (rigOf (stateOf (A .memories0 .now) (A .buffer0 .now) l (A .status0 .now)) (stateOf (A .memories1 .now) (A .buffer1 .now) q (A .status1 .now)) e)
+    (sharingOf (stateOf (A .memories0 .now) (A .buffer0 .now) l (A .status0 .now)) (stateOf (A .memories1 .now) (A .buffer1 .now) q (A .status1 .now)) e)
     p op (starts.all-there p (sourcesOf (A .source0 .now) (A .source1 .now))
-    (rigOf (stateOf (A .memories0 .now) (A .buffer0 .now) l (A .status0 .now)) (stateOf (A .memories1 .now) (A .buffer1 .now) q (A .status1 .now)) e)
+    (sharingOf (stateOf (A .memories0 .now) (A .buffer0 .now) l (A .status0 .now)) (stateOf (A .memories1 .now) (A .buffer1 .now) q (A .status1 .now)) e)
     (sym (at-if2 .before .areas-fit .ensures .0 l h) ∙ not-false _ (at-if2 .if2 .left))
     (sym (at-if3 .before .areas-fit2 .ensures .0 q k) ∙ not-false _ (at-if3 .if3 .left)) (sym w ∙ c .if4 .left ∙ planned .0 .processors))
 
-pub unfit-both-spec : {M : Type 1} → statement M
-unfit-both-spec =
+pub refusal-of-both-spec : {M : Type 1} → statement M
+refusal-of-both-spec =
     tie.close
     (tie.spec
     open-requires

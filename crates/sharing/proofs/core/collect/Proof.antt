@@ -5,7 +5,7 @@ use native.Mathlib.Omega.{arith}
 use lib.ListN.{take, drop}
 use Rattle.machine.specs.Machine.{stateOf}
 use Rattle.plan.specs.Shaped.{planOf}
-use Rattle.tenants.specs.Offices.{lentOf}
+use Rattle.tenants.specs.Tenants.{tenantAreas}
 use Rattle.engine.proofs.Reading as reading
 use Rattle.sharing.proofs.Lines as lines
 use borrow.Author.Needs.{needs}
@@ -21,7 +21,7 @@ returns c =
     let opens = c .before .«open» in
     let if1 = c .if1 in
     let A = start .args in
-    λ l q h k. lines.collect-read (A .encoded .now) (A .route) (A .source .now) (A .office) (lentOf (stateOf (A .memories .now) (A .buffer .now) l
+    λ l q h k. lines.collect-read (A .encoded .now) (A .route) (A .source .now) (A .tenant) (tenantAreas (stateOf (A .memories .now) (A .buffer .now) l
     (A .status .now)) (A .engaged .now)) q (A .grid .now) (opens .result .number) (opens .ensures .number) (if1 .taken)
 
 returns-2 : tie.Need-returns-2
@@ -36,11 +36,11 @@ returns-2 c =
     let planned = opens .ensures .planned (if1 .left) in
     let opened-as = opens .ensures .opened (if1 .left) in
     let p = planOf (opens .result .sizes .route) (opens .result .nest) in
-    λ l q h k. lines.collect-grid (A .encoded .now) (A .route) (A .source .now) (A .office) (lentOf (stateOf (A .memories .now) (A .buffer .now) l
+    λ l q h k. lines.collect-grid (A .encoded .now) (A .route) (A .source .now) (A .tenant) (tenantAreas (stateOf (A .memories .now) (A .buffer .now) l
     (A .status .now)) (A .engaged .now)) q (A .grid .now) p opened-as (λ e. if2 .taken (e ∙ sym (planned .0 .cells)))
 
-unfit-requires : tie.Need-unfit-requires
-unfit-requires c κs =
+refusal-of-areas-requires : tie.Need-refusal-of-areas-requires
+refusal-of-areas-requires c κs =
     let at-if1 = c .before .before .before .before .before in
     let at-open = at-if1 .before in
     let S = at-open .before .before .before .before .before .before .before .before .before in
@@ -59,15 +59,15 @@ returns-3 c =
     let opens = at-open .«open» in
     let if1 = at-if1 .if1 in
     let if2 = at-if2 .if2 in
-    let unfit = c .before .unfit in
+    let refusal-of-areas = c .before .refusal-of-areas in
     let if3 = c .if3 in
     let A = start .args in
     let planned = opens .ensures .planned (if1 .left) in
     let opened-as = opens .ensures .opened (if1 .left) in
     let p = planOf (opens .result .sizes .route) (opens .result .nest) in
-    λ l q h k. lines.collect-unfit (A .encoded .now) (A .route) (A .source .now) (A .office) (lentOf (stateOf (A .memories .now) (A .buffer .now) l
-    (A .status .now)) (A .engaged .now)) q (A .grid .now) p opened-as (if2 .left ∙ planned .0 .cells) (unfit .result)
-    (unfit .ensures .0 l q h k) (if3 .taken)
+    λ l q h k. lines.collect-unfit (A .encoded .now) (A .route) (A .source .now) (A .tenant) (tenantAreas (stateOf (A .memories .now) (A .buffer .now) l
+    (A .status .now)) (A .engaged .now)) q (A .grid .now) p opened-as (if2 .left ∙ planned .0 .cells) (refusal-of-areas .result)
+    (refusal-of-areas .ensures .0 l q h k) (if3 .taken)
 
 sub-tiles-left : tie.Need-sub-tiles-left
 sub-tiles-left c = search needs
@@ -78,20 +78,20 @@ part-tiles-left-start c = search needs
 part-tiles-left-end : tie.Need-part-tiles-left-end
 part-tiles-left-end c =
     let at-if3 = c .before .before .before in
-    let at-unfit = at-if3 .before in
-    let at-if1 = at-unfit .before .before .before .before .before .before in
+    let at-refusal-of-areas = at-if3 .before in
+    let at-if1 = at-refusal-of-areas .before .before .before .before .before .before in
     let at-open = at-if1 .before in
     let S = at-open .before .before .before .before .before .before .before .before .before in
     let opens = at-open .«open» in
     let if1 = at-if1 .if1 in
-    let unfit = at-unfit .unfit in
+    let refusal-of-areas = at-refusal-of-areas .refusal-of-areas in
     let if3 = at-if3 .if3 in
     let A = S .args in
     let planned = opens .ensures .planned (if1 .left) in
     let p = planOf (opens .result .sizes .route) (opens .result .nest) in
     let own = take (A .progress .count - 0) (drop 0 (A .progress .words)) in
     let other = take (A .theirs .count - 0) (drop 0 (A .theirs .words)) in
-    let counts = unfit .ensures .1 (if3 .left) in
+    let counts = refusal-of-areas .ensures .1 (if3 .left) in
     let few = reading.few-words _ _ (planned .0) (A .progress .count) (counts .0) in
     let few2 = reading.few-words _ _ (planned .0) (A .theirs .count) (counts .1) in
     omega (arith, S .pre .0, few)
@@ -99,40 +99,42 @@ part-tiles-left-end c =
 tiles-left-requires : tie.Need-tiles-left-requires
 tiles-left-requires c κs =
     let at-if3 = c .before .before .before .before in
-    let at-unfit = at-if3 .before in
-    let at-if1 = at-unfit .before .before .before .before .before .before in
+    let at-refusal-of-areas = at-if3 .before in
+    let at-if1 = at-refusal-of-areas .before .before .before .before .before .before in
     let at-open = at-if1 .before in
     let S = at-open .before .before .before .before .before .before .before .before .before in
     let opens = at-open .«open» in
     let if1 = at-if1 .if1 in
-    let unfit = at-unfit .unfit in
+    let refusal-of-areas = at-refusal-of-areas .refusal-of-areas in
     let if3 = at-if3 .if3 in
     let A = S .args in
     let planned = opens .ensures .planned (if1 .left) in
     let p = planOf (opens .result .sizes .route) (opens .result .nest) in
     let own = take (A .progress .count - 0) (drop 0 (A .progress .words)) in
     let other = take (A .theirs .count - 0) (drop 0 (A .theirs .words)) in
-    let counts = unfit .ensures .1 (if3 .left) in
+    let counts = refusal-of-areas .ensures .1 (if3 .left) in
     let few = reading.few-words _ _ (planned .0) (A .progress .count) (counts .0) in
     let few2 = reading.few-words _ _ (planned .0) (A .theirs .count) (counts .1) in
-    let none = lines.unfit-none p (A .source .now) (A .office) (lentOf (stateOf (A .memories .now) (A .buffer .now) own (A .status .now)) (A .engaged .now))
-    other (unfit .result) (unfit .ensures .0 own other (reading.part-carries (A .progress) (S .pre .0) few) (reading.part-carries (A .theirs) (S .pre .1)
+    let none = lines.unfit-none p (A .source .now) (A .tenant) (tenantAreas (stateOf (A .memories .now) (A .buffer .now) own (A .status .now))
+    (A .engaged .now))
+    other (refusal-of-areas .result) (refusal-of-areas .ensures .0 own other (reading.part-carries (A .progress) (S .pre .0) few)
+    (reading.part-carries (A .theirs) (S .pre .1)
     few2)) (if3 .left) in
-    let lengths = lines.lengths-are p (A .source .now) (lentOf (stateOf (A .memories .now) (A .buffer .now) own (A .status .now)) (A .engaged .now)) other
+    let lengths = lines.lengths-are p (A .source .now) (tenantAreas (stateOf (A .memories .now) (A .buffer .now) own (A .status .now)) (A .engaged .now)) other
     (none .0) in
     (planned .0, (planned .1, lengths .own .progress))
 
 returns-4 : tie.Need-returns-4
 returns-4 c =
     let at-if3 = c .before .before .before .before .before .before in
-    let at-unfit = at-if3 .before in
-    let at-if2 = at-unfit .before .before in
+    let at-refusal-of-areas = at-if3 .before in
+    let at-if2 = at-refusal-of-areas .before .before in
     let at-if1 = at-if2 .before .before .before .before in
     let at-open = at-if1 .before in
     let start = at-open .before .before .before .before .before .before .before .before .before in
     let opens = at-open .«open» in
     let if1 = at-if1 .if1 in
-    let unfit = at-unfit .unfit in
+    let refusal-of-areas = at-refusal-of-areas .refusal-of-areas in
     let if3 = at-if3 .if3 in
     let if2 = at-if2 .if2 in
     let tiles-left = c .before .tiles-left in
@@ -143,25 +145,26 @@ returns-4 c =
     let p = planOf (opens .result .sizes .route) (opens .result .nest) in
     let own = take (A .progress .count - 0) (drop 0 (A .progress .words)) in
     let other = take (A .theirs .count - 0) (drop 0 (A .theirs .words)) in
-    let counts = unfit .ensures .1 (if3 .left) in
+    let counts = refusal-of-areas .ensures .1 (if3 .left) in
     let few = reading.few-words _ _ (planned .0) (A .progress .count) (counts .0) in
     let few2 = reading.few-words _ _ (planned .0) (A .theirs .count) (counts .1) in
-    λ l q h k. lines.collect-left (A .encoded .now) (A .route) (A .source .now) (A .office) (lentOf (stateOf (A .memories .now) (A .buffer .now) l
-    (A .status .now)) (A .engaged .now)) q (A .grid .now) p opened-as (if2 .left ∙ planned .0 .cells) (unfit .result)
-    (unfit .ensures .0 l q h k) (if3 .left) (tiles-left .result) (tiles-left .ensures ∙ sym (reading.left-as p _ l (reading.part-is (A .progress) l few h)))
+    λ l q h k. lines.collect-left (A .encoded .now) (A .route) (A .source .now) (A .tenant) (tenantAreas (stateOf (A .memories .now) (A .buffer .now) l
+    (A .status .now)) (A .engaged .now)) q (A .grid .now) p opened-as (if2 .left ∙ planned .0 .cells) (refusal-of-areas .result)
+    (refusal-of-areas .ensures .0 l q h k) (if3 .left) (tiles-left .result) (tiles-left .ensures ∙ sym
+    (reading.left-as p _ l (reading.part-is (A .progress) l few h)))
     (if4 .taken)
 
 copy-cells-requires : tie.Need-copy-cells-requires
 copy-cells-requires c κs =
     let at-if3 = c .before .before .before .before .before .before .before in
-    let at-unfit = at-if3 .before in
-    let at-if2 = at-unfit .before .before in
+    let at-refusal-of-areas = at-if3 .before in
+    let at-if2 = at-refusal-of-areas .before .before in
     let at-if1 = at-if2 .before .before .before .before in
     let at-open = at-if1 .before in
     let S = at-open .before .before .before .before .before .before .before .before .before in
     let opens = at-open .«open» in
     let if1 = at-if1 .if1 in
-    let unfit = at-unfit .unfit in
+    let refusal-of-areas = at-refusal-of-areas .refusal-of-areas in
     let if3 = at-if3 .if3 in
     let if2 = at-if2 .if2 in
     let A = S .args in
@@ -169,13 +172,15 @@ copy-cells-requires c κs =
     let p = planOf (opens .result .sizes .route) (opens .result .nest) in
     let own = take (A .progress .count - 0) (drop 0 (A .progress .words)) in
     let other = take (A .theirs .count - 0) (drop 0 (A .theirs .words)) in
-    let counts = unfit .ensures .1 (if3 .left) in
+    let counts = refusal-of-areas .ensures .1 (if3 .left) in
     let few = reading.few-words _ _ (planned .0) (A .progress .count) (counts .0) in
     let few2 = reading.few-words _ _ (planned .0) (A .theirs .count) (counts .1) in
-    let none = lines.unfit-none p (A .source .now) (A .office) (lentOf (stateOf (A .memories .now) (A .buffer .now) own (A .status .now)) (A .engaged .now))
-    other (unfit .result) (unfit .ensures .0 own other (reading.part-carries (A .progress) (S .pre .0) few) (reading.part-carries (A .theirs) (S .pre .1)
+    let none = lines.unfit-none p (A .source .now) (A .tenant) (tenantAreas (stateOf (A .memories .now) (A .buffer .now) own (A .status .now))
+    (A .engaged .now))
+    other (refusal-of-areas .result) (refusal-of-areas .ensures .0 own other (reading.part-carries (A .progress) (S .pre .0) few)
+    (reading.part-carries (A .theirs) (S .pre .1)
     few2)) (if3 .left) in
-    let lengths = lines.lengths-are p (A .source .now) (lentOf (stateOf (A .memories .now) (A .buffer .now) own (A .status .now)) (A .engaged .now)) other
+    let lengths = lines.lengths-are p (A .source .now) (tenantAreas (stateOf (A .memories .now) (A .buffer .now) own (A .status .now)) (A .engaged .now)) other
     (none .0) in
     ((planned .0, planned .1 .routed), (lengths .own .memories, if2 .left ∙ planned .0 .cells))
 
@@ -187,14 +192,14 @@ returns-5 c =
     let at-if4 = c .before .before .before .before in
     let at-tiles-left = at-if4 .before in
     let at-if3 = at-tiles-left .before .before .before .before .before in
-    let at-unfit = at-if3 .before in
-    let at-if2 = at-unfit .before .before in
+    let at-refusal-of-areas = at-if3 .before in
+    let at-if2 = at-refusal-of-areas .before .before in
     let at-if1 = at-if2 .before .before .before .before in
     let at-open = at-if1 .before in
     let start = at-open .before .before .before .before .before .before .before .before .before in
     let opens = at-open .«open» in
     let if1 = at-if1 .if1 in
-    let unfit = at-unfit .unfit in
+    let refusal-of-areas = at-refusal-of-areas .refusal-of-areas in
     let if3 = at-if3 .if3 in
     let if2 = at-if2 .if2 in
     let tiles-left = at-tiles-left .tiles-left in
@@ -206,12 +211,13 @@ returns-5 c =
     let p = planOf (opens .result .sizes .route) (opens .result .nest) in
     let own = take (A .progress .count - 0) (drop 0 (A .progress .words)) in
     let other = take (A .theirs .count - 0) (drop 0 (A .theirs .words)) in
-    let counts = unfit .ensures .1 (if3 .left) in
+    let counts = refusal-of-areas .ensures .1 (if3 .left) in
     let few = reading.few-words _ _ (planned .0) (A .progress .count) (counts .0) in
     let few2 = reading.few-words _ _ (planned .0) (A .theirs .count) (counts .1) in
-    λ l q h k. lines.collect-done (A .encoded .now) (A .route) (A .source .now) (A .office) (lentOf (stateOf (A .memories .now) (A .buffer .now) l
-    (A .status .now)) (A .engaged .now)) q (A .grid .now) p opened-as (if2 .left ∙ planned .0 .cells) (unfit .result)
-    (unfit .ensures .0 l q h k) (if3 .left) (tiles-left .result) (tiles-left .ensures ∙ sym (reading.left-as p _ l (reading.part-is (A .progress) l few h)))
+    λ l q h k. lines.collect-done (A .encoded .now) (A .route) (A .source .now) (A .tenant) (tenantAreas (stateOf (A .memories .now) (A .buffer .now) l
+    (A .status .now)) (A .engaged .now)) q (A .grid .now) p opened-as (if2 .left ∙ planned .0 .cells) (refusal-of-areas .result)
+    (refusal-of-areas .ensures .0 l q h k) (if3 .left) (tiles-left .result) (tiles-left .ensures ∙ sym
+    (reading.left-as p _ l (reading.part-is (A .progress) l few h)))
     (copy-cells .last .1 .1 .1 .0) (if4 .left) (copy-cells .ensures)
 
 pub collect-spec : {M : Type 1} → statement M
@@ -221,7 +227,7 @@ collect-spec =
     open-requires
     returns
     returns-2
-    unfit-requires
+    refusal-of-areas-requires
     returns-3
     sub-tiles-left
     part-tiles-left-start

@@ -1,7 +1,7 @@
 -- Each return is the call by the line that counts.
 use Rattle.machine.specs.Machine.{stateOf}
 use Rattle.plan.specs.Shaped.{planOf}
-use Rattle.tenants.specs.Offices.{lentOf}
+use Rattle.tenants.specs.Tenants.{tenantAreas}
 use Rattle.sharing.proofs.Lines as lines
 use borrow.Author.Needs.{needs}
 use Rattle.sharing.proofs.core.deliver.Statement.{statement}
@@ -16,11 +16,11 @@ returns c =
     let opens = c .before .«open» in
     let if1 = c .if1 in
     let A = start .args in
-    λ l q h k. lines.deliver-read (A .encoded .now) (A .route) (A .source .now) (A .office) (lentOf (stateOf (A .memories .now) (A .buffer .now) l
+    λ l q h k. lines.deliver-read (A .encoded .now) (A .route) (A .source .now) (A .tenant) (tenantAreas (stateOf (A .memories .now) (A .buffer .now) l
     (A .status .now)) (A .engaged .now)) q (A .message) (opens .result .number) (opens .ensures .number) (if1 .taken)
 
-unfit-requires : tie.Need-unfit-requires
-unfit-requires c κs =
+refusal-of-areas-requires : tie.Need-refusal-of-areas-requires
+refusal-of-areas-requires c κs =
     let at-if1 = c .before .before .before .before in
     let at-open = at-if1 .before in
     let S = at-open .before .before .before .before .before .before .before .before in
@@ -40,13 +40,13 @@ returns-2 c =
     let start = at-open .before .before .before .before .before .before .before .before in
     let opens = at-open .«open» in
     let if1 = at-if1 .if1 in
-    let unfit = c .before .unfit in
+    let refusal-of-areas = c .before .refusal-of-areas in
     let if2 = c .if2 in
     let A = start .args in
     let opened-as = opens .ensures .opened (if1 .left) in
     let p = planOf (opens .result .sizes .route) (opens .result .nest) in
-    λ l q h k. lines.deliver-unfit (A .encoded .now) (A .route) (A .source .now) (A .office) (lentOf (stateOf (A .memories .now) (A .buffer .now) l
-    (A .status .now)) (A .engaged .now)) q (A .message) p opened-as (unfit .result) (unfit .ensures .0 l q h k)
+    λ l q h k. lines.deliver-unfit (A .encoded .now) (A .route) (A .source .now) (A .tenant) (tenantAreas (stateOf (A .memories .now) (A .buffer .now) l
+    (A .status .now)) (A .engaged .now)) q (A .message) p opened-as (refusal-of-areas .result) (refusal-of-areas .ensures .0 l q h k)
     (if2 .taken)
 
 hand-over-requires : tie.Need-hand-over-requires
@@ -58,20 +58,20 @@ same-length-2 c = search needs
 returns-3 : tie.Need-returns-3
 returns-3 c =
     let at-if2 = c .before .before .before .before in
-    let at-unfit = at-if2 .before in
-    let at-if1 = at-unfit .before .before .before .before .before in
+    let at-refusal-of-areas = at-if2 .before in
+    let at-if1 = at-refusal-of-areas .before .before .before .before .before in
     let at-open = at-if1 .before in
     let start = at-open .before .before .before .before .before .before .before .before in
     let opens = at-open .«open» in
     let if1 = at-if1 .if1 in
-    let unfit = at-unfit .unfit in
+    let refusal-of-areas = at-refusal-of-areas .refusal-of-areas in
     let if2 = at-if2 .if2 in
     let hand-over = c .before .before .hand-over in
     let A = start .args in
     let opened-as = opens .ensures .opened (if1 .left) in
     let p = planOf (opens .result .sizes .route) (opens .result .nest) in
-    λ l q h k. lines.deliver-over (A .encoded .now) (A .route) (A .source .now) (A .office) (lentOf (stateOf (A .memories .now) (A .buffer .now) l
-    (A .status .now)) (A .engaged .now)) q (A .message) p opened-as (unfit .result) (unfit .ensures .0 l q h k)
+    λ l q h k. lines.deliver-over (A .encoded .now) (A .route) (A .source .now) (A .tenant) (tenantAreas (stateOf (A .memories .now) (A .buffer .now) l
+    (A .status .now)) (A .engaged .now)) q (A .message) p opened-as (refusal-of-areas .result) (refusal-of-areas .ensures .0 l q h k)
     (if2 .left) (hand-over .result) (hand-over .last .0) (hand-over .ensures)
 
 pub deliver-spec : {M : Type 1} → statement M
@@ -80,7 +80,7 @@ deliver-spec =
     (tie.spec
     open-requires
     returns
-    unfit-requires
+    refusal-of-areas-requires
     same-length
     returns-2
     hand-over-requires

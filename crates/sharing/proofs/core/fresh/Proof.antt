@@ -1,13 +1,13 @@
--- A refusal writes nothing; a start clears all areas of both offices and frees every processor.
+-- A refusal writes nothing; a start clears all areas of both tenants and frees every processor.
 use mathlib.Core.Path.{refl}
 use Rattle.machine.specs.Machine.{stateOf}
-use Rattle.tenants.specs.Offices.{rigOf, sourcesOf}
+use Rattle.tenants.specs.Tenants.{sharingOf, sourcesOf}
 use Rattle.sharing.proofs.Starts as starts
 use Rattle.sharing.proofs.core.fresh.Statement.{statement}
 use Rattle.sharing.proofs.core.fresh.Tie as tie
 
-unfit-both-requires : tie.Need-unfit-both-requires
-unfit-both-requires c κs = tt
+refusal-of-both-requires : tie.Need-refusal-of-both-requires
+refusal-of-both-requires c κs = tt
 
 same-length : tie.Need-same-length
 same-length c = refl
@@ -29,14 +29,14 @@ same-length-6 c = refl
 
 returns : tie.Need-returns
 returns c =
-    let at-unfit-both = c .before in
-    let A = at-unfit-both .before .before .before .before .before .before .before .before .before .before .before .before .before .before .before .before
+    let at-refusal-of-both = c .before in
+    let A = at-refusal-of-both .before .before .before .before .before .before .before .before .before .before .before .before .before .before .before .before
     .before .args in
-    let unfit-both = at-unfit-both .unfit-both in
-    λ l q h k. starts.zeros-kept (unfit-both .result) (A .memories0 .now) (A .buffer0 .now) (A .status0 .now) (A .memories1 .now) (A .buffer1 .now)
+    let refusal-of-both = at-refusal-of-both .refusal-of-both in
+    λ l q h k. starts.zeros-kept (refusal-of-both .result) (A .memories0 .now) (A .buffer0 .now) (A .status0 .now) (A .memories1 .now) (A .buffer1 .now)
     (A .status1 .now) l q (A .engaged .now) _ (c .if1 .taken) (starts.fresh-refused (A .encoded .now) (A .route) (sourcesOf (A .source0 .now) (A .source1 .now))
-    (rigOf (stateOf (A .memories0 .now) (A .buffer0 .now) l (A .status0 .now)) (stateOf (A .memories1 .now) (A .buffer1 .now) q (A .status1 .now))
-    (A .engaged .now)) (unfit-both .result) (unfit-both .ensures l q (A .engaged .now) h k refl)
+    (sharingOf (stateOf (A .memories0 .now) (A .buffer0 .now) l (A .status0 .now)) (stateOf (A .memories1 .now) (A .buffer1 .now) q (A .status1 .now))
+    (A .engaged .now)) (refusal-of-both .result) (refusal-of-both .ensures l q (A .engaged .now) h k refl)
     (c .if1 .taken))
 
 clear-requires : tie.Need-clear-requires
@@ -89,21 +89,21 @@ returns-2 c =
     let at-clear2 = c .before .before .before .before .before .before .before .before .before .before in
     let at-clear = at-clear2 .before .before .before .before .before .before .before .before .before .before in
     let at-if1 = at-clear .before .before .before .before in
-    let at-unfit-both = at-if1 .before in
-    let A = at-unfit-both .before .before .before .before .before .before .before .before .before .before .before .before .before .before .before .before
+    let at-refusal-of-both = at-if1 .before in
+    let A = at-refusal-of-both .before .before .before .before .before .before .before .before .before .before .before .before .before .before .before .before
     .before .args in
-    let unfit-both = at-unfit-both .unfit-both in
+    let refusal-of-both = at-refusal-of-both .refusal-of-both in
     λ l q h k. starts.fresh-done (A .encoded .now) (A .route) (sourcesOf (A .source0 .now) (A .source1 .now))
     (stateOf (A .memories0 .now) (A .buffer0 .now) l (A .status0 .now))
-    (stateOf (A .memories1 .now) (A .buffer1 .now) q (A .status1 .now)) (A .engaged .now) (unfit-both .result)
-    (unfit-both .ensures l q (A .engaged .now) h k refl)
+    (stateOf (A .memories1 .now) (A .buffer1 .now) q (A .status1 .now)) (A .engaged .now) (refusal-of-both .result)
+    (refusal-of-both .ensures l q (A .engaged .now) h k refl)
     (at-if1 .if1 .left) _ _ _ _ _ _ _ (at-clear .clear .ensures) (at-clear2 .clear2 .ensures) (c .before .before .fill-words .ensures)
 
 pub fresh-spec : {M : Type 1} → statement M
 fresh-spec =
     tie.close
     (tie.spec
-    unfit-both-requires
+    refusal-of-both-requires
     same-length
     same-length-2
     same-length-3

@@ -6,7 +6,7 @@ use Rattle.nest.specs.Shape.{tiles}
 use Rattle.plan.specs.Geometry.{processorOf}
 use Rattle.plan.specs.Shaped.{boxTile}
 use Rattle.tables.specs.shaped_table.Table.{Owned}
-use Rattle.tables.specs.shaped_table.Lines.{Held}
+use Rattle.tables.specs.shaped_table.Lines.{OneProcessor}
 use Rattle.tables.proofs.shaped_table.Laws as L
 use Rattle.tables.proofs.shaped_table.Lines as R
 use Rattle.tables.proofs.shaped_table.fill_owners.Statement.{statement}
@@ -14,7 +14,7 @@ use Rattle.tables.proofs.shaped_table.fill_owners.Tie as tie
 
 abbrev Inv-loop : tie.InvT-loop
 Inv-loop nest sizes lens₀ n owner₀ t₀ lens owner t =
-    Owned nest lens t × ((t ≤ n) × ((s : ℕ) → t ≤ s → s < tiles nest → Held nest (boxTile nest s) (owner .number) (owner .end)))
+    Owned nest lens t × ((t ≤ n) × ((s : ℕ) → t ≤ s → s < tiles nest → OneProcessor nest (boxTile nest s) (owner .number) (owner .end)))
 
 abbrev μ-loop : tie.MeasureT-loop
 μ-loop nest sizes lens₀ n owner₀ t₀ lens owner t = n - t

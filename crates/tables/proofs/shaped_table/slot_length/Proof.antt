@@ -24,8 +24,8 @@ returns c =
       omega arith,
     )
 
-outside-requires : tie.Need-outside-requires
-outside-requires c κs =
+beyond-last-requires : tie.Need-beyond-last-requires
+beyond-last-requires c κs =
     let start = c .before .before .before .before .before in (
       omega (arith, (start .pre .0 .0 .accepted) .spread-low, (start .pre .0 .0 .accepted) .dimensions-most),
       L.steps-low _ (start .pre .0 .0 .accepted) (start .args .tile) (start .args .way) _ _ (start .args .sizes .across) (start .pre .1 .1)
@@ -42,7 +42,7 @@ returns-2 c =
       λ t h e. sym (ap length (L.leaves-all _ (start .pre .0 .0 .accepted) t (start .args .way) (start .args .tile) h (start .pre .0 .1 .1 .1) e _
           (rw (start .pre .0 .1 .0) at (along-of .ensures)) (sym (at-leaves .leaves .ensures) ∙ not-false _ (at-if1 .if1 .left))) ∙ L.beyond-none _
           (start .pre .0 .0 .accepted) (start .args .tile) (start .args .way) _ _ (start .args .sizes .across) (start .pre .1 .1)
-          (rw (start .pre .0 .1 .0) at (along-of .ensures)) (start .pre .0 .0 .across) (sym (c .before .outside .ensures) ∙ c .if2 .taken)),
+          (rw (start .pre .0 .1 .0) at (along-of .ensures)) (start .pre .0 .0 .across) (sym (c .before .beyond-last .ensures) ∙ c .if2 .taken)),
       omega arith,
     )
 
@@ -69,7 +69,7 @@ slot-length-spec =
     along-of-requires
     leaves-requires
     returns
-    outside-requires
+    beyond-last-requires
     returns-2
     count-of-requires
     returns-3)

@@ -44,8 +44,8 @@ returns-2 c =
     (opens .ensures .opened (at-if1 .if1 .left))
     (sym (at-as-long .as-long .ensures (A .words .now) refl) ∙ not-true _ (c .if2 .taken))
 
-unfit-requires : tie.Need-unfit-requires
-unfit-requires c κs =
+refusal-of-areas-requires : tie.Need-refusal-of-areas-requires
+refusal-of-areas-requires c κs =
     let at-if1 = c .before .before .before .before .before .before .before .before in
     let at-open = at-if1 .before in
     let S = at-open .before .before .before .before .before .before .before .before in
@@ -61,25 +61,26 @@ same-length-2 c = search needs
 
 returns-3 : tie.Need-returns-3
 returns-3 c =
-    let at-unfit = c .before in
-    let at-if2 = at-unfit .before .before .before .before in
+    let at-refusal-of-areas = c .before in
+    let at-if2 = at-refusal-of-areas .before .before .before .before in
     let at-as-long = at-if2 .before in
     let at-if1 = at-as-long .before .before .before .before in
     let at-open = at-if1 .before in
     let S = at-open .before .before .before .before .before .before .before .before in
     let A = S .args in
     let opens = at-open .«open» in
-    let unfit = at-unfit .unfit in
+    let refusal-of-areas = at-refusal-of-areas .refusal-of-areas in
     λ l h. answers.take-in-unfit (A .encoded .now) (A .route) (A .source .now) (stateOf (A .memories .now) (A .buffer .now) l
     (A .status .now)) (A .processor) (A .message) (A .words .now) (planOf (opens .result .sizes .route) (opens .result .nest))
     (opens .ensures .opened (at-if1 .if1 .left))
-    (sym (at-as-long .as-long .ensures (A .words .now) refl) ∙ not-false _ (at-if2 .if2 .left)) (unfit .result) (unfit .ensures .0 l h) (c .if3 .taken)
+    (sym (at-as-long .as-long .ensures (A .words .now) refl) ∙ not-false _ (at-if2 .if2 .left)) (refusal-of-areas .result) (refusal-of-areas .ensures .0 l h)
+    (c .if3 .taken)
 
 receive-requires : tie.Need-receive-requires
 receive-requires c κs =
     let at-if3 = c .before .before .before in
-    let at-unfit = at-if3 .before in
-    let at-if2 = at-unfit .before .before .before .before in
+    let at-refusal-of-areas = at-if3 .before in
+    let at-if2 = at-refusal-of-areas .before .before .before .before in
     let at-as-long = at-if2 .before in
     let at-if1 = at-as-long .before .before .before .before in
     let at-open = at-if1 .before in
@@ -88,15 +89,15 @@ receive-requires c κs =
     let if1 = at-if1 .if1 in
     let opens = at-open .«open» in
     let planned = opens .ensures .planned (if1 .left) in
-    let unfit = at-unfit .unfit in
+    let refusal-of-areas = at-refusal-of-areas .refusal-of-areas in
     let if3 = at-if3 .if3 in (
       planned,
       taking.may-take (planOf (opens .result .sizes .route) (opens .result .nest))
           (A .source .now) (stateOf (A .memories .now) (A .buffer .now)
           (take (A .progress .count - 0) (drop 0 (A .progress .words)))
-          (A .status .now)) (unfit .result) (unfit .ensures .0 (take (A .progress .count - 0) (drop 0 (A .progress .words)))
+          (A .status .now)) (refusal-of-areas .result) (refusal-of-areas .ensures .0 (take (A .progress .count - 0) (drop 0 (A .progress .words)))
           (reading.part-carries (A .progress) (S .pre) (reading.few-words _ _ (planned .0) (A .progress .count)
-          (unfit .ensures .1 (if3 .left))))) (if3 .left) (A .message) (A .words .now) (sym (at-as-long .as-long .ensures (A .words .now) refl)
+          (refusal-of-areas .ensures .1 (if3 .left))))) (if3 .left) (A .message) (A .words .now) (sym (at-as-long .as-long .ensures (A .words .now) refl)
           ∙ not-false _ (at-if2 .if2 .left)),
     )
 
@@ -110,19 +111,19 @@ returns-4 : tie.Need-returns-4
 returns-4 c =
     let at-receive = c .before .before .before .before in
     let at-if3 = at-receive .before .before .before .before in
-    let at-unfit = at-if3 .before in
-    let at-if2 = at-unfit .before .before .before .before in
+    let at-refusal-of-areas = at-if3 .before in
+    let at-if2 = at-refusal-of-areas .before .before .before .before in
     let at-as-long = at-if2 .before in
     let at-if1 = at-as-long .before .before .before .before in
     let at-open = at-if1 .before in
     let S = at-open .before .before .before .before .before .before .before .before in
     let A = S .args in
     let opens = at-open .«open» in
-    let unfit = at-unfit .unfit in
+    let refusal-of-areas = at-refusal-of-areas .refusal-of-areas in
     λ l h. answers.take-in-received (A .encoded .now) (A .route) (A .source .now) (stateOf (A .memories .now) (A .buffer .now)
     l (A .status .now)) (A .processor) (A .message) (A .words .now) (planOf (opens .result .sizes .route) (opens .result .nest))
     (opens .ensures .opened (at-if1 .if1 .left))
-    (sym (at-as-long .as-long .ensures (A .words .now) refl) ∙ not-false _ (at-if2 .if2 .left)) (unfit .result) (unfit .ensures .0 l h)
+    (sym (at-as-long .as-long .ensures (A .words .now) refl) ∙ not-false _ (at-if2 .if2 .left)) (refusal-of-areas .result) (refusal-of-areas .ensures .0 l h)
     (at-if3 .if3 .left) _ (at-receive .receive .ensures (A .memories .now) l)
 
 pub take-in-spec : {M : Type 1} → statement M
@@ -133,7 +134,7 @@ take-in-spec =
     returns
     as-long-requires
     returns-2
-    unfit-requires
+    refusal-of-areas-requires
     same-length
     same-length-2
     returns-3

@@ -25,8 +25,8 @@ element-copy-out-from c = search needs
 inner-requires : tie.Need-inner-requires
 inner-requires c κs = search needs
 
-line-requires : tie.Need-line-requires
-line-requires c κs =
+edge-row-requires : tie.Need-edge-row-requires
+edge-row-requires c κs =
     let start = c .before .before .before .before .before .before .before .before in
     let p = start .pre .1 in
     let q = p .0 .1 .0 in
@@ -42,7 +42,8 @@ returns c =
     let at-if1 = c .before .before .before .before in
     let at-inner = at-if1 .before in
     let i = sym (at-inner .inner .ensures) ∙ at-if1 .if1 .taken in
-    λ x p. row-values _ (p .0 .0) _ _ _ _ _ _ (inner-row _ (p .0 .0) _ (p .1 .0) _ (p .1 .1) _ _ _ _ _ (p .0 .1 .0) i) _ _ _ (c .before .before .line .ensures)
+    λ x p. row-values _ (p .0 .0) _ _ _ _ _ _ (inner-row _ (p .0 .0) _ (p .1 .0) _ (p .1 .1) _ _ _ _ _ (p .0 .1 .0) i) _ _ _
+    (c .before .before .edge-row .ensures)
 
 element-copy-out-t20 : tie.Need-element-copy-out-t20
 element-copy-out-t20 c = search needs
@@ -62,8 +63,8 @@ firsts-of-requires c κs =
     let p = start .pre in
     (p .0, (p .1 .0 .0, p .1 .0 .1 .0 .given))
 
-short-line-requires : tie.Need-short-line-requires
-short-line-requires c κs =
+short-row-requires : tie.Need-short-row-requires
+short-row-requires c κs =
     let start = c .before .before .before .before .before .before .before .before .before .before .before .before .before .before in
     let s = start .pre in
     let p = s .1 in
@@ -79,7 +80,7 @@ returns-2 : tie.Need-returns-2
 returns-2 c =
     λ x p.
     let f = firsts-copied _ (p .0 .0) _ _ (c .before .before .before .before .before .firsts-of .ensures x (p .0 .0) (p .0 .1 .0 .given)) in
-    row-values _ (p .0 .0) _ _ _ _ _ _ (any-row _ (p .0 .0) _ (p .1 .0) _ (p .1 .1) _ _ _ _ _ (p .0 .1 .0) _ f) _ _ _ (c .before .before .short-line .ensures)
+    row-values _ (p .0 .0) _ _ _ _ _ _ (any-row _ (p .0 .0) _ (p .1 .0) _ (p .1 .1) _ _ _ _ _ (p .0 .1 .0) _ f) _ _ _ (c .before .before .short-row .ensures)
 
 pub row-spec : {M : Type 1} → statement M
 row-spec =
@@ -91,7 +92,7 @@ row-spec =
     mul-from
     element-copy-out-from
     inner-requires
-    line-requires
+    edge-row-requires
     same-length
     returns
     element-copy-out-t20
@@ -99,6 +100,6 @@ row-spec =
     element-copy-out-t36
     element-copy-out-t39
     firsts-of-requires
-    short-line-requires
+    short-row-requires
     same-length-2
     returns-2)

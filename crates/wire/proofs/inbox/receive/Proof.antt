@@ -58,11 +58,10 @@ fill-requires : tie.Need-fill-requires
 fill-requires c κs =
     let at-if1 = c .before .before .before .before .before .before .before in
     let at-with-sizes = at-if1 .before in
-    let opening = at-with-sizes .with-sizes in
-    (
-  opening .ensures .sized (at-if1 .if1 .left),
-  (opening .ensures .routed (at-if1 .if1 .left), refl),
-)
+    let opening = at-with-sizes .with-sizes in (
+      opening .ensures .sized (at-if1 .if1 .left),
+      (opening .ensures .routed (at-if1 .if1 .left), refl),
+    )
 
 inbox-fits-requires : tie.Need-inbox-fits-requires
 inbox-fits-requires c κs = search needs
@@ -88,8 +87,8 @@ returns-3 c =
     (c .refusal3 .result) (c .refusal3 .ensures)
     (sym (at-inbox-fits .inbox-fits .ensures) ∙ not-true _ (at-if3 .if3 .taken))
 
-unfit-requires : tie.Need-unfit-requires
-unfit-requires c κs =
+refusal-of-areas-requires : tie.Need-refusal-of-areas-requires
+refusal-of-areas-requires c κs =
     let at-fill = c .before .before .before .before .before .before in
     let at-if1 = at-fill .before .before .before .before .before .before .before .before in
     let at-with-sizes = at-if1 .before in
@@ -109,8 +108,8 @@ same-length-2 c = search needs
 returns-4 : tie.Need-returns-4
 returns-4 c =
     let at-if4 = c .before in
-    let at-unfit = at-if4 .before in
-    let at-if3 = at-unfit .before .before .before .before in
+    let at-refusal-of-areas = at-if4 .before in
+    let at-if3 = at-refusal-of-areas .before .before .before .before in
     let at-inbox-fits = at-if3 .before in
     let at-if2 = at-inbox-fits .before .before .before .before in
     let at-open-packet = at-if2 .before .before in
@@ -123,7 +122,8 @@ returns-4 c =
     (A .processor) (A .packet .now) (inboxOf (A .parts .now) (A .masks .now)) (planOf (opening .result .sizes .route) (opening .result .nest))
     (opening .ensures .opened (at-if1 .if1 .left))
     (at-open-packet .open-packet .result) (at-open-packet .open-packet .last .1 .1 .1 .1 .0) (at-open-packet .open-packet .ensures) (at-if2 .if2 .left)
-    (sym (at-inbox-fits .inbox-fits .ensures) ∙ not-false _ (at-if3 .if3 .left)) (at-unfit .unfit .result) (at-unfit .unfit .ensures .0 l h)
+    (sym (at-inbox-fits .inbox-fits .ensures) ∙ not-false _ (at-if3 .if3 .left)) (at-refusal-of-areas .refusal-of-areas .result)
+    (at-refusal-of-areas .refusal-of-areas .ensures .0 l h)
     (c .refusal4 .result) (c .refusal4 .ensures) (at-if4 .if4 .taken)
 
 word-index-requires : tie.Need-word-index-requires
@@ -145,8 +145,8 @@ part-take-packet-end c =
 take-packet-requires : tie.Need-take-packet-requires
 take-packet-requires c κs =
     let at-if4 = c .before .before .before .before .before .before .before .before in
-    let at-unfit = at-if4 .before in
-    let at-if3 = at-unfit .before .before .before .before in
+    let at-refusal-of-areas = at-if4 .before in
+    let at-if3 = at-refusal-of-areas .before .before .before .before in
     let at-inbox-fits = at-if3 .before in
     let at-fill = at-inbox-fits .before .before in
     let at-if2 = at-fill .before .before in
@@ -162,10 +162,11 @@ take-packet-requires c κs =
           (A .processor) (A .packet .now) (inboxOf (A .parts .now) (A .masks .now)) (planOf (opening .result .sizes .route) (opening .result .nest))
           (opening .ensures .opened (at-if1 .if1 .left))
           (at-open-packet .open-packet .result) (at-open-packet .open-packet .last .1 .1 .1 .1 .0) (at-open-packet .open-packet .ensures) (at-if2 .if2 .left)
-          (sym (at-inbox-fits .inbox-fits .ensures) ∙ not-false _ (at-if3 .if3 .left)) (at-unfit .unfit .result)
-          (at-unfit .unfit .ensures .0 l (reading.part-carries (A .progress) (S .pre) (reading.few-words _ _ (opening .ensures .sized (at-if1 .if1 .left))
+          (sym (at-inbox-fits .inbox-fits .ensures) ∙ not-false _ (at-if3 .if3 .left)) (at-refusal-of-areas .refusal-of-areas .result)
+          (at-refusal-of-areas .refusal-of-areas .ensures .0 l (reading.part-carries (A .progress) (S .pre)
+          (reading.few-words _ _ (opening .ensures .sized (at-if1 .if1 .left))
           (A .progress .count)
-          (at-unfit .unfit .ensures .1 (at-if4 .if4 .left))))) (at-if4 .if4 .left),
+          (at-refusal-of-areas .refusal-of-areas .ensures .1 (at-if4 .if4 .left))))) (at-if4 .if4 .left),
     )
 
 same-length-3 : tie.Need-same-length-3
@@ -185,8 +186,8 @@ returns-5 c =
     let at-take-packet = c .before .before .before .before .before .before .before .before in
     let at-word-index = at-take-packet .before .before .before .before .before .before .before .before in
     let at-if4 = at-word-index .before in
-    let at-unfit = at-if4 .before in
-    let at-if3 = at-unfit .before .before .before .before in
+    let at-refusal-of-areas = at-if4 .before in
+    let at-if3 = at-refusal-of-areas .before .before .before .before in
     let at-inbox-fits = at-if3 .before in
     let at-if2 = at-inbox-fits .before .before .before .before in
     let at-open-packet = at-if2 .before .before in
@@ -199,7 +200,8 @@ returns-5 c =
     (A .processor) (A .packet .now) (inboxOf (A .parts .now) (A .masks .now)) (planOf (opening .result .sizes .route) (opening .result .nest))
     (opening .ensures .opened (at-if1 .if1 .left))
     (at-open-packet .open-packet .result) (at-open-packet .open-packet .last .1 .1 .1 .1 .0) (at-open-packet .open-packet .ensures) (at-if2 .if2 .left)
-    (sym (at-inbox-fits .inbox-fits .ensures) ∙ not-false _ (at-if3 .if3 .left)) (at-unfit .unfit .result) (at-unfit .unfit .ensures .0 l h)
+    (sym (at-inbox-fits .inbox-fits .ensures) ∙ not-false _ (at-if3 .if3 .left)) (at-refusal-of-areas .refusal-of-areas .result)
+    (at-refusal-of-areas .refusal-of-areas .ensures .0 l h)
     (at-if4 .if4 .left) (at-word-index .word-index .result)
     (at-word-index .word-index .ensures) _ (at-take-packet .take-packet .ensures (A .memories .now) l)
 
@@ -218,7 +220,7 @@ receive-spec =
     inbox-fits-requires
     refusal-requires-3
     returns-3
-    unfit-requires
+    refusal-of-areas-requires
     refusal-requires-4
     same-length
     same-length-2

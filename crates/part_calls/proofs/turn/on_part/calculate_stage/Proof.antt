@@ -32,8 +32,8 @@ returns c =
     let count-at = c .before .count-at in
     let calculate-own = c .before .before .before .before .calculate-own in
     let next-record = c .next-record in
-    λ mail l marks g three f. stage.calculate-leaves (A .nest) (A .sizes) (A .b) (A .lens .now) (A .kept .now) (A .counts .now) (A .ranks .now)
-    (A .places .now) (S .pre .0 .0) (A .memory .now) mail marks l g three (A .finished) f (A .tile) (count-at .result)
+    λ mail l marks g three f. stage.calculate-leaves (A .nest) (A .sizes) (A .b) (A .lens .now) (A .kept .now) (A .counts .now) (A .ordinals .now)
+    (A .starts .now) (S .pre .0 .0) (A .memory .now) mail marks l g three (A .finished) f (A .tile) (count-at .result)
     (sourceOf (planOf (A .sizes .route) (A .nest)) (A .b) (A .source .now)) _ _ (calculate-own .ensures) (count-at .ensures .0) (next-record .ensures l 0)
 
 pub calculate-stage-spec : {M : Type 1} → statement M

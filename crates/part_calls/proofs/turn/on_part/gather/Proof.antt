@@ -18,13 +18,13 @@ use Rattle.part_calls.proofs.turn.on_part.gather.Statement.{statement}
 use Rattle.part_calls.proofs.turn.on_part.gather.Tie as tie
 
 abbrev Inv-loop : tie.InvT-loop
-Inv-loop nest sizes lens kept counts ranks places memory₀ mail marks₀ b tile n j₀ memory marks j =
+Inv-loop nest sizes lens kept counts ordinals starts memory₀ mail marks₀ b tile n j₀ memory marks j =
     (length memory ≡ length memory₀)
-    × working.Gathering (sizes .route) nest tile ranks places mail (allOf (planOf (sizes .route) nest) b memory₀) marks₀
+    × working.Gathering (sizes .route) nest tile ordinals starts mail (allOf (planOf (sizes .route) nest) b memory₀) marks₀
     (allOf (planOf (sizes .route) nest) b memory) marks n j
 
 abbrev μ-loop : tie.MeasureT-loop
-μ-loop nest sizes lens kept counts ranks places memory₀ mail marks₀ b tile n j₀ memory marks j = n - j
+μ-loop nest sizes lens kept counts ordinals starts memory₀ mail marks₀ b tile n j₀ memory marks j = n - j
 
 count-at-requires : tie.Need-count-at-requires Inv-loop μ-loop
 count-at-requires c κs =
@@ -37,7 +37,7 @@ loop-holds c =
     let A = S .args in
     let count-at = c .count-at in (
       refl,
-      working.gather-start (A .sizes .route) (A .nest) (A .tile) (A .ranks .now) (A .places .now) (A .mail .now) (allOf (planOf (A .sizes .route) (A .nest))
+      working.gather-start (A .sizes .route) (A .nest) (A .tile) (A .ordinals .now) (A .starts .now) (A .mail .now) (allOf (planOf (A .sizes .route) (A .nest))
           (A .b) (A .memory .now)) (A .marks .now)
           (count-at .result) (count-at .ensures .0),
     )
@@ -87,14 +87,15 @@ take-from-requires c κs =
       (
         (
           S .pre .0 .0 .cells,
-          stage.due-cells (A .nest) (A .sizes) (A .b) (A .lens .now) (A .kept .now) (A .counts .now) (A .ranks .now) (A .places .now)
+          stage.due-cells (A .nest) (A .sizes) (A .b) (A .lens .now) (A .kept .now) (A .counts .now) (A .ordinals .now) (A .starts .now)
               (S .pre .0 .0) (A .tile) (S .pre .1 .1) (loop .j) (nth-at .result) (omega (arith, loop .inv .1 .all, loop-test .taken)) (nth-at .ensures),
         ),
         (
           loop .inv .0 ∙ S .pre .0 .1 .memory,
           working.place-low (A .sizes .route) (A .nest) (A .tile) (loop .j) (nth-at .result) (omega (arith, loop .inv .1 .all, loop-test .taken))
-              (nth-at .ensures) (A .places .now) _ (word-index .result)
-              (stage.placed (A .nest) (A .sizes) (A .b) (A .lens .now) (A .kept .now) (A .counts .now) (A .ranks .now) (A .places .now) (S .pre .0 .0) (A .tile)
+              (nth-at .ensures) (A .starts .now) _ (word-index .result)
+              (stage.placed (A .nest) (A .sizes) (A .b) (A .lens .now) (A .kept .now) (A .counts .now) (A .ordinals .now) (A .starts .now) (S .pre .0 .0)
+              (A .tile)
               (S .pre .1 .1) (A .mail .now) (S .pre .0 .1 .mail)) (word-index .ensures),
         ),
       ),
@@ -138,8 +139,8 @@ gathered-requires c κs =
       arith,
       loop .inv .1 .long-marks,
       working.rank-low (A .sizes .route) (A .nest) (A .tile) (loop .j) (nth-at .result)
-          (omega (arith, loop .inv .1 .all, loop-test .taken)) (nth-at .ensures) (A .ranks .now) _ (word-index2 .result) (stage.ranked (A .nest) (A .sizes)
-          (A .b) (A .lens .now) (A .kept .now) (A .counts .now) (A .ranks .now) (A .places .now) (S .pre .0 .0) (A .tile) (S .pre .1 .1) (A .marks .now)
+          (omega (arith, loop .inv .1 .all, loop-test .taken)) (nth-at .ensures) (A .ordinals .now) _ (word-index2 .result) (stage.ranked (A .nest) (A .sizes)
+          (A .b) (A .lens .now) (A .kept .now) (A .counts .now) (A .ordinals .now) (A .starts .now) (S .pre .0 .0) (A .tile) (S .pre .1 .1) (A .marks .now)
           (S .pre .0 .1 .marks))
           (word-index2 .ensures),
     )
@@ -169,13 +170,14 @@ loop-again c =
     let q = nth-at .ensures in
     let new = take-from .last .1 .1 .1 .1 .1 .1 .1 .0 in (
       take-from .kept .1 .1 .1 .1 .1 .1 .1 .0 ∙ L .inv .0,
-      working.gather-again (A .sizes .route) (A .nest) (A .tile) (A .ranks .now) (A .places .now) (A .mail .now) (allOf p (A .b) (A .memory .now))
+      working.gather-again (A .sizes .route) (A .nest) (A .tile) (A .ordinals .now) (A .starts .now) (A .mail .now) (allOf p (A .b) (A .memory .now))
           (A .marks .now)
           (count-at .result) (allOf p (A .b) (L .memory)) (allOf p (A .b) new) (L .marks) (gathered .last .0) (L .j) (nth-at .result) (word-index .result)
           (word-index2 .result) (L .inv .1) (loop-test .taken) q (word-index .ensures) (word-index2 .ensures)
           (kept.all-same p so (A .b) (A .kept .now) (S .pre .0 .0 .cells .are) (L .memory) new)
           (kept.taken-all p so (A .b) (A .kept .now) (S .pre .0 .0 .cells .are) (nth-at .result .number) (omega (arith, q .number, q .low))
-          (stage.due-cells (A .nest) (A .sizes) (A .b) (A .lens .now) (A .kept .now) (A .counts .now) (A .ranks .now) (A .places .now) (S .pre .0 .0) (A .tile)
+          (stage.due-cells (A .nest) (A .sizes) (A .b) (A .lens .now) (A .kept .now) (A .counts .now) (A .ordinals .now) (A .starts .now) (S .pre .0 .0)
+          (A .tile)
           (S .pre .1 .1) (L .j) (nth-at .result) (omega (arith, loop .inv .1 .all, loop-test .taken)) q)
           (L .memory) (L .inv .0 ∙ S .pre .0 .1 .memory) _ new (take-from .ensures)) (gathered .ensures),
     )
@@ -200,7 +202,7 @@ returns c =
     let p = planOf (A .sizes .route) (A .nest) in
     let so = sound (A .sizes .route) (A .nest) (S .pre .0 .0 .known .planned .0 .accepted) in
     let L = loop in
-    let done = working.gather-done (A .sizes .route) (A .nest) (A .tile) (A .ranks .now) (A .places .now) (A .mail .now) (allOf p (A .b) (A .memory .now))
+    let done = working.gather-done (A .sizes .route) (A .nest) (A .tile) (A .ordinals .now) (A .starts .now) (A .mail .now) (allOf p (A .b) (A .memory .now))
     (A .marks .now)
     (count-at .result) (allOf p (A .b) (L .memory)) (L .marks) (L .j) (L .inv .1) (loop-test .left) in (
       sym (kept.part-back p so (A .b) (A .kept .now) (S .pre .0 .0 .cells .are) (L .memory) (L .inv .0 ∙ S .pre .0 .1 .memory))

@@ -20,7 +20,7 @@ returns c =
     let S = c .before .before .before .before .before .before .before .before .before .before .before in
     let A = S .args in
     let gather = c .before .before .before .before .gather in
-    λ l three f. stage.gather-leaves (A .nest) (A .sizes) (A .b) (A .lens .now) (A .kept .now) (A .counts .now) (A .ranks .now) (A .places .now)
+    λ l three f. stage.gather-leaves (A .nest) (A .sizes) (A .b) (A .lens .now) (A .kept .now) (A .counts .now) (A .ordinals .now) (A .starts .now)
     (S .pre .0 .0) (A .memory .now) (A .mail .now) (A .marks .now) l (S .pre .0 .1) three (A .finished) f
     (A .tile) (S .pre .1 .1) _ _ (gather .ensures .0) (gather .ensures .1)
 

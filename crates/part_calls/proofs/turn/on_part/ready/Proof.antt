@@ -8,10 +8,10 @@ use Rattle.part_calls.proofs.turn.on_part.ready.Statement.{statement}
 use Rattle.part_calls.proofs.turn.on_part.ready.Tie as tie
 
 abbrev Inv-loop : tie.InvT-loop
-Inv-loop nest sizes lens ranks marks tile n j₀ j = working.Looking (sizes .route) nest tile ranks marks n j
+Inv-loop nest sizes lens ordinals marks tile n j₀ j = working.Looking (sizes .route) nest tile ordinals marks n j
 
 abbrev μ-loop : tie.MeasureT-loop
-μ-loop nest sizes lens ranks marks tile n j₀ j = n - j
+μ-loop nest sizes lens ordinals marks tile n j₀ j = n - j
 
 count-at-requires : tie.Need-count-at-requires Inv-loop μ-loop
 count-at-requires c κs =
@@ -73,7 +73,7 @@ shared-slice-read-if1 c =
     let S = at-loop .before .before .before in
     let A = S .args in
     working.rank-low (A .sizes .route) (A .nest) (A .tile) (loop .j) (nth-at .result) (omega (arith, loop .inv .all, loop-test .taken)) (nth-at .ensures)
-    (A .ranks .now) _ (word-index .result) (S .pre .1) (word-index .ensures)
+    (A .ordinals .now) _ (word-index .result) (S .pre .1) (word-index .ensures)
 
 returns : tie.Need-returns Inv-loop μ-loop
 returns c =
@@ -89,7 +89,7 @@ returns c =
     let count-at = at-count-at .count-at in
     let S = at-count-at .before .before in
     let A = S .args in
-    working.look-no (A .sizes .route) (A .nest) (A .tile) (A .ranks .now) (A .marks .now) (count-at .result) (loop .j) (loop .inv) (nth-at .result)
+    working.look-no (A .sizes .route) (A .nest) (A .tile) (A .ordinals .now) (A .marks .now) (count-at .result) (loop .j) (loop .inv) (nth-at .result)
     (word-index .result) (loop-test .taken) (nth-at .ensures) (word-index .ensures) (c .if1 .taken)
 
 add-j : tie.Need-add-j Inv-loop μ-loop
@@ -112,7 +112,7 @@ loop-again c =
     let count-at = at-count-at .count-at in
     let S = at-count-at .before .before in
     let A = S .args in
-    working.look-again (A .sizes .route) (A .nest) (A .tile) (A .ranks .now) (A .marks .now) (count-at .result) (loop .j) (loop .inv) (nth-at .result)
+    working.look-again (A .sizes .route) (A .nest) (A .tile) (A .ordinals .now) (A .marks .now) (count-at .result) (loop .j) (loop .inv) (nth-at .result)
     (word-index .result) (loop-test .taken) (nth-at .ensures) (word-index .ensures) (c .if1 .left)
 
 returns-2 : tie.Need-returns-2 Inv-loop μ-loop
@@ -123,7 +123,7 @@ returns-2 c =
     let count-at = at-count-at .count-at in
     let S = at-count-at .before .before in
     let A = S .args in
-    working.look-done (A .sizes .route) (A .nest) (A .tile) (A .ranks .now) (A .marks .now) (count-at .result) (loop .j) (loop .inv) (c .loop-test .left)
+    working.look-done (A .sizes .route) (A .nest) (A .tile) (A .ordinals .now) (A .marks .now) (count-at .result) (loop .j) (loop .inv) (c .loop-test .left)
 
 pub ready-spec : {M : Type 1} → statement M
 ready-spec =

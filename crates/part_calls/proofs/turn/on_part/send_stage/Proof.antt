@@ -18,7 +18,7 @@ mul-word-index c =
     let nth-at = c .nth-at in
     omega (
       arith,
-      stage.sent-low (A .nest) (A .sizes) (A .b) (A .lens .now) (A .kept .now) (A .counts .now) (A .ranks .now) (A .places .now) (S .pre .0 .0)
+      stage.sent-low (A .nest) (A .sizes) (A .b) (A .lens .now) (A .kept .now) (A .counts .now) (A .ordinals .now) (A .starts .now) (S .pre .0 .0)
           (A .tile) (S .pre .1 .0 .1) (A .sent) (nth-at .result) (S .pre .1 .1 .1) (nth-at .ensures),
     )
 
@@ -27,7 +27,7 @@ element-copy-out-word-index c =
     let S = c .before .before .before .before .before in
     let A = S .args in
     let nth-at = c .nth-at in
-    stage.sent-low (A .nest) (A .sizes) (A .b) (A .lens .now) (A .kept .now) (A .counts .now) (A .ranks .now) (A .places .now) (S .pre .0 .0) (A .tile)
+    stage.sent-low (A .nest) (A .sizes) (A .b) (A .lens .now) (A .kept .now) (A .counts .now) (A .ordinals .now) (A .starts .now) (S .pre .0 .0) (A .tile)
     (S .pre .1 .0 .1) (A .sent) (nth-at .result) (S .pre .1 .1 .1) (nth-at .ensures)
 
 word-index-requires : tie.Need-word-index-requires
@@ -43,12 +43,12 @@ put-in-requires c κs =
       (
         (
           S .pre .0 .0 .cells,
-          stage.sent-cells (A .nest) (A .sizes) (A .b) (A .lens .now) (A .kept .now) (A .counts .now) (A .ranks .now) (A .places .now)
+          stage.sent-cells (A .nest) (A .sizes) (A .b) (A .lens .now) (A .kept .now) (A .counts .now) (A .ordinals .now) (A .starts .now)
               (S .pre .0 .0) (A .tile) (S .pre .1 .0 .1) (A .sent) (nth-at .result) (S .pre .1 .1 .1) (nth-at .ensures),
         ),
         (
           S .pre .0 .1 .memory,
-          stage.sent-room (A .nest) (A .sizes) (A .b) (A .lens .now) (A .kept .now) (A .counts .now) (A .ranks .now) (A .places .now)
+          stage.sent-room (A .nest) (A .sizes) (A .b) (A .lens .now) (A .kept .now) (A .counts .now) (A .ordinals .now) (A .starts .now)
               (S .pre .0 .0) (A .tile) (S .pre .1 .0 .1) (A .sent) (nth-at .result) (S .pre .1 .1 .1) (nth-at .ensures) (A .mail .now) (word-index .result)
               (S .pre .0 .1 .mail) (word-index .ensures),
         ),
@@ -62,7 +62,7 @@ mul-word-index-2 c =
     let nth-at = c .before .before .before .before .before .before .nth-at in
     omega (
       arith,
-      stage.sent-low (A .nest) (A .sizes) (A .b) (A .lens .now) (A .kept .now) (A .counts .now) (A .ranks .now) (A .places .now) (S .pre .0 .0) (A .tile)
+      stage.sent-low (A .nest) (A .sizes) (A .b) (A .lens .now) (A .kept .now) (A .counts .now) (A .ordinals .now) (A .starts .now) (S .pre .0 .0) (A .tile)
           (S .pre .1 .0 .1) (A .sent) (nth-at .result) (S .pre .1 .1 .1) (nth-at .ensures),
     )
 
@@ -71,7 +71,7 @@ element-copy-out-word-index-2 c =
     let S = c .before .before .before .before .before .before .before .before .before .before .before in
     let A = S .args in
     let nth-at = c .before .before .before .before .before .before .nth-at in
-    stage.sent-low (A .nest) (A .sizes) (A .b) (A .lens .now) (A .kept .now) (A .counts .now) (A .ranks .now) (A .places .now) (S .pre .0 .0) (A .tile)
+    stage.sent-low (A .nest) (A .sizes) (A .b) (A .lens .now) (A .kept .now) (A .counts .now) (A .ordinals .now) (A .starts .now) (S .pre .0 .0) (A .tile)
     (S .pre .1 .0 .1)
     (A .sent) (nth-at .result) (S .pre .1 .1 .1) (nth-at .ensures)
 
@@ -84,7 +84,7 @@ slice-write-marks c =
     let A = S .args in
     let nth-at = c .before .before .before .before .before .before .before .before .nth-at in
     let word-index2 = c .word-index2 in
-    stage.sent-rank (A .nest) (A .sizes) (A .b) (A .lens .now) (A .kept .now) (A .counts .now) (A .ranks .now) (A .places .now) (S .pre .0 .0) (A .tile)
+    stage.sent-rank (A .nest) (A .sizes) (A .b) (A .lens .now) (A .kept .now) (A .counts .now) (A .ordinals .now) (A .starts .now) (S .pre .0 .0) (A .tile)
     (S .pre .1 .0 .1)
     (A .sent) (nth-at .result) (S .pre .1 .1 .1) (nth-at .ensures) (A .marks .now) (word-index2 .result) (S .pre .0 .1 .marks) (word-index2 .ensures)
 
@@ -121,7 +121,7 @@ returns c =
     let nth-at = c .before .before .before .before .before .before .before .before .before .before .nth-at in
     let put-in = c .before .before .before .before .before .before .put-in in
     let next-record = c .next-record in
-    λ l three f s. stage.send-leaves (A .nest) (A .sizes) (A .b) (A .lens .now) (A .kept .now) (A .counts .now) (A .ranks .now) (A .places .now)
+    λ l three f s. stage.send-leaves (A .nest) (A .sizes) (A .b) (A .lens .now) (A .kept .now) (A .counts .now) (A .ordinals .now) (A .starts .now)
     (S .pre .0 .0) (A .memory .now) (A .mail .now) (A .marks .now) l (S .pre .0 .1) three (A .finished) f (A .tile)
     (S .pre .1 .0 .1) (A .sent) (count-at .result) (word-index .result) (word-index2 .result) (nth-at .result) _ _ (S .pre .1 .1 .1) (nth-at .ensures) s
     (count-at .ensures .0) (word-index .ensures) (word-index2 .ensures) (put-in .ensures) (next-record .ensures l 0)

@@ -1,0 +1,5 @@
+pub mod Lines
+pub mod AsRuns
+pub mod Mixed
+pub mod Demands
+pub mod OpensExamples

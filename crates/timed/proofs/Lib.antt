@@ -1,5 +1,0 @@
-pub mod Lines
-pub mod AsRuns
-pub mod Mixed
-pub mod Demands
-pub mod OpensRows

@@ -1,4 +1,0 @@
-pub mod Calls
-pub mod Given
-pub mod Demands
-pub mod OpensRows
