@@ -274,7 +274,7 @@ class Served(InFolder):
         self.port, self.token = re.fullmatch(r'http://127\.0\.0\.1:(\d+)/([\w-]{22})/\n', self.child.stdout.readline().decode()).groups()
 
     def asked(self, method, path, body=None, **headers):
-        connection = http.client.HTTPConnection('127.0.0.1', int(self.port), timeout=10)
+        connection = http.client.HTTPConnection('127.0.0.1', int(self.port), timeout=60)
         connection.request(method, path, body, {'Host': '127.0.0.1:' + self.port, **headers})
         answer = connection.getresponse()
         content = answer.read()
@@ -305,7 +305,7 @@ class Served(InFolder):
 
     def test_ends_with_the_terminal(self):
         self.child.send_signal(signal.SIGHUP)
-        self.assertEqual(self.child.wait(timeout=10), -signal.SIGHUP)
+        self.assertEqual(self.child.wait(timeout=60), -signal.SIGHUP)
 
     def test_port_in_use(self):
         self.ends(3, 'view', self.path('r'), '--serve', '--port', self.port, told='port %s of 127.0.0.1: Address already in use' % self.port)
@@ -320,12 +320,12 @@ class Served(InFolder):
                     connection.setsockopt(socket.SOL_SOCKET, socket.SO_LINGER, struct.pack('ii', 1, 0))
         self.assertEqual(self.asked('GET', '/%s/' % self.token)[0], 200)
         self.child.send_signal(signal.SIGINT)
-        self.child.wait(timeout=10)
+        self.child.wait(timeout=60)
         self.assertEqual(self.child.stderr.read(), b'')
 
     def test_ends_with_ctrl_c(self):
         self.child.send_signal(signal.SIGINT)
-        self.assertEqual(self.child.wait(timeout=10), -signal.SIGINT)
+        self.assertEqual(self.child.wait(timeout=60), -signal.SIGINT)
 
 
 if __name__ == '__main__':

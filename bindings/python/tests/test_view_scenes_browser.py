@@ -269,7 +269,7 @@ class ByHand(InBrowser):
 
     def test_ended(self):
         self.child.send_signal(signal.SIGINT)
-        self.child.wait(timeout=10)
+        self.child.wait(timeout=60)
         self.browser.click('#hand button')
         for _ in range(100):
             if 'No answer' in self.browser.text('handtold'):

@@ -26,7 +26,7 @@ use rank_index::BLOCKS;
 use rank_index::fill_counts;
 use rank_index::rank;
 use recipe::Recipe;
-use recipe::refused_board;
+use recipe::closed;
 use recipe::with_sizes;
 use records::Flat;
 use stages::fit_status;
@@ -50,7 +50,7 @@ pub fn open(encoded: &[u8], route: u32, processor: u32) -> Recipe
         return board;
     }
     if processor as usize >= sizes.processors {
-        return refused_board(refusals::NO_SUCH, nest);
+        return closed(refusals::NO_SUCH, nest);
     }
     board
 }

@@ -6,7 +6,7 @@ The boards' calls are the engine's. What a packet meets on its way, and when a b
 from __future__ import annotations
 
 import array
-from typing import Any, Dict, List, NamedTuple, Optional, Sequence
+from typing import Any, Dict, List, NamedTuple, Optional, Sequence, Set
 
 from .. import plan
 from ..boards import PartBoard
@@ -23,6 +23,9 @@ FLYING, ARRIVED, TURNED_AWAY, LOST = range(4)
 
 IN_FLIGHT, DELIVERED = 1, 2
 NO_MAIL = 14
+
+# words that are told of a board: its starts, whether it is up, its record
+_BOARD_WORDS = 5
 
 # how often these are drawn
 _LOSE, _REPEAT, _CRASH, _WAITING = 0.08, 0.06, 0.01, 0.06
@@ -48,6 +51,13 @@ class Apart:
         self.packets: List[Packet] = []
         self.fates: List[int] = []
         self._grid = array.array('I', bytes(4 * plan.summary(encoded).cells))
+        # where a board has its mark of a message; what was sent and is not posted yet; what was posted
+        self._places = [{row.message: place for place, row in enumerate(board._rows)} for board in self.boards if board]
+        self.sent: Set[int] = set()
+        self.posted: Set[int] = set()
+        self.words = array.array('I', bytes(4 * (_BOARD_WORDS * self.processors + 2 * len(self.rows))))
+        for p in range(self.processors):
+            self.note(p)
 
     def _fresh(self, processor: int) -> PartBoard:
         return PartBoard(self.encoded, DIRECT, plan.part_source(self.encoded, self.source, processor), processor)
@@ -65,14 +75,30 @@ class Apart:
         board = self.boards[processor]
         if board is None:
             return 0
-        return next(mark for row, mark in zip(board._rows, board._areas.marks) if row.message == message)
+        return board._areas.marks[self._places[processor][message]]
 
-    def words(self) -> List[int]:
-        """Of each board its starts, whether it is up, and its record; of each message the mark at its sender and at its taker."""
-        found = [word for p in range(self.processors) for word in (self.starts[p], int(self.boards[p] is not None), *self.record(p))]
-        for m, row in enumerate(self.rows):
-            found += [self.mark(row.sending_processor, m), self.mark(row.taking_processor, m)]
-        return found
+    def note(self, processor: int) -> List[int]:
+        """Puts a board's words where all are told: of each board its starts, whether it is up, and its record; of each message the mark at its
+        sender and at its taker. Gives the places."""
+        first = _BOARD_WORDS * processor
+        places = list(range(first, first + _BOARD_WORDS))
+        self.words[first:first + _BOARD_WORDS] = array.array('I', [self.starts[processor], int(self.boards[processor] is not None), *self.record(processor)])
+        for m in self._places[processor]:
+            sends, mark = self.rows[m].sending_processor == processor, self.mark(processor, m)
+            places.append(_BOARD_WORDS * self.processors + 2 * m + (not sends))
+            self.words[places[-1]] = mark
+            if sends:
+                (self.sent.add if mark == IN_FLIGHT else self.sent.discard)(m)
+                (self.posted.add if mark == DELIVERED else self.posted.discard)(m)
+        return places
+
+    def board_of(self, kind: int, which: int) -> Optional[int]:
+        """The board whose words an event may change."""
+        if kind in (TURN, CRASH, START):
+            return which
+        if kind in (POST, AGAIN):
+            return self.rows[which].sending_processor
+        return self.rows[self.packets[which].message].taking_processor if kind in (ARRIVE, LOSE) else None
 
     def flying(self) -> List[int]:
         """The packets that are on their way."""
@@ -90,7 +116,7 @@ class Apart:
             return which < len(self.fates) and self.fates[which] == FLYING
         if kind in (POST, AGAIN):
             up = row is not None and self.boards[row.sending_processor] is not None
-            return up and (kind == POST or self.mark(row.sending_processor, which) == DELIVERED)  # type: ignore[union-attr]
+            return up and (kind == POST or which in self.posted)
         if kind == COLLECT:
             return all(self.boards)
         return which < self.processors and (self.boards[which] is None) == (kind == START)
@@ -156,14 +182,16 @@ class Drawn:
 
     def __init__(self, apart: Apart, tiles_on: Sequence[Sequence[int]], seed: int) -> None:
         self._apart, self._tiles_on, self._dice, self._crashes = apart, tiles_on, Dice(seed), 0
+        self._taken_by: Dict[int, List[int]] = {}
+        for m, row in enumerate(apart.rows):
+            self._taken_by.setdefault(row.taking_tile, []).append(m)
 
     def _due(self, processor: int) -> List[int]:
         """The messages that a board waits for."""
         finished, stage, _ = self._apart.record(processor)
         if stage or finished == len(self._tiles_on[processor]):
             return []
-        tile = self._tiles_on[processor][finished]
-        return [m for m, row in enumerate(self._apart.rows) if row.taking_tile == tile and self._apart.mark(processor, m) < DELIVERED]
+        return [m for m in self._taken_by.get(self._tiles_on[processor][finished], ()) if self._apart.mark(processor, m) < DELIVERED]
 
     def _turns(self, waiting: bool) -> List[List[int]]:
         apart = self._apart
@@ -182,9 +210,8 @@ class Drawn:
         apart, dice = self._apart, self._dice
         if flying and dice.is_so(_LOSE):
             return [LOSE, dice.one(flying)]
-        posted = [m for m in range(len(apart.rows)) if apart.can(AGAIN, m)]
-        if posted and dice.is_so(_REPEAT):
-            return [AGAIN, dice.one(posted)]
+        if apart.posted and dice.is_so(_REPEAT):
+            return [AGAIN, dice.one(sorted(apart.posted))]
         # a board that has something to lose
         begun = [p for p in range(apart.processors) if apart.boards[p] is not None and apart.record(p)[0]]
         if begun and self._crashes < _MOST_CRASHES and dice.is_so(_CRASH * (3 if not self._crashes else 1)):
@@ -202,7 +229,7 @@ class Drawn:
         if odd:
             return odd
         ready = self._turns(waiting=False) + [[ARRIVE, k] for k in flying]
-        ready += [[POST, m] for m, row in enumerate(apart.rows) if apart.mark(row.sending_processor, m) == IN_FLIGHT]
+        ready += [[POST, m] for m in sorted(apart.sent)]
         down = [[START, p] for p in range(apart.processors) if apart.boards[p] is None]
         ready += down
         missing = [] if ready and not dice.is_so(_WAITING) else self._missing()
@@ -212,7 +239,8 @@ class Drawn:
 
 def told_by(apart: Apart, scene: Scene, kind: int, which: int) -> Told:
     """One event, and what it left."""
-    return scene.add(apart.take(kind, which), apart.words())
+    event, board = apart.take(kind, which), apart.board_of(kind, which)
+    return scene.add(event, apart.words, [] if board is None else apart.note(board))
 
 
 def data_of(apart: Apart, scene: Scene) -> Dict[str, Any]:
@@ -223,7 +251,7 @@ def data_of(apart: Apart, scene: Scene) -> Dict[str, Any]:
 def scene_of(encoded: bytes, source: Sequence[int], grid: Words, tiles_on: Sequence[Sequence[int]], seed: int) -> Dict[str, Any]:
     """A run in a drawn order to its end; what is collected is the sweep's."""
     apart = Apart(encoded, source)
-    drawn, scene = Drawn(apart, tiles_on, seed), Scene(apart.words())
+    drawn, scene = Drawn(apart, tiles_on, seed), Scene(apart.words)
     while not scene.events or scene.events[-1][0] != COLLECT:
         told_by(apart, scene, *drawn.next())
     hold(scene.events[-1][2] == 0 and apart.grid == grid, 'the grid that boards apart have collected')

@@ -14,7 +14,7 @@ class Session:
 
     def __init__(self, encoded: bytes, source: Sequence[int], grid: Words) -> None:
         self._apart, self._grid = Apart(encoded, source), grid
-        self._scene = Scene(self._apart.words())
+        self._scene = Scene(self._apart.words)
 
     def data(self) -> Dict[str, Any]:
         """For the page."""

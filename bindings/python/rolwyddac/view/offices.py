@@ -43,18 +43,21 @@ class Shared:
         return [record.finished, record.stage, record.sent]
 
     def status(self, office: int) -> bytearray:
-        """The marks of an office's messages."""
-        return bytearray(self._areas(office).status)
+        """The marks of an office's messages, to be looked at."""
+        found: bytearray = self._areas(office).status
+        return found
 
     def held(self, processor: int) -> int:
         """The office that holds a processor; 2 for none."""
         return self._rig._engaged[processor] if self._rig else OFFICES
 
-    def words(self) -> List[int]:
+    def words(self) -> Words:
         """Records, who holds each processor, marks."""
-        found = [word for office in range(self.offices) for p in range(self.processors) for word in self.record(office, p)]
-        found += [self.held(p) for p in range(self.processors)]
-        return found + [mark for office in range(self.offices) for mark in self.status(office)]
+        found = array.array('I', [word for office in range(self.offices) for p in range(self.processors) for word in self.record(office, p)])
+        found.extend(self.held(p) for p in range(self.processors))
+        for office in range(self.offices):
+            found.extend(self._areas(office).status)
+        return found
 
     def opens(self, processor: int) -> Optional[int]:
         """In how many minutes a processor opens; None: never."""
@@ -98,6 +101,9 @@ class Drawn:
     def __init__(self, shared: Shared, tiles_on: Sequence[Sequence[int]], seed: int) -> None:
         self._shared, self._tiles_on, self._dice = shared, tiles_on, Dice(seed)
         self._collected: List[int] = []
+        self._taken_by: Dict[int, List[int]] = {}
+        for m, row in enumerate(shared.rows):
+            self._taken_by.setdefault(row.taking_tile, []).append(m)
 
     def left(self, office: int, processor: int) -> int:
         """How many tiles are not finished."""
@@ -105,8 +111,8 @@ class Drawn:
 
     def _waits(self, office: int, processor: int) -> bool:
         finished, stage, _ = self._shared.record(office, processor)
-        tile, status = self._tiles_on[processor][finished], self._shared.status(office)
-        return stage == GATHER and any(row.taking_tile == tile and status[m] < DELIVERED for m, row in enumerate(self._shared.rows))
+        status = self._shared.status(office)
+        return stage == GATHER and any(status[m] < DELIVERED for m in self._taken_by.get(self._tiles_on[processor][finished], ()))
 
     def _ready(self) -> List[List[int]]:
         shared, found = self._shared, []

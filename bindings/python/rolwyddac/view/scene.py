@@ -2,13 +2,13 @@
 
 from __future__ import annotations
 
-import base64
 import array
+import base64
 import random
-import struct
 import zlib
-from typing import Any, Callable, Dict, List, NamedTuple, Optional, Sequence
+from typing import Any, Callable, Dict, Iterable, List, NamedTuple, Optional, Sequence
 
+from ..hints import Words
 from ..refusals import Refused
 
 # an event: its kind, and what it is of; the number that the engine gave, none where it was not asked; then what the scene adds
@@ -24,9 +24,9 @@ def number_of(call: Callable[[], object]) -> int:
     return 0
 
 
-def sum_of(words: Sequence[int]) -> int:
-    """The check number of a state: CRC-32 of its words, low byte first."""
-    return zlib.crc32(struct.pack('<%dI' % len(words), *words))
+def sum_of(words: Words) -> int:
+    """The check number of a state: CRC-32 of its words, low byte first, as this machine has them."""
+    return zlib.crc32(words)
 
 
 class Told(NamedTuple):
@@ -40,18 +40,19 @@ class Told(NamedTuple):
 class Scene:
     """Events, and the words behind each."""
 
-    def __init__(self, words: Sequence[int]) -> None:
-        self._start = self._words = list(words)
+    def __init__(self, words: Words) -> None:
+        self._start, self._words = list(words), array.array('I', words)
         self._told: List[Told] = []
+        self._sum = sum_of(words)
 
-    def add(self, event: Event, words: Sequence[int]) -> Told:
-        """One more event."""
+    def add(self, event: Event, words: Words, places: Optional[Iterable[int]] = None) -> Told:
+        """One more event. Where places are named, no other word has changed."""
         changes: List[int] = []
-        for place, (before, now) in enumerate(zip(self._words, words)):
-            if before != now:
-                changes += [place, now]
-        self._words = list(words)
-        told = Told(event, changes, sum_of(words))
+        for place in range(len(words)) if places is None else places:
+            if self._words[place] != words[place]:
+                self._words[place] = words[place]
+                changes += [place, words[place]]
+        told = Told(event, changes, sum_of(self._words))
         self._told.append(told)
         return told
 
@@ -62,7 +63,7 @@ class Scene:
 
     def data(self) -> Dict[str, Any]:
         """For the page."""
-        sums = array.array('I', [sum_of(self._start), *(told.sum for told in self._told)])
+        sums = array.array('I', [self._sum, *(told.sum for told in self._told)])
         return {'events': self.events, 'start': self._start, 'changes': [told.changes for told in self._told],
                 'sums': base64.b64encode(sums.tobytes()).decode()}
 

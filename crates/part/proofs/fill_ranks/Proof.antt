@@ -58,29 +58,29 @@ element-copy-out-half-index c =
 half-index-requires : tie.Need-half-index-requires Inv-loop μ-loop
 half-index-requires c κs = tt
 
-mul-ranks : tie.Need-mul-ranks Inv-loop μ-loop
-mul-ranks c =
+mul-ordinals : tie.Need-mul-ordinals Inv-loop μ-loop
+mul-ordinals c =
     let T = c .before .before .before .before .before in
     let loop = c .before .before .before .loop in
     let test = c .before .before .loop-test .taken in
     omega (arith, test, loop .inv .0 .few, table T .sheet .few)
 
-element-write-ranks : tie.Need-element-write-ranks Inv-loop μ-loop
-element-write-ranks c =
+element-write-ordinals : tie.Need-element-write-ordinals Inv-loop μ-loop
+element-write-ordinals c =
     let T = c .before .before .before .before .before in
     let loop = c .before .before .before .loop in
     let test = c .before .before .loop-test .taken in
     omega (arith, test, loop .inv .0 .few, table T .sheet .few)
 
-mul-places : tie.Need-mul-places Inv-loop μ-loop
-mul-places c =
+mul-starts : tie.Need-mul-starts Inv-loop μ-loop
+mul-starts c =
     let T = c .before .before .before .before .before in
     let loop = c .before .before .before .loop in
     let test = c .before .before .loop-test .taken in
     omega (arith, test, loop .inv .0 .few, table T .sheet .few)
 
-element-write-places : tie.Need-element-write-places Inv-loop μ-loop
-element-write-places c =
+element-write-starts : tie.Need-element-write-starts Inv-loop μ-loop
+element-write-starts c =
     let T = c .before .before .before .before .before in
     let loop = c .before .before .before .loop in
     let test = c .before .before .loop-test .taken in
@@ -203,26 +203,26 @@ loop-again c =
           (⊎-elim (λ w. inl (w .2 .result, w .2 .ensures, here (w .0 .taken) .words, w .3, w .4, w .5)) (λ w. inr (w .1, w .2, w .3)) (if1 .came)),
     )
 
-mul-ranks-2 : tie.Need-mul-ranks-2 Inv-loop μ-loop
-mul-ranks-2 c =
+mul-ordinals-2 : tie.Need-mul-ordinals-2 Inv-loop μ-loop
+mul-ordinals-2 c =
     let T = c .before .before .before in
     let loop = c .before .loop in
     omega (arith, loop .inv .0 .few, loop .inv .0 .low, table T .sheet .few)
 
-element-write-ranks-2 : tie.Need-element-write-ranks-2 Inv-loop μ-loop
-element-write-ranks-2 c =
+element-write-ordinals-2 : tie.Need-element-write-ordinals-2 Inv-loop μ-loop
+element-write-ordinals-2 c =
     let T = c .before .before .before in
     let loop = c .before .loop in
     omega (arith, loop .inv .0 .few, loop .inv .0 .low, table T .sheet .few)
 
-mul-places-2 : tie.Need-mul-places-2 Inv-loop μ-loop
-mul-places-2 c =
+mul-starts-2 : tie.Need-mul-starts-2 Inv-loop μ-loop
+mul-starts-2 c =
     let T = c .before .before .before in
     let loop = c .before .loop in
     omega (arith, loop .inv .0 .few, loop .inv .0 .low, table T .sheet .few)
 
-element-write-places-2 : tie.Need-element-write-places-2 Inv-loop μ-loop
-element-write-places-2 c =
+element-write-starts-2 : tie.Need-element-write-starts-2 Inv-loop μ-loop
+element-write-starts-2 c =
     let T = c .before .before .before in
     let loop = c .before .loop in
     omega (arith, loop .inv .0 .few, loop .inv .0 .low, table T .sheet .few)
@@ -250,10 +250,10 @@ fill-ranks-spec =
     mul-half-index
     element-copy-out-half-index
     half-index-requires
-    mul-ranks
-    element-write-ranks
-    mul-places
-    element-write-places
+    mul-ordinals
+    element-write-ordinals
+    mul-starts
+    element-write-starts
     shared-slice-read-handled-one
     handled-one-requires
     add-number
@@ -265,8 +265,8 @@ fill-ranks-spec =
     add-slot
     loop-less
     loop-again
-    mul-ranks-2
-    element-write-ranks-2
-    mul-places-2
-    element-write-places-2
+    mul-ordinals-2
+    element-write-ordinals-2
+    mul-starts-2
+    element-write-starts-2
     returns)

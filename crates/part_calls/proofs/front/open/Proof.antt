@@ -13,8 +13,8 @@ returns c =
     let read = c .before .before .before .before .with-sizes in
     front.closed-read (A .encoded .now) (A .route) (A .processor) (read .result) (read .ensures) (c .if1 .taken)
 
-refused-board-requires : tie.Need-refused-board-requires
-refused-board-requires c κs = search needs
+closed-requires : tie.Need-closed-requires
+closed-requires c κs = search needs
 
 returns-2 : tie.Need-returns-2
 returns-2 c =
@@ -24,8 +24,8 @@ returns-2 c =
     let S = at-with-sizes .before .before in
     let A = S .args in
     let read = at-with-sizes .with-sizes in
-    front.closed-beyond (A .encoded .now) (A .route) (A .processor) (read .result) (read .ensures) (at-if1 .if1 .left) (c .refused-board .result)
-    (c .refused-board .ensures) (at-if2 .if2 .taken)
+    front.closed-beyond (A .encoded .now) (A .route) (A .processor) (read .result) (read .ensures) (at-if1 .if1 .left) (c .closed .result)
+    (c .closed .ensures) (at-if2 .if2 .taken)
 
 returns-3 : tie.Need-returns-3
 returns-3 c =
@@ -37,4 +37,4 @@ returns-3 c =
     front.opens (A .encoded .now) (A .route) (A .processor) (read .result) (read .ensures) (at-if1 .if1 .left) (c .if2 .left)
 
 pub open-spec : {M : Type 1} → statement M
-open-spec = tie.close (tie.spec with-sizes-requires returns refused-board-requires returns-2 returns-3)
+open-spec = tie.close (tie.spec with-sizes-requires returns closed-requires returns-2 returns-3)

@@ -7,8 +7,8 @@ use Rattle.tenants.specs.Tenants.{sharingOf, sourcesOf}
 use Rattle.engine.proofs.Lines.{Opened}
 use Rattle.sharing.proofs.Starts as starts
 use borrow.Author.Needs.{needs}
-use Rattle.sharing.proofs.admission.unfit_both.Statement.{statement}
-use Rattle.sharing.proofs.admission.unfit_both.Tie as tie
+use Rattle.sharing.proofs.admission.refusal_of_both.Statement.{statement}
+use Rattle.sharing.proofs.admission.refusal_of_both.Tie as tie
 
 open-requires : tie.Need-open-requires
 open-requires c κs = search needs

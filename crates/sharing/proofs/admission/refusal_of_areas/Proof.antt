@@ -11,8 +11,8 @@ use Rattle.engine.proofs.Lines as areas
 use Rattle.engine.proofs.Reading as reading
 use Rattle.sharing.proofs.Lines as lines
 use borrow.Author.Needs.{needs}
-use Rattle.sharing.proofs.admission.unfit.Statement.{statement}
-use Rattle.sharing.proofs.admission.unfit.Tie as tie
+use Rattle.sharing.proofs.admission.refusal_of_areas.Statement.{statement}
+use Rattle.sharing.proofs.admission.refusal_of_areas.Tie as tie
 
 areas-fit-requires : tie.Need-areas-fit-requires
 areas-fit-requires c κs = search needs

@@ -10,8 +10,8 @@ use Rattle.tenants.specs.Tenants.{tenantAreas}
 use Rattle.engine.proofs.Reading as reading
 use Rattle.sharing.proofs.Lines as lines
 use borrow.Author.Needs.{needs}
-use Rattle.sharing.proofs.admission.barred.Statement.{statement}
-use Rattle.sharing.proofs.admission.barred.Tie as tie
+use Rattle.sharing.proofs.admission.refusal_of_turn.Statement.{statement}
+use Rattle.sharing.proofs.admission.refusal_of_turn.Tie as tie
 
 refusal-of-areas-requires : tie.Need-refusal-of-areas-requires
 refusal-of-areas-requires c κs = search needs

@@ -3,8 +3,8 @@ use native.Mathlib.Omega.{arith}
 use borrow.Author.Needs.{needs}
 use Rattle.plan.specs.Shaped.{planOf}
 use Rattle.sharing.proofs.Tests as tests
-use Rattle.sharing.proofs.admission.held.Statement.{statement}
-use Rattle.sharing.proofs.admission.held.Tie as tie
+use Rattle.sharing.proofs.admission.held_by_other.Statement.{statement}
+use Rattle.sharing.proofs.admission.held_by_other.Tie as tie
 
 mul-word-index : tie.Need-mul-word-index
 mul-word-index c = search needs
