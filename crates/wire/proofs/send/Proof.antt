@@ -16,7 +16,7 @@ returns : tie.Need-returns
 returns c =
     let at-if1 = c .before in
     let at-open = at-if1 .before in
-    let S = at-open .before .before .before .before .before in
+    let S = at-open .before .before .before .before .before .before in
     let A = S .args in
     let opens = at-open .«open» in
     send-read (A .encoded .now) (A .route) (A .run) (A .life) (A .buffer .now) (A .status .now) (A .processor) (A .message) (A .chunk) (A .space .now)
@@ -40,7 +40,7 @@ returns-2 c =
     let at-fingerprint = at-send-message .before .before .before in
     let at-if1 = at-fingerprint .before .before .before in
     let at-open = at-if1 .before in
-    let S = at-open .before .before .before .before .before in
+    let S = at-open .before .before .before .before .before .before in
     let A = S .args in
     let opens = at-open .«open» in
     at-send-message .send-message .ensures

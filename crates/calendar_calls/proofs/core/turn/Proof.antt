@@ -102,7 +102,7 @@ step-requires c κs =
     (at-refusal-of-turn .refusal-of-turn .result) (at-refusal-of-turn .refusal-of-turn .ensures .0 own (reading.part-carries (A .progress) (S .pre) few))
     (at-if2 .if2 .left) in (
       planned,
-      plain.passed p (A .source .now) (stateOf (A .memories .now) (A .buffer .now) own (A .status .now)) (A .processor) 0 (opened .refusal-of-areas) refl
+      plain.passed p (A .source .now) (stateOf (A .memories .now) (A .buffer .now) own (A .status .now)) (A .processor) 0 (opened .unfit) refl
           (opened .hours .low),
     )
 
@@ -138,7 +138,7 @@ returns-3 c =
     ≡ turnCallAt (A .encoded .now) (A .route) (A .source .now) (momentOf (A .hours .now) (A .minute)) (stateOf (A .memories .now) (A .buffer .now) x
     (A .status .now)) (A .processor)) (reading.part-is (A .progress) l few k) (plain.turn-steps (A .encoded .now) (A .route) (A .source .now)
     (stateOf (A .memories .now) (A .buffer .now) own (A .status .now)) (A .processor) p opened-as
-    0 (opened .refusal-of-areas) refl _ (step .ensures) ∙ lines.plainly (A .encoded .now) (A .route) (A .source .now) (momentOf (A .hours .now) (A .minute))
+    0 (opened .unfit) refl _ (step .ensures) ∙ lines.plainly (A .encoded .now) (A .route) (A .source .now) (momentOf (A .hours .now) (A .minute))
     (stateOf (A .memories .now) (A .buffer .now) own (A .status .now)) (A .processor) p opened-as (opened .long)
     (opened .hours .fair, opened .hours .open-then))
 

@@ -58,13 +58,15 @@ fill-requires : tie.Need-fill-requires
 fill-requires c κs =
     let at-if1 = c .before .before .before .before .before .before .before in
     let at-with-sizes = at-if1 .before in
-    let opening = at-with-sizes .with-sizes in (
-      opening .ensures .sized (at-if1 .if1 .left),
-      (opening .ensures .routed (at-if1 .if1 .left), refl),
-    )
+    let opening = at-with-sizes .with-sizes in
+    (opening .ensures .sized (at-if1 .if1 .left), (opening .ensures .routed (at-if1 .if1 .left), refl))
 
 inbox-fits-requires : tie.Need-inbox-fits-requires
-inbox-fits-requires c κs = search needs
+inbox-fits-requires c κs =
+    let at-fill = c .before in
+    let at-if1 = at-fill .before .before .before .before .before .before .before .before in
+    let at-with-sizes = at-if1 .before in
+    (at-with-sizes .with-sizes .ensures .sized (at-if1 .if1 .left), at-fill .fill .ensures)
 
 refusal-requires-3 : tie.Need-refusal-requires-3
 refusal-requires-3 c κs = search needs
