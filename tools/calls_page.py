@@ -34,6 +34,8 @@ RATTLE = {
     'summary': 'summary::summary', 'message': 'summary::message', 'hops': 'summary::hops',
     'rounds': 'schedule::run', 'rounds_of': 'schedule::rounds_of',
     'messages': 'transport::messages', 'owners': 'transport::owners', 'awaited': 'transport::awaited', 'take_in': 'transport::take_in',
+    'fingerprint': 'packets::fingerprint', 'packet': 'wire::packet', 'packet_read': 'wire::packet_read', 'chunk': 'packets::chunks::take_chunk',
+    'send': 'wire::send', 'receive': 'calls::mail::rolwyddac_receive',
     'part_sizes': 'part_calls::sizes', 'part_messages': 'part_calls::messages', 'part_fresh': 'part_calls::fresh',
     'part_turn': 'calls::part::rolwyddac_part_turn', 'part_post': 'part_calls::post', 'part_arrive': 'part_calls::arrive',
     'part_collect': 'part_calls::collect',
@@ -89,8 +91,10 @@ def tested(name, numbers, parameters, order):
 
 
 def reader(numbers, order):
-    """How the reader's numbers are told."""
+    """How the reader's numbers are told; not at all by a call that reads no recipe."""
     whole = order[:order.index(8) + 1]
+    if not numbers.intersection(whole):
+        return None
     left_out = [str(number) for number in whole if number not in numbers]
     return "the reader's" + (' but ' + ' and '.join(left_out) if left_out else '')
 
@@ -187,7 +191,7 @@ def entry(name, comment, parameters, answer, order, python):
              '', filled_lines(does), '',
              filled_lines('- Parameters: %s.%s' % (quoted(given), ' Written: %s.' % quoted(written) if written else '')),
              *map(filled_lines, returned(*answer)),
-             filled_lines('- Numbers, in this order: %s.%s' % (', '.join([reader(spread(numbers), order)] + list(map(str, behind))),
+             filled_lines('- Numbers, in this order: %s.%s' % (', '.join(filter(None, [reader(spread(numbers), order), *map(str, behind)])) or 'none',
                                                                ''.join(' Number %s.' % each.replace(', also', ' also') for each in conditions))),
              *[filled_lines('- ' + each) for each in (leaves,) if each]]
     return '\n'.join(lines)

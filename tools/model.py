@@ -9,6 +9,7 @@ Run as a program it checks the rows and the single facts that the paper prints.
 """
 
 import functools
+import zlib
 from itertools import product
 
 WORD = 2 ** 32
@@ -677,6 +678,41 @@ def take_in(encoded, areas, b, m, words, route=DIRECT):
     areas.buffer[offset:offset + len(words)] = words
     areas.status[m] = 2
     return 0
+
+
+# Packets: crates/packets/specs/Packet.antt has the format
+
+MAGIC, PACKET_WORDS, LONGEST_PACKET, MOST_ITEM = int.from_bytes(b'RWP1', 'little'), 285, 1200, 64 * 285
+
+
+def fingerprint(encoded, route):
+    """CRC-32 below, FNV-1a above, of the recipe's bytes and then the route's four."""
+    text, mixed = bytes(encoded) + route.to_bytes(4, 'little'), 0x811C9DC5
+    for byte in text:
+        mixed = (mixed ^ byte) * 16777619 % WORD
+    return zlib.crc32(text) + WORD * mixed
+
+
+def packet(mark, run, life, kind, sender, taker, item, chunk, words):
+    """Number and bytes of a chunk of an item."""
+    chunks = max(1, -(-len(words) // PACKET_WORDS))
+    if len(words) > MOST_ITEM:
+        return 9, b''
+    if chunk >= chunks:
+        return 11, b''
+    brought = words[chunk * PACKET_WORDS:(chunk + 1) * PACKET_WORDS]
+    doubles = [half for double in (mark, run, life) for half in (double % WORD, double // WORD)]
+    text = b''.join(word.to_bytes(4, 'little') for word in (MAGIC, *doubles, kind, sender, taker, item, chunk, chunks, len(brought), *brought))
+    return 0, text + zlib.crc32(text).to_bytes(4, 'little')
+
+
+def packet_number(mark, run, text):
+    """0, 26 or 27 for bytes that came."""
+    if len(text) < 60 or len(text) > LONGEST_PACKET or len(text) != 60 + 4 * int.from_bytes(text[52:56], 'little'):
+        return 26
+    if int.from_bytes(text[:4], 'little') != MAGIC or zlib.crc32(text[:-4]) != int.from_bytes(text[-4:], 'little'):
+        return 26
+    return 0 if (int.from_bytes(text[4:12], 'little'), int.from_bytes(text[12:20], 'little')) == (mark, run) else 27
 
 
 # For one board that is lent its own part alone: memory for nothing else

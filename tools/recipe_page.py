@@ -120,6 +120,14 @@ class ByModel:
     def sounding(self, cell):
         return model.soundings(self.encoded, model.sounding_records((cell, 0, 0, 0)), 0, self.areas.source)
 
+    def packet(self, sent):
+        """The number of bytes that are read for run 0: a packet of a run, or none."""
+        mark = model.fingerprint(self.encoded, self.route)
+        return self.packet_number(mark, b'' if sent is None else model.packet(mark, sent, 0, 1, 0, 1, 0, 0, [7])[1])
+
+    def packet_number(self, mark, text):
+        return model.packet_number(mark, 0, text)
+
     def indirect(self):
         return model.plan_of(self.encoded, model.INDIRECT)[0]
 
@@ -207,6 +215,9 @@ class ByLibrary(ByModel):
         own, other = self.offices.areas[office], self.lent(self.offices.areas[1 - office])[2]
         return self.called('tenant_turn', own, self.engaged, other, office, processor)
 
+    def packet_number(self, mark, text):
+        return self.number_of(lambda: self.library.calls.EXPORTED['packet_read'](mark, 0, text, array.array('I', [0] * model.PACKET_WORDS)))
+
     def sounding(self, cell):
         return self.number_of(lambda: self.library.soundings(self.encoded, [(cell, 0, 0, 0)], 0))
 
@@ -221,6 +232,8 @@ CALLS = [
     (r'turn (\d+) at minute (\d+)', lambda by, processor, minute: by.turn_at(processor, minute)),
     (r'fresh both', lambda by: by.fresh_both()),
     (r'turn (\d+) of office (\d+)', lambda by, processor, office: by.turn_of(office, processor)),
+    (r'packet of no bytes', lambda by: by.packet(None)),
+    (r'packet of run (\d+) read for run 0', lambda by, sent: by.packet(sent)),
     (r'sounding of cell (\d+)', lambda by, cell: by.sounding(cell)),
 ]
 

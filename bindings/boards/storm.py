@@ -12,6 +12,7 @@ Status 1 where one is wrong.
 """
 
 import argparse
+import itertools
 import os
 import random
 import re
@@ -77,6 +78,9 @@ class Storm:
     def __init__(self, folder, scratch, seed):
         self.program = os.path.join(os.path.abspath(folder), 'boards')
         self.scratch = scratch
+        # a program that was built with keys has this text
+        with open(self.program, 'rb') as file:
+            self.has_keys = b'libsodium does not start' in file.read()
         self.rng = random.Random(seed)
         self.runs = self.wrong = self.well = self.faults = 0
         self.groups = {}
@@ -364,7 +368,7 @@ def strangers(storm):
     if not Wire.may():
         print('not run: strangers, which want raw sockets')
         return
-    for keyed in (False, True):
+    for keyed in (False, True) if storm.has_keys else (False,):
         stranger(storm, keyed)
     hosts = storm.put('hosts', addresses(free_ports(9, '::1'), '::1')) if free_ports(1, '::1') else None
     if hosts:
@@ -389,6 +393,9 @@ def connect(names, hub):
 
 def namespaces(storm):
     """The coordinator and each board in a network namespace of its own; between them hub.py, with delay, loss, repeats, damage and another order."""
+    if not storm.has_keys:
+        print('not run: network namespaces, which want keys')
+        return
     mine, slow = os.getpid(), 'BOARDS_PAUSE=20000'
     names, hub = ['boards%d-%d' % (mine, k) for k in range(9)], 'boards%d-hub' % mine
     key = ['--key', storm.put('key', os.urandom(40), 0o600)]
@@ -422,8 +429,8 @@ def namespaces(storm):
 
 STORMS = {'clean': clean, 'mail': mail, 'kills': kills, 'many': many, 'halts': halts, 'coordinator': coordinator, 'strangers': strangers,
           'namespaces': namespaces}
-# how often one comes, of so many: those that take long come less often
-ORDER = ['clean', 'mail', 'kills', 'strangers', 'halts', 'coordinator', 'mail', 'kills', 'namespaces', 'mail', 'kills', 'many', 'coordinator', 'mail', 'kills']
+# each once, and then those more often that take less long
+MORE = ['mail', 'kills', 'coordinator', 'strangers', 'mail', 'kills', 'halts', 'mail', 'kills', 'namespaces', 'coordinator', 'mail', 'kills', 'many', 'clean']
 
 
 def lanes(count, arguments):
@@ -446,11 +453,12 @@ def main(folder, runs, minutes, seed, only):
     until = time.time() + 60 * minutes
     with tempfile.TemporaryDirectory() as scratch:
         storm = Storm(folder, scratch, seed)
-        order = [name for name in ORDER if not only or name in only]
-        for k in range(10 * runs):
-            if storm.runs >= runs and k >= len(order) or time.time() > until:
+        first, more = ([name for name in names if not only or name in only] for names in (list(STORMS), MORE))
+        for name in itertools.chain(first, itertools.cycle(more)):
+            if storm.runs >= runs and not first or time.time() > until:
                 break
-            STORMS[order[k % len(order)]](storm)
+            STORMS[name](storm)
+            first = first[1:]
         for what, (ran, well, seconds, counts) in sorted(storm.groups.items()):
             print('%-75s %3d of %3d, %.2f s each, %s' % (what, well, ran, seconds / ran, ' '.join('%s %d' % item for item in counts.items() if item[1])))
         print('%d runs, %d faults, %d wrong, %d ended well' % (storm.runs, storm.faults, storm.wrong, storm.well))

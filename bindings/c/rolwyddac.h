@@ -20,6 +20,8 @@
  *    8 tiles          more than 1,024 tiles that hold a cell
  *   21 direct only    indirect passing asked for and the recipe has a bound
  *   23 no chart       a chart of a recipe that has not two dimensions, or with a cell size that is not 1 to 65,535
+ *   26 damaged        bytes that are no packet, by their length, their first word or their check word
+ *   27 stale          a packet of another recipe, route or run
  *    9 area           a lent area has not exactly its length
  *   22 off the box    a sounding, whether it counts or not, names a cell that the recipe's box does not have
  *   10 unfit          progress, status or engaged words not fit
@@ -110,12 +112,22 @@ enum {
   ROLWYDDAC_OFF_THE_BOX = 22,
   ROLWYDDAC_NO_CHART = 23,
   ROLWYDDAC_CLOSED = 24,
-  ROLWYDDAC_HOURS = 25
+  ROLWYDDAC_HOURS = 25,
+  ROLWYDDAC_DAMAGED = 26,
+  ROLWYDDAC_STALE = 27
 };
 
 /* Bytes of the longest chart: 16,384 cells of ten digits, each with a space or a line feed behind it, under a header of
  * 98 bytes. */
 #define ROLWYDDAC_LONGEST_CHART 180322
+
+/* Bytes of the longest packet, and its words. An item of up to as many chunks, of so many words each, can be cut into packets. */
+#define ROLWYDDAC_LONGEST_PACKET 1200
+#define ROLWYDDAC_PACKET_WORDS 285
+#define ROLWYDDAC_MOST_CHUNKS 64
+
+/* A packet's kind where it brings a chunk of a message; all other kinds are the program's own. */
+#define ROLWYDDAC_KIND_MESSAGE 1
 
 /* How far a processor is: tiles finished, the stage of its current tile (0 gather, 1 calculate, 2 send) and how
  * many messages of that tile are sent. */
@@ -409,6 +421,91 @@ uint32_t rolwyddac_take_in(const uint8_t *encoded, size_t encoded_length, uint32
                            size_t buffer_length, const rolwyddac_progress *progress, size_t progress_length,
                            uint8_t *status, size_t status_length, uint32_t processor, uint32_t message,
                            const uint32_t *words, size_t words_length);
+
+/* What goes over a network that loses, repeats, reorders, damages and delays: packets of at most ROLWYDDAC_LONGEST_PACKET bytes. A packet
+ * says of which recipe, route and run it is, by which life of which board it was sent and to which one, and it has a check word. What is
+ * longer than a packet goes in chunks, and a mask of 64 bits says which are there. crates/packets/specs/Packet.antt has the format. */
+
+/* What recipe and route are known by on the wire. */
+typedef struct {
+  uint32_t number; /* always 0 */
+  uint64_t fingerprint;
+} rolwyddac_mark;
+
+/* Tells what recipe and route are known by on the wire: of any bytes, so nothing is refused. Numbers: none. */
+rolwyddac_mark rolwyddac_fingerprint(const uint8_t *encoded, size_t encoded_length, uint32_t route);
+
+/* What was written: so many bytes of the space, from the first on. */
+typedef struct {
+  uint32_t number;
+  uint32_t length;
+} rolwyddac_written;
+
+/* Writes a chunk of an item as a packet. words is the whole item, at most 18,240 words; one without words has one chunk without words.
+ * The space has ROLWYDDAC_LONGEST_PACKET bytes, and those behind the packet stay as they were.
+ * Numbers: 9, 11. A refusal leaves the space as it was. */
+rolwyddac_written rolwyddac_packet(uint64_t fingerprint, uint64_t run, uint64_t life, uint32_t kind, uint32_t sender,
+                                   uint32_t taker, uint32_t item, uint32_t chunk, const uint32_t *words,
+                                   size_t words_length, uint8_t *space, size_t space_length);
+
+/* What a packet says. */
+typedef struct {
+  uint32_t number;
+  uint32_t kind;
+  uint32_t sender;
+  uint32_t taker;
+  uint32_t item;
+  uint32_t chunk;
+  uint32_t chunks; /* in all */
+  uint32_t count;  /* of its words */
+  uint64_t life;
+} rolwyddac_packet_line;
+
+/* Tells what bytes say that came, whatever they are, for this fingerprint and run, and writes their words from the first place of words
+ * on; those behind stay as they were. ROLWYDDAC_PACKET_WORDS are enough for every packet.
+ * Numbers: 9, 26, 27. A refusal leaves words as they were. */
+rolwyddac_packet_line rolwyddac_packet_read(uint64_t fingerprint, uint64_t run, const uint8_t *packet,
+                                            size_t packet_length, uint32_t *words, size_t words_length);
+
+/* What became of a chunk. */
+typedef struct {
+  uint32_t number;
+  uint32_t whole; /* 1 where all chunks of the item are there now */
+  uint64_t mask;  /* those that are there now; at a refusal the mask that was given */
+} rolwyddac_taken;
+
+/* Puts a chunk that came to its place in the area of its item, which is as long as the item. A chunk that is there already by the mask
+ * changes nothing. The mask is 0 where nothing came yet.
+ * Numbers: 9, 11. A refusal leaves the area as it was. */
+rolwyddac_taken rolwyddac_chunk(uint32_t chunk, uint32_t chunks, const uint32_t *words, size_t words_length,
+                                uint32_t *area, size_t area_length, uint64_t mask);
+
+/* Writes a chunk of a message as a packet of this run and life, out of the buffer of the processor that sends it. The message is posted here,
+ * so that its status is 2 or more: rolwyddac_deliver posts it, and this call may be made again whenever its taker asks for it.
+ * Numbers: 1 to 9, 11, 14, 16 to 18, 20, 21. A refusal leaves the space as it was. */
+rolwyddac_written rolwyddac_send(const uint8_t *encoded, size_t encoded_length, uint32_t route, uint64_t run,
+                                 uint64_t life, const uint32_t *buffer, size_t buffer_length, const uint8_t *status,
+                                 size_t status_length, uint32_t processor, uint32_t message, uint32_t chunk,
+                                 uint8_t *space, size_t space_length);
+
+/* What became of bytes that came for a processor. */
+typedef struct {
+  uint32_t number;
+  uint32_t whole;   /* 1 where the message is whole with them, and was taken in */
+  uint32_t message; /* of which they brought a chunk */
+} rolwyddac_received;
+
+/* Takes bytes as they came for a processor, whose own areas are lent: a chunk of a message goes to its place in parts, which has the
+ * buffer's length, and is marked in masks, one for each message and 0 at a fresh start. Once the message is whole, and only then, it is
+ * taken in as by rolwyddac_take_in. Another kind, sender, taker or chunk than a message of this processor has is 11.
+ * Numbers: 1 to 11, 14, 16 to 18, 20, 21, 26, 27. A refusal leaves all areas as they were. */
+rolwyddac_received rolwyddac_receive(const uint8_t *encoded, size_t encoded_length, uint32_t route, uint64_t run,
+                                     const uint32_t *source, size_t source_length, const uint32_t *memories,
+                                     size_t memories_length, uint32_t *buffer, size_t buffer_length,
+                                     const rolwyddac_progress *progress, size_t progress_length, uint8_t *status,
+                                     size_t status_length, uint32_t processor, const uint8_t *packet,
+                                     size_t packet_length, uint32_t *parts, size_t parts_length, uint64_t *masks,
+                                     size_t masks_length);
 
 /* For processors that share no memory and have room for their own part alone seven calls stand in place of the others. What
  * one processor is lent grows with its own cells, not with the box:

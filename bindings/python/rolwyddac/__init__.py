@@ -30,17 +30,17 @@ from .kinds import DIRECT, INDIRECT, numpy
 from .plan import (Awaited, Message, PartRow, PartSizes, Row, Summary, awaited, hops, message, messages, opens, owners,
                    part_messages, part_sizes, part_source, rounds_of, summary)
 from .recipe import COMPONENTS, RECORD, Fields, dimensions
-from .refusals import (Area, Boards, Closed, DirectOnly, Distance, Early, Empty, Engaged, Finished, Hours, LastSpread,
-                       Length, NoChart, NoMail, NoSuch, OffTheBox, Ragged, SpreadOrder, StrayRecord, Tile, Tiles,
-                       TooLarge, TooWide, Unfit, Waiting)
+from .refusals import (Area, Boards, Closed, Damaged, DirectOnly, Distance, Early, Empty, Engaged, Finished, Hours, LastSpread,
+                       Length, NoChart, NoMail, NoSuch, OffTheBox, Ragged, SpreadOrder, Stale, StrayRecord, Tile,
+                       Tiles, TooLarge, TooWide, Unfit, Waiting)
 from .rig import FREE, Rig
 from .run import Run, rounds
 
 __all__ = [
     'COMPONENTS', 'DIRECT', 'FREE', 'INDIRECT', 'RECORD', 'REFUSALS', 'Area', 'Areas', 'Awaited', 'Board', 'Boards', 'Closed',
-    'DirectOnly', 'Distance', 'Early', 'Empty', 'Engaged', 'Fields', 'Finished', 'Hours', 'LastSpread', 'Length', 'Message',
+    'Damaged', 'DirectOnly', 'Distance', 'Early', 'Empty', 'Engaged', 'Fields', 'Finished', 'Hours', 'LastSpread', 'Length', 'Message',
     'NoChart', 'NoMail', 'NoSuch', 'OffTheBox', 'PartAreas', 'PartBoard', 'PartRow', 'PartSizes', 'Progress', 'Ragged',
-    'Refused', 'Rig', 'Row', 'Run', 'Sizes', 'Sounding', 'SpreadOrder', 'StrayRecord', 'Summary', 'Tile', 'Tiles', 'TooLarge',
+    'Refused', 'Rig', 'Row', 'Run', 'Sizes', 'Sounding', 'SpreadOrder', 'Stale', 'StrayRecord', 'Summary', 'Tile', 'Tiles', 'TooLarge',
     'TooWide', 'Unfit', 'Waiting', '__version__', 'awaited', 'calls', 'chart', 'dimensions', 'flattened', 'hops', 'message',
     'messages', 'opens', 'owners', 'part_messages', 'part_sizes', 'part_source', 'rounds', 'rounds_of', 'sizes', 'soundings',
     'summary', 'sweep', 'term', 'text', 'version']

@@ -2,6 +2,7 @@
 
 from __future__ import annotations
 
+import array
 from typing import Any, List, Optional, SupportsIndex, Tuple
 
 from . import calls
@@ -38,7 +39,11 @@ class Board(OverAreas, _Processor):
     Where every message that one posts is taken in by its taker, sooner or later, each finishes, and its memory has the cells of its
     tiles as the sweep has them. Threads may share a board: its calls go one at a time."""
 
+    CHANGED = ('_areas', '_parts', '_masks')
     _rows: Tuple[Row, ...]
+    # what came so far of each message, at its words' places in the buffer, and which of its chunks
+    _parts: Words
+    _masks: Words
 
     def __init__(self, encoded: BytesLike, route: SupportsIndex, source: Numbers, processor: SupportsIndex) -> None:
         """A fresh start."""
@@ -48,7 +53,8 @@ class Board(OverAreas, _Processor):
         calls.EXPORTED['fresh'](recipe, word, words, *areas)
         if own >= len(areas.progress):
             raise calls.refused(NO_SUCH)
-        self._own(_encoded=recipe, _route=word, _source=words, _processor=own, _rows=tuple(rows), _areas=areas)
+        parts, masks = array.array('I', bytes(4 * len(areas.buffer))), array.array('Q', bytes(8 * len(areas.status)))
+        self._own(_encoded=recipe, _route=word, _source=words, _processor=own, _rows=tuple(rows), _areas=areas, _parts=parts, _masks=masks)
 
     @property
     def rows(self) -> Tuple[Row, ...]:
@@ -81,6 +87,22 @@ class Board(OverAreas, _Processor):
     def take_in(self, message: SupportsIndex, words: Numbers) -> None:
         """Takes a message in that another processor posted."""
         self._call('take_in', self._processor, message, laid('words', words))
+
+    @locked
+    def packet(self, run: SupportsIndex, life: SupportsIndex, message: SupportsIndex, chunk: SupportsIndex) -> bytes:
+        """The packet of a chunk of a message that this processor has posted: the first time, and whenever its taker asks again."""
+        space = bytearray(calls.LONGEST_PACKET)
+        told = calls.EXPORTED['send'](self._encoded, self._route, run, life, self._areas.buffer, self._areas.status, self._processor, message, chunk, space)
+        return bytes(space[:told.length])
+
+    @locked
+    def receive(self, run: SupportsIndex, packet: BytesLike) -> Tuple[int, bool]:
+        """Takes bytes as they came: a chunk to what came of its message, and the message in once it is whole. Gives the message, and whether
+        it is whole."""
+        areas = self._areas
+        told = calls.EXPORTED['receive'](self._encoded, self._route, run, self._source, areas.memories, areas.buffer, areas.progress, areas.status,
+                                         self._processor, packet, self._parts, self._masks)
+        return told.message, told.whole == 1
 
 
 class PartBoard(_Processor):

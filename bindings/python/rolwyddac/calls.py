@@ -21,10 +21,13 @@ from .lending import Lent, Progress, Sizes, flattened, hold_apart, lent, listed,
 from .library import LOADED, term, text, version
 from .refusals import REFUSALS, Refused, refused
 
-__all__ = ['CALLS', 'EXPORTED', 'REFUSALS', 'STRUCTURES', 'TOLD', 'VERSION', 'Progress', 'Refused', 'Sizes', 'Told', 'flattened', 'listed', 'refused',
+__all__ = ['CALLS', 'EXPORTED', 'LONGEST_PACKET', 'PACKET_WORDS', 'REFUSALS', 'STRUCTURES', 'TOLD', 'VERSION', 'Progress', 'Refused', 'Sizes', 'Told', 'flattened', 'listed', 'refused',
            'sizes', 'term', 'text', 'version']
 
 VERSION = '1.0.0'
+
+# bytes of the longest packet, and its words
+LONGEST_PACKET, PACKET_WORDS = 1200, 285
 
 # As crates/calls exports them; tools/header.py holds this list to the sources.
 CALLS = '''
@@ -68,6 +71,15 @@ rolwyddac_awaited(encoded: &[u8], route: u32, progress: &[Progress], status: &[u
     marks: &mut [u8]) -> Waiting
 rolwyddac_take_in(encoded: &[u8], route: u32, source: &[u32], memories: &[u32], buffer: &mut [u32], progress: &[Progress],
     status: &mut [u8], processor: u32, message: u32, words: &[u32])
+rolwyddac_fingerprint(encoded: &[u8], route: u32) -> Mark
+rolwyddac_packet(fingerprint: u64, run: u64, life: u64, kind: u32, sender: u32, taker: u32, item: u32, chunk: u32, words: &[u32],
+    space: &mut [u8]) -> Written
+rolwyddac_packet_read(fingerprint: u64, run: u64, packet: &[u8], words: &mut [u32]) -> PacketLine
+rolwyddac_chunk(chunk: u32, chunks: u32, words: &[u32], area: &mut [u32], mask: u64) -> Taken
+rolwyddac_send(encoded: &[u8], route: u32, run: u64, life: u64, buffer: &[u32], status: &[u8], processor: u32, message: u32,
+    chunk: u32, space: &mut [u8]) -> Written
+rolwyddac_receive(encoded: &[u8], route: u32, run: u64, source: &[u32], memories: &[u32], buffer: &mut [u32],
+    progress: &[Progress], status: &mut [u8], processor: u32, packet: &[u8], parts: &mut [u32], masks: &mut [u64]) -> Received
 rolwyddac_part_sizes(encoded: &[u8], route: u32, processor: u32) -> PartLengths
 rolwyddac_part_messages(encoded: &[u8], route: u32, processor: u32, out: &mut [u32])
 rolwyddac_part_fresh(encoded: &[u8], route: u32, memory: &mut [u32], mail: &mut [u32], progress: &mut [Progress], marks: &mut [u8],
@@ -94,6 +106,11 @@ Opening { number: u32, opens: u32, minutes: u32 }
 Viewed { number: u32, begin: u32, length: u32 }
 ChartText { number: u32, length: u32 }
 Waiting { number: u32, tile: u32 }
+Mark { number: u32, fingerprint: u64 }
+Written { number: u32, length: u32 }
+PacketLine { number: u32, kind: u32, sender: u32, taker: u32, item: u32, chunk: u32, chunks: u32, count: u32, life: u64 }
+Taken { number: u32, whole: u32, mask: u64 }
+Received { number: u32, whole: u32, message: u32 }
 PartLengths { number: u32, cells: u32, kept: u32, words: u32, messages: u32 }
 Fields { number: u32, dimensions: u32, distances: u32, bounds: u32, boundary: u32, lengths: [u16; 4], tiling: [u16; 4], counts: [u16; 4],
     components: [u16; 32], weights: [u16; 8], offsets: [i16; 4], sides: [u8; 4], bounded: [u8; 4], earlier: [u8; 4], slopes: [i8; 4],

@@ -42,6 +42,7 @@ def _signed(ctype: Any, code: str) -> Kind:
 
 KINDS: Dict[str, Kind] = {
     'u8': _unsigned(ctypes.c_uint8, 'B'), 'u16': _unsigned(ctypes.c_uint16, 'H'), 'u32': _unsigned(ctypes.c_uint32, 'I'),
+    'u64': _unsigned(ctypes.c_uint64, 'Q'),
     'i8': _signed(ctypes.c_int8, 'b'), 'i16': _signed(ctypes.c_int16, 'h'), 'i32': _signed(ctypes.c_int32, 'i')}
 
 # the routes

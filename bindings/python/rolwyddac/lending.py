@@ -69,7 +69,7 @@ def type_of(kind: str) -> Any:
 
 
 # parameters that are bytes, and no list of numbers
-BYTES_LIKE = ('encoded', 'file')
+BYTES_LIKE = ('encoded', 'file', 'packet')
 
 # how buffers name a record of three words
 _RECORD = re.compile(r'T\{(?:[@=<]?[IL]:[^:]*:){3}\}')

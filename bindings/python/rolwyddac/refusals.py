@@ -135,10 +135,19 @@ class Hours(Refused):
     pass
 
 
+class Damaged(Refused):
+    pass
+
+
+class Stale(Refused):
+    pass
+
+
 REFUSALS: Dict[int, Type[Refused]] = dict(enumerate((
     Ragged, StrayRecord, Length, TooLarge, Distance, Tile, Boards, Tiles, Area,
     Unfit, NoSuch, Waiting, Finished, NoMail, Early, SpreadOrder, LastSpread,
-    TooWide, Engaged, Empty, DirectOnly, OffTheBox, NoChart, Closed, Hours), start=1))
+    TooWide, Engaged, Empty, DirectOnly, OffTheBox, NoChart, Closed, Hours,
+    Damaged, Stale), start=1))
 
 # beyond every number that a library of this major version gives
 _NUMBERS = 64

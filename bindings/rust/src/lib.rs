@@ -165,6 +165,60 @@ pub struct Viewed {
     pub length: u32,
 }
 
+/// What a packet says beside recipe, route and run, which [`packet_read`] is asked for.
+#[repr(C)]
+#[derive(Clone, Copy, Debug, PartialEq, Eq)]
+pub struct PacketLine {
+    /// 1 for a chunk of a message; every other kind is the program's own.
+    pub kind: u32,
+    /// Who sent it.
+    pub sender: u32,
+    /// For whom it is.
+    pub taker: u32,
+    /// The message's number, or what a kind of the program's own numbers.
+    pub item: u32,
+    /// Which chunk of the item it brings.
+    pub chunk: u32,
+    /// How many chunks the item has.
+    pub chunks: u32,
+    /// How many words it brings.
+    pub count: u32,
+    /// The life of the board that sent it.
+    pub life: u64,
+}
+
+/// What became of a chunk: see [`chunk`].
+#[repr(C)]
+#[derive(Clone, Copy, Debug, PartialEq, Eq)]
+pub struct Taken {
+    /// 1 where all chunks of the item are there now.
+    pub whole: u32,
+    /// The chunks that are there now.
+    pub mask: u64,
+}
+
+/// What became of bytes that came for a processor: see [`receive`].
+#[repr(C)]
+#[derive(Clone, Copy, Debug, PartialEq, Eq)]
+pub struct Received {
+    /// 1 where the message is whole with them, and was taken in.
+    pub whole: u32,
+    /// The message of which they brought a chunk.
+    pub message: u32,
+}
+
+/// What a call tells, and what the exported function returns for it: the number first.
+trait Tells: Sized {
+    type Answer;
+
+    fn parts(answer: Self::Answer) -> (u32, Self);
+
+    fn done(answer: Self::Answer) -> Result<Self, Refusal> {
+        let (number, told) = Self::parts(answer);
+        Refusal::of(number).map(|()| told)
+    }
+}
+
 /// What an exported call returns by value: its number, and behind it what it tells, all zero where it refuses.
 #[repr(C)]
 struct Told<T> {
@@ -172,15 +226,71 @@ struct Told<T> {
     told: T,
 }
 
-impl<T> Told<T> {
-    fn done(self) -> Result<T, Refusal> {
-        Refusal::of(self.number).map(|()| self.told)
+/// Those that lie behind the number as they would by themselves.
+macro_rules! tells {
+    ($($told:ty),*) => {$(
+        impl Tells for $told {
+            type Answer = Told<$told>;
+
+            fn parts(answer: Told<$told>) -> (u32, $told) {
+                (answer.number, answer.told)
+            }
+        }
+    )*};
+}
+
+tells!(u32, u64, Figures, Message, Opens, Viewed, PartSizes, Tables, Received);
+
+/// A word of 64 bits behind others would lie elsewhere in a struct of its own.
+#[repr(C)]
+struct AnsweredLine {
+    number: u32,
+    kind: u32,
+    sender: u32,
+    taker: u32,
+    item: u32,
+    chunk: u32,
+    chunks: u32,
+    count: u32,
+    life: u64,
+}
+
+impl Tells for PacketLine {
+    type Answer = AnsweredLine;
+
+    fn parts(answer: AnsweredLine) -> (u32, PacketLine) {
+        let AnsweredLine { number, kind, sender, taker, item, chunk, chunks, count, life } = answer;
+        (number, PacketLine { kind, sender, taker, item, chunk, chunks, count, life })
+    }
+}
+
+#[repr(C)]
+struct AnsweredTaken {
+    number: u32,
+    whole: u32,
+    mask: u64,
+}
+
+impl Tells for Taken {
+    type Answer = AnsweredTaken;
+
+    fn parts(answer: AnsweredTaken) -> (u32, Taken) {
+        (answer.number, Taken { whole: answer.whole, mask: answer.mask })
     }
 }
 
 /// Bytes of the longest chart there is: 16,384 cells of ten digits, each with a space or a line feed behind it, under a
 /// header of 98 bytes. Every chart fits a space of this length.
 pub const LONGEST_CHART: usize = 180_322;
+
+/// Bytes of the longest packet: the length of every space for one.
+pub const LONGEST_PACKET: usize = 1200;
+
+/// The most words that a packet brings.
+pub const PACKET_WORDS: usize = 285;
+
+/// A packet's kind where it brings a chunk of a message.
+pub const KIND_MESSAGE: u32 = 1;
 
 /// Declares each exported call and makes its safe form. A slice goes over as its pointer and its length; a number
 /// as it is, and so does a route, which is laid out as a word. What a call tells comes back behind its number.
@@ -216,10 +326,10 @@ macro_rules! calls {
     }};
     (@ $exported:ident [$told:ty] [$($declared:tt)*] [$($given:tt)*]) => {{
         extern "C" {
-            fn $exported($($declared)*) -> Told<$told>;
+            fn $exported($($declared)*) -> <$told as Tells>::Answer;
         }
         // SAFETY: as above.
-        unsafe { $exported($($given)*) }.done()
+        <$told as Tells>::done(unsafe { $exported($($given)*) })
     }};
 }
 
@@ -446,6 +556,53 @@ calls! {
         encoded: &[u8], route: Route, source: &[u32], memories: &[u32], buffer: &mut [u32], progress: &[Progress],
         status: &mut [u8], processor: u32, message: u32, words: &[u32],
     );
+
+    /// Tells what recipe and route are known by on the wire, of any bytes.
+    ///
+    /// Refusals: none.
+    rolwyddac_fingerprint as fingerprint(encoded: &[u8], route: Route) -> u64;
+
+    /// Writes a chunk of an item as a packet, from the first byte of `space` on, and tells its bytes. `words` is the whole item, at
+    /// most 18,240 words; `space` has [`LONGEST_PACKET`] bytes.
+    ///
+    /// Refusals: 9 and 11.
+    rolwyddac_packet as packet(
+        fingerprint: u64, run: u64, life: u64, kind: u32, sender: u32, taker: u32, item: u32, chunk: u32, words: &[u32],
+        space: &mut [u8],
+    ) -> u32;
+
+    /// Tells what bytes say that came, whatever they are, for this fingerprint and run, and writes their words from the first
+    /// place of `words` on. [`PACKET_WORDS`] are enough for every packet.
+    ///
+    /// Refusals: 9, 26 and 27.
+    rolwyddac_packet_read as packet_read(
+        fingerprint: u64, run: u64, packet: &[u8], words: &mut [u32],
+    ) -> PacketLine;
+
+    /// Puts a chunk that came to its place in the area of its item, which is as long as the item. A chunk that is there already by
+    /// the mask changes nothing.
+    ///
+    /// Refusals: 9 and 11.
+    rolwyddac_chunk as chunk(chunk: u32, chunks: u32, words: &[u32], area: &mut [u32], mask: u64) -> Taken;
+
+    /// Writes a chunk of a message that this processor has posted as a packet of this run and life, out of its buffer, and tells
+    /// its bytes: the first time, and whenever its taker asks for it again. `space` has [`LONGEST_PACKET`] bytes.
+    ///
+    /// Refusals: 1 to 9, 11, 14, 16 to 18, 20 and 21.
+    rolwyddac_send as send(
+        encoded: &[u8], route: Route, run: u64, life: u64, buffer: &[u32], status: &[u8], processor: u32, message: u32,
+        chunk: u32, space: &mut [u8],
+    ) -> u32;
+
+    /// Takes bytes as they came for a processor, whose own areas are lent: a chunk of a message goes to its place in `parts`, which
+    /// has the buffer's length, and is marked in `masks`, one for each message and 0 at a fresh start. Once the message is whole,
+    /// and only then, it is taken in as by [`take_in`].
+    ///
+    /// Refusals: 1 to 11, 14, 16 to 18, 20, 21, 26 and 27.
+    rolwyddac_receive as receive(
+        encoded: &[u8], route: Route, run: u64, source: &[u32], memories: &[u32], buffer: &mut [u32],
+        progress: &[Progress], status: &mut [u8], processor: u32, packet: &[u8], parts: &mut [u32], masks: &mut [u64],
+    ) -> Received;
 
     /// Tells how long the areas of a processor's own part are.
     ///

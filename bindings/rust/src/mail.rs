@@ -1,8 +1,8 @@
 //! What a transport needs where processors share no memory, in handy forms.
 
 use crate::{
-    awaited_words, deliver, fresh, messages_words, owners_words, summary, take_in, turn, Areas, Message, Progress,
-    Refusal, Route,
+    awaited_words, deliver, fresh, messages_words, owners_words, receive, send, summary, take_in, turn, Areas, Message,
+    Progress, Received, Refusal, Route, LONGEST_PACKET,
 };
 
 const ROW_WORDS: usize = 6;
@@ -78,6 +78,9 @@ pub struct Board<'a> {
     processor: u32,
     rows: Vec<Row>,
     areas: Areas,
+    /// what came so far of each message, at its words' places in the buffer, and which of its chunks
+    parts: Vec<u32>,
+    masks: Vec<u64>,
 }
 
 impl<'a> Board<'a> {
@@ -92,7 +95,8 @@ impl<'a> Board<'a> {
         if processor as usize >= plan.processors {
             return Err(Refusal::NoSuch);
         }
-        Ok(Board { encoded, route, source, processor, rows: messages(encoded, route)?, areas })
+        let (parts, masks) = (vec![0; areas.buffer.len()], vec![0; areas.status.len()]);
+        Ok(Board { encoded, route, source, processor, rows: messages(encoded, route)?, areas, parts, masks })
     }
 
     /// The areas as the last call left them.
@@ -154,6 +158,40 @@ impl<'a> Board<'a> {
             self.processor,
             message,
             words,
+        )
+    }
+
+    /// The packet of a chunk of a message that this processor has posted, for this run and life: the first time, and whenever its
+    /// taker asks again.
+    ///
+    /// Refusals: 11 and 14.
+    pub fn packet(&self, run: u64, life: u64, message: u32, chunk: u32) -> Result<Vec<u8>, Refusal> {
+        let mut space = vec![0; LONGEST_PACKET];
+        let Areas { buffer, status, .. } = &self.areas;
+        let length =
+            send(self.encoded, self.route, run, life, buffer, status, self.processor, message, chunk, &mut space)?;
+        space.truncate(length as usize);
+        Ok(space)
+    }
+
+    /// Takes bytes as they came: a chunk to what came of its message, and the message in once it is whole.
+    ///
+    /// Refusals: 11, 14, 26 and 27.
+    pub fn receive(&mut self, run: u64, packet: &[u8]) -> Result<Received, Refusal> {
+        let Areas { memories, buffer, progress, status } = &mut self.areas;
+        receive(
+            self.encoded,
+            self.route,
+            run,
+            self.source,
+            memories,
+            buffer,
+            progress,
+            status,
+            self.processor,
+            packet,
+            &mut self.parts,
+            &mut self.masks,
         )
     }
 }

@@ -77,6 +77,8 @@ refusals! {
     8 Tiles "tiles": "more than 1,024 tiles that hold a cell";
     21 DirectOnly "direct only": "indirect passing asked for and the recipe has a bound";
     23 NoChart "no chart": "a chart of a recipe that has not two dimensions, or with a cell size that is not 1 to 65,535";
+    26 Damaged "damaged": "bytes that are no packet, by their length, their first word or their check word";
+    27 Stale "stale": "a packet of another recipe, route or run";
     9 Area "area": "a lent area has not exactly its length";
     22 OffTheBox "off the box":
         "a sounding, whether it counts or not, names a cell that the recipe's box does not have";
@@ -114,7 +116,7 @@ mod tests {
     fn no_number_is_missing() {
         let mut numbers: Vec<u32> = Refusal::NAMED.iter().map(|refusal| refusal.number()).collect();
         numbers.sort();
-        assert_eq!(numbers, (1..=25).collect::<Vec<u32>>());
+        assert_eq!(numbers, (1..=27).collect::<Vec<u32>>());
     }
 
     #[test]
