@@ -19,8 +19,15 @@ rolwyddac\\-boards \\- a run on processes that share no memory
 .B \\-\\-seed
 .IR NUMBER )
 [OPTION ..]
+.br
+.B rolwyddac\\-boards \\-\\-board
+.I NUMBER
+.B \\-\\-hosts
+.I FILE
+[OPTION ..]
 .SH DESCRIPTION
-Runs a recipe with one process a board, over sockets on this machine, and holds the grid to the sweep of one processor before it is written.
+Runs a recipe with one process a board, on this machine or where a hosts file says, and holds the grid to the sweep of one processor before it is written.
+Boards that die are started again, and lost packets are posted again.
 The manual is /usr/share/doc/rolwyddac/boards.md.
 .SH OPTIONS
 '''

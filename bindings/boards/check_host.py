@@ -272,7 +272,8 @@ def check_output(host):
         host.holds('grid to ' + grid, ran.returncode == DONE and ran.stdout == GRID and is_line(ran.stderr, said) and os.path.islink(host.path('output')), ran)
         with open(host.path('kept'), 'wb') as kept:
             ran = host.run(host.arguments('--grid', grid, '--times'), stdout=kept, preexec_fn=host.as_nobody())
-        host.holds('grid to %s, which is a file' % grid, ran.returncode == DONE and host.got('kept') == GRID and is_line(ran.stderr.partition(b'\n')[2], said), ran)
+        told = is_line(ran.stderr.partition(b'\n')[2], said)
+        host.holds('grid to %s, which is a file' % grid, ran.returncode == DONE and host.got('kept') == GRID and told, ran)
         host.holds('grid to ' + grid, host.files() == ['kept', 'output', 'recipe'], ran)
 
 

@@ -17,7 +17,7 @@ static enum status make(struct job *job, uint32_t route) {
   job->source = calloc(cells, sizeof *job->source);
   job->owners = calloc(cells, sizeof *job->owners);
   if (job->source == NULL || job->owners == NULL) return tell_no_memory();
-  job->fingerprint = rolwyddac_fingerprint(job->recipe.at, job->recipe.length, route);
+  job->fingerprint = rolwyddac_fingerprint(job->recipe.at, job->recipe.length, route).fingerprint;
   const uint32_t number = rolwyddac_owners(job->recipe.at, job->recipe.length, job->owners, cells);
   return number == ROLWYDDAC_DONE ? STATUS_DONE : tell_refusal("owners", number);
 }
@@ -29,13 +29,13 @@ enum status job_read(struct job *out, const struct options *options) {
   if (status == STATUS_DONE) status = source_read(&out->plan, options, out->source);
   if (status != STATUS_DONE) return status;
   /* the words as this machine has them: the engine's archive is for one architecture */
-  out->run = rolwyddac_fingerprint((const uint8_t *)out->source, plan_cells(&out->plan) * sizeof *out->source, options->run);
+  out->run = rolwyddac_fingerprint((const uint8_t *)out->source, plan_cells(&out->plan) * sizeof *out->source, options->run).fingerprint;
   return STATUS_DONE;
 }
 
 /* of all words behind it */
 static uint64_t check_of(const uint32_t *words, uint32_t length) {
-  return rolwyddac_fingerprint((const uint8_t *)(words + CHECKED), (length - CHECKED) * sizeof *words, 0);
+  return rolwyddac_fingerprint((const uint8_t *)(words + CHECKED), (length - CHECKED) * sizeof *words, 0).fingerprint;
 }
 
 bool job_holds(const uint32_t *words, uint32_t length) {
@@ -78,8 +78,8 @@ enum status job_take(struct job *out, uint32_t board, const uint32_t *words, uin
   if (status != STATUS_DONE) return status;
   out->run = words[RUN_LOW] | (uint64_t)words[RUN_HIGH] << 32;
   out->timeout = words[MILLISECONDS] / 1e3, out->work = words[WORK], *again = words[AGAIN] != 0;
-  if (board >= plan_boards(&out->plan) || !take_source(out, board, words + start, length - start)) return tell(STATUS_DAMAGED, "a job that is not for this board");
-  return STATUS_DONE;
+  const bool its = board < plan_boards(&out->plan) && take_source(out, board, words + start, length - start);
+  return its ? STATUS_DONE : tell(STATUS_DAMAGED, "a job that is not for this board");
 }
 
 uint32_t job_cells(const struct job *job, uint32_t board) {

@@ -66,8 +66,8 @@ static void write_counts(char *out, size_t room, const struct outcome *outcome) 
   const uint32_t dropped = c[COUNT_DAMAGED] + c[COUNT_FORGED] + c[COUNT_STALE] + c[COUNT_STRAY] + c[COUNT_EARLY];
   char of[160] = "";
   if (dropped > 0)
-    snprintf(of, sizeof of, " (damaged %" PRIu32 " forged %" PRIu32 " stale %" PRIu32 " stray %" PRIu32 " early %" PRIu32 ")", c[COUNT_DAMAGED], c[COUNT_FORGED],
-             c[COUNT_STALE], c[COUNT_STRAY], c[COUNT_EARLY]);
+    snprintf(of, sizeof of, " (damaged %" PRIu32 " forged %" PRIu32 " stale %" PRIu32 " stray %" PRIu32 " early %" PRIu32 ")", c[COUNT_DAMAGED],
+             c[COUNT_FORGED], c[COUNT_STALE], c[COUNT_STRAY], c[COUNT_EARLY]);
   snprintf(out, room, "; posted %" PRIu32 " lost %" PRIu32 " repeated %" PRIu32 " dropped %" PRIu32 "%s restarts %" PRIu32, c[COUNT_POSTED], c[COUNT_LOST],
            c[COUNT_REPEATED], dropped, of, outcome->restarts);
 }

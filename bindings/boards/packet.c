@@ -54,12 +54,12 @@ static uint32_t mixed(uint32_t hash, const uint8_t *bytes, size_t length) {
   return hash;
 }
 
-uint64_t rolwyddac_fingerprint(const uint8_t *encoded, size_t encoded_length, uint32_t route) {
+rolwyddac_mark rolwyddac_fingerprint(const uint8_t *encoded, size_t encoded_length, uint32_t route) {
   uint8_t last[4];
   put(last, 0, route);
   const uint32_t low = ~fed(fed(~0u, encoded, encoded_length), last, sizeof last);
   const uint32_t high = mixed(mixed(0x811c9dc5, encoded, encoded_length), last, sizeof last);
-  return low | (uint64_t)high << 32;
+  return (rolwyddac_mark){.fingerprint = low | (uint64_t)high << 32};
 }
 
 /* ---- packets */
@@ -155,9 +155,10 @@ rolwyddac_written rolwyddac_send(const uint8_t *encoded, size_t encoded_length, 
     return (rolwyddac_written){.number = ROLWYDDAC_AREA};
   if (message >= known.sizes.status) return (rolwyddac_written){.number = ROLWYDDAC_NO_SUCH};
   const uint32_t *row = known.rows + (size_t)message * ROLWYDDAC_ROW_LENGTH;
-  if (row[ROLWYDDAC_ROW_SENDING_PROCESSOR] != processor || chunk >= chunks_of(row[ROLWYDDAC_ROW_WORDS])) return (rolwyddac_written){.number = ROLWYDDAC_NO_SUCH};
+  if (row[ROLWYDDAC_ROW_SENDING_PROCESSOR] != processor || chunk >= chunks_of(row[ROLWYDDAC_ROW_WORDS]))
+    return (rolwyddac_written){.number = ROLWYDDAC_NO_SUCH};
   if (status[message] < 2) return (rolwyddac_written){.number = ROLWYDDAC_NO_MAIL};
-  return rolwyddac_packet(rolwyddac_fingerprint(encoded, encoded_length, route), run, life, ROLWYDDAC_KIND_MESSAGE, processor,
+  return rolwyddac_packet(rolwyddac_fingerprint(encoded, encoded_length, route).fingerprint, run, life, ROLWYDDAC_KIND_MESSAGE, processor,
                           row[ROLWYDDAC_ROW_TAKING_PROCESSOR], message, chunk, buffer + row[ROLWYDDAC_ROW_OFFSET], row[ROLWYDDAC_ROW_WORDS], space,
                           space_length);
 }
@@ -179,7 +180,7 @@ rolwyddac_received rolwyddac_receive(const uint8_t *encoded, size_t encoded_leng
   uint32_t words[ROLWYDDAC_PACKET_WORDS], number = know(encoded, encoded_length, route);
   if (number != ROLWYDDAC_DONE) return (rolwyddac_received){.number = number};
   const rolwyddac_packet_line line =
-      rolwyddac_packet_read(rolwyddac_fingerprint(encoded, encoded_length, route), run, packet, packet_length, words, ROLWYDDAC_PACKET_WORDS);
+      rolwyddac_packet_read(rolwyddac_fingerprint(encoded, encoded_length, route).fingerprint, run, packet, packet_length, words, ROLWYDDAC_PACKET_WORDS);
   if (line.number != ROLWYDDAC_DONE) return (rolwyddac_received){.number = line.number};
   if (status_length != known.sizes.status || masks_length != status_length || parts_length != known.sizes.buffer)
     return (rolwyddac_received){.number = ROLWYDDAC_AREA};

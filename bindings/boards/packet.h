@@ -21,8 +21,13 @@ enum { ROLWYDDAC_DAMAGED = 26, ROLWYDDAC_STALE = 27 };
 #define ROLWYDDAC_MOST_CHUNKS 64
 #define ROLWYDDAC_KIND_MESSAGE 1 /* the kind of a message's chunk; every other kind is the program's own */
 
-/* What recipe and route are known by on the wire. */
-uint64_t rolwyddac_fingerprint(const uint8_t *encoded, size_t encoded_length, uint32_t route);
+/* What recipe and route are known by on the wire: of any bytes, so nothing is refused. */
+typedef struct {
+  uint32_t number;
+  uint64_t fingerprint;
+} rolwyddac_mark;
+
+rolwyddac_mark rolwyddac_fingerprint(const uint8_t *encoded, size_t encoded_length, uint32_t route);
 
 /* What was written: the packet's bytes are space[0 .. length - 1]. */
 typedef struct {
