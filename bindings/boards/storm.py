@@ -1,11 +1,12 @@
 """Storms against the program boards. Run as
 
-    python3 bindings/boards/storm.py FOLDER [--runs 1000] [--lanes 1] [--seed 1] [--only NAME ..]
+    python3 bindings/boards/storm.py FOLDER [--runs 1000] [--minutes 120] [--lanes 1] [--seed 1] [--only NAME ..]
 
 with the folder of a program that is linked with faults.c (bindings/boards/build FOLDER faults sockets). Boards are killed and halted, packets are lost, sent
 twice, late and damaged, strangers put packets in, the coordinator is killed, networks delay. Every run that ends with 0 must have the model's grid, word for
-word; every other leaves no file; which runs are to end well is known before. What needs a right that is not there (raw sockets, network namespaces) is named and
-not run. All packets go to 127.0.0.0/8, ::1 and namespaces made here; signals go to processes started here and to their children.
+word; every other leaves no file; which runs are to end well is known before. What needs a right that is not there (raw sockets, network namespaces) is named
+and not run. All packets go to 127.0.0.0/8, ::1 and namespaces made here; signals go to processes started here and to their children. It ends after so many
+runs or minutes. Lanes are storms side by side.
 The last line is `N runs, M faults, 0 wrong, K ended well`: faults are kills, halts, packets put in, and packets that runs told as lost, repeated or dropped.
 Status 1 where one is wrong.
 """
@@ -429,7 +430,8 @@ def lanes(count, arguments):
     """So many storms side by side, each with a seed of its own and its share of the runs; their last lines are added up."""
     command = [sys.executable, os.path.abspath(__file__)] + arguments
     share = -(-given.runs // count)
-    started = [subprocess.Popen(command + ['--runs', str(share), '--seed', str(given.seed + k)], stdout=subprocess.PIPE, text=True) for k in range(count)]
+    command += ['--runs', str(share), '--minutes', str(given.minutes)]
+    started = [subprocess.Popen(command + ['--seed', str(given.seed + k)], stdout=subprocess.PIPE, text=True) for k in range(count)]
     total = [0, 0, 0, 0]
     for one in started:
         said = one.communicate()[0]
@@ -440,12 +442,13 @@ def lanes(count, arguments):
     return 1 if total[2] else 0
 
 
-def main(folder, runs, seed, only):
+def main(folder, runs, minutes, seed, only):
+    until = time.time() + 60 * minutes
     with tempfile.TemporaryDirectory() as scratch:
         storm = Storm(folder, scratch, seed)
         order = [name for name in ORDER if not only or name in only]
         for k in range(10 * runs):
-            if storm.runs >= runs and k >= len(order):
+            if storm.runs >= runs and k >= len(order) or time.time() > until:
                 break
             STORMS[order[k % len(order)]](storm)
         for what, (ran, well, seconds, counts) in sorted(storm.groups.items()):
@@ -458,10 +461,11 @@ if __name__ == '__main__':
     parser = argparse.ArgumentParser(description=__doc__, formatter_class=argparse.RawDescriptionHelpFormatter)
     parser.add_argument('folder')
     parser.add_argument('--runs', type=int, default=1000)
+    parser.add_argument('--minutes', type=float, default=120)
     parser.add_argument('--lanes', type=int, default=1)
     parser.add_argument('--seed', type=int, default=1)
     parser.add_argument('--only', nargs='*', choices=list(STORMS))
     given = parser.parse_args()
     if given.lanes > 1:
         sys.exit(lanes(given.lanes, [given.folder] + (['--only', *given.only] if given.only else [])))
-    sys.exit(main(given.folder, given.runs, given.seed, given.only))
+    sys.exit(main(given.folder, given.runs, given.minutes, given.seed, given.only))

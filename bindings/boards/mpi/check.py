@@ -2,9 +2,9 @@
 
     python3 bindings/boards/mpi/check.py FOLDER [--seed 27] [--recipes 4]
 
-with the folder of a program linked with mpi/faults.c (bindings/boards/build FOLDER faults mpi), which mpirun starts. Rows and seeded random recipes, with random
-delays and in another order of mail: every grid is the model's, word for word. Faults: each ends with its status, tells its text, and leaves the grid's file as
-it was. The last line is `N runs, 0 wrong`; status 1 where one is wrong.
+with the folder of a program linked with mpi/faults.c (bindings/boards/build FOLDER faults mpi), which mpirun starts. Rows and seeded random recipes, with
+random delays and in another order of mail: every grid is the model's, word for word. Faults: each ends with its status, tells its text, and leaves the grid's
+file as it was. The last line is `N runs, 0 wrong`; status 1 where one is wrong.
 """
 
 import argparse
