@@ -66,10 +66,9 @@ static void add_up(const struct seats *seats, const struct crew *crew, struct ou
   out->counts = seats->net->counts;
   out->restarts = crew != NULL ? crew->restarts : 0;
   for (uint32_t b = 0; b < seats->boards; b++) {
-    const struct seat *s = &seats->seat[b];
-    counts_add(&out->counts, &s->earlier);
-    counts_add(&out->counts, &s->last.counts);
-    if (crew == NULL && s->lives > 1) out->restarts += s->lives - 1;
+    const struct counts counted = seats_counts(&seats->seat[b]);
+    counts_add(&out->counts, &counted);
+    if (crew == NULL && seats->seat[b].lives > 1) out->restarts += seats->seat[b].lives - 1;
   }
 }
 

@@ -3,8 +3,8 @@
     python3 bindings/boards/measure.py FOLDER [--rounds 15] [--works 0 10 30 100 300 1000 3000] [--mpi]
 
 with the folder of the program (bindings/boards/build). N 128,128, k 16,16, distances (1,0) (0,1) (1,1), as in docs/BENCHMARKS.md. All take turns
-within a round; a ratio is the median over the rounds, a time the best round. A run's time is from the moment at which all processes are there until board 0
-has the grid. Prints a table for docs/BENCHMARKS.md: the extra work in nanoseconds a cell, the sweep of one process with that work, and the runs.
+within a round; a ratio is the median over the rounds, a time the best round. A run's time is from the start of the first board until the grid is collected;
+over MPI from the moment at which all processes are there. Prints a table for docs/BENCHMARKS.md: the extra work in nanoseconds a cell, the sweep of one process with that work, and the runs.
 Where other work is on the machine, real-time priority keeps it away (as root): chrt -r 1 python3 bindings/boards/measure.py ..
 """
 

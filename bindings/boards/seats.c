@@ -40,6 +40,7 @@ static void post(struct seats *seats, enum kind kind, uint32_t to, uint64_t life
 
 void seats_post_end(struct seats *seats, enum status status) {
   const uint32_t none = 0;
+  seats->ending = true;
   for (uint32_t b = 0; b < seats->boards; b++)
     if (!seats->seat[b].ended && seats->seat[b].lives > 0) post(seats, KIND_END, b, seats->seat[b].life, status, &none, 0);
 }
@@ -60,18 +61,31 @@ static void hand_out(struct seats *seats, const struct letter *asked) {
 
 /* ---- what comes */
 
+/* the life of that number; null where it is not known */
+static struct life *find_life(struct seat *s, uint64_t number) {
+  for (uint32_t k = 0; k < s->lives && k < MOST_LIVES; k++)
+    if (s->known[k].number == number) return &s->known[k];
+  return NULL;
+}
+
 /* It is there: perhaps in another life. Only what has the run's number tells a life: an asking for a job may be one of an earlier run. */
 static struct seat *hear(struct seats *seats, const struct letter *l) {
   struct seat *s = &seats->seat[l->line.sender];
   s->heard = waited_seconds(&seats->waited);
-  if (s->lives > 0 && s->life == l->line.life) return s;
   if (s->lives == 0) seats->progress = s->heard;
-  counts_add(&s->earlier, &s->last.counts);
-  s->last = (struct report){0};
+  if (s->life != l->line.life) s->ended = false;
   s->life = l->line.life;
-  s->lives++;
-  s->ended = false;
+  if (find_life(s, s->life) != NULL) return s;
+  struct life *new = &s->known[s->lives++ % MOST_LIVES];
+  counts_add(&s->earlier, &new->counts);
+  *new = (struct life){.number = s->life};
   return s;
+}
+
+struct counts seats_counts(const struct seat *seat) {
+  struct counts all = seat->earlier;
+  for (uint32_t k = 0; k < seat->lives && k < MOST_LIVES; k++) counts_add(&all, &seat->known[k].counts);
+  return all;
 }
 
 static uint64_t how_far(const struct report *r) { return (uint64_t)r->finished << 40 | (uint64_t)(r->stage & 255) << 32 | r->sent; }
@@ -83,9 +97,10 @@ static void take_report(struct seats *seats, const struct letter *l) {
   }
   struct seat *s = hear(seats, l);
   memcpy(&s->last, l->words, sizeof s->last);
+  find_life(s, s->life)->counts = s->last.counts;
   if (how_far(&s->last) > s->furthest) s->furthest = how_far(&s->last), seats->progress = s->heard;
-  s->ended = l->line.kind == KIND_BYE;
-  if (s->ended) return;
+  s->ended = l->line.kind == KIND_BYE && seats->ending;
+  if (l->line.kind == KIND_BYE) return;
   /* a board whose part is not there, though it has finished, posts the chunks that are not */
   uint32_t words[MASK_WORDS];
   mask_put(words, s->part_there);
