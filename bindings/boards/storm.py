@@ -12,6 +12,7 @@ Status 1 where one is wrong.
 """
 
 import argparse
+import itertools
 import os
 import random
 import re
@@ -422,8 +423,8 @@ def namespaces(storm):
 
 STORMS = {'clean': clean, 'mail': mail, 'kills': kills, 'many': many, 'halts': halts, 'coordinator': coordinator, 'strangers': strangers,
           'namespaces': namespaces}
-# how often one comes, of so many: those that take long come less often
-ORDER = ['clean', 'mail', 'kills', 'strangers', 'halts', 'coordinator', 'mail', 'kills', 'namespaces', 'mail', 'kills', 'many', 'coordinator', 'mail', 'kills']
+# each once, and then those more often that take less long
+MORE = ['mail', 'kills', 'coordinator', 'strangers', 'mail', 'kills', 'halts', 'mail', 'kills', 'namespaces', 'coordinator', 'mail', 'kills', 'many', 'clean']
 
 
 def lanes(count, arguments):
@@ -446,11 +447,12 @@ def main(folder, runs, minutes, seed, only):
     until = time.time() + 60 * minutes
     with tempfile.TemporaryDirectory() as scratch:
         storm = Storm(folder, scratch, seed)
-        order = [name for name in ORDER if not only or name in only]
-        for k in range(10 * runs):
-            if storm.runs >= runs and k >= len(order) or time.time() > until:
+        first, more = ([name for name in names if not only or name in only] for names in (list(STORMS), MORE))
+        for name in itertools.chain(first, itertools.cycle(more)):
+            if storm.runs >= runs and not first or time.time() > until:
                 break
-            STORMS[order[k % len(order)]](storm)
+            STORMS[name](storm)
+            first = first[1:]
         for what, (ran, well, seconds, counts) in sorted(storm.groups.items()):
             print('%-75s %3d of %3d, %.2f s each, %s' % (what, well, ran, seconds / ran, ' '.join('%s %d' % item for item in counts.items() if item[1])))
         print('%d runs, %d faults, %d wrong, %d ended well' % (storm.runs, storm.faults, storm.wrong, storm.well))
