@@ -192,7 +192,8 @@ def check_hosts(check):
     check.ends('no hosts file', FILE, ["boards: can't open %s: No such file" % check.path('none')], row, seed + ['--hosts', check.path('none')])
     for arguments in (['--board', '0'], ['--board', '0', '--hosts', two]):
         check.ends('usage ' + ' '.join(arguments), USAGE, ['boards: --board goes with --hosts, and without recipe'], row, arguments)
-    if b'libsodium' in check.program_bytes():
+    # a program that was built with keys has this text
+    if b'libsodium does not start' in check.program_bytes():
         os.chmod(check.put('key', bytes(20)), 0o600)
         check.ends('a short key', FILE, [': a key has at least 32 bytes'], row, seed + ['--key', check.path('key')])
         os.chmod(check.put('key', bytes(40)), 0o640)
@@ -200,6 +201,8 @@ def check_hosts(check):
         os.chmod(check.path('key'), 0o600)
         check.sweeps('a key', row, 'direct', arguments=['--key', check.path('key')])
         check.sweeps('a key, faults', model.ROWS['C'], 'indirect', 'BOARDS_NET=20:10:10:20', arguments=['--key', check.path('key')])
+    else:
+        check.ends('no keys', USAGE, ['this program was built without libsodium, and has no keys'], row, seed + ['--key', 'any'])
 
 
 def check_files(check):

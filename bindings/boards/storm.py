@@ -78,6 +78,9 @@ class Storm:
     def __init__(self, folder, scratch, seed):
         self.program = os.path.join(os.path.abspath(folder), 'boards')
         self.scratch = scratch
+        # a program that was built with keys has this text
+        with open(self.program, 'rb') as file:
+            self.has_keys = b'libsodium does not start' in file.read()
         self.rng = random.Random(seed)
         self.runs = self.wrong = self.well = self.faults = 0
         self.groups = {}
@@ -365,7 +368,7 @@ def strangers(storm):
     if not Wire.may():
         print('not run: strangers, which want raw sockets')
         return
-    for keyed in (False, True):
+    for keyed in (False, True) if storm.has_keys else (False,):
         stranger(storm, keyed)
     hosts = storm.put('hosts', addresses(free_ports(9, '::1'), '::1')) if free_ports(1, '::1') else None
     if hosts:
@@ -390,6 +393,9 @@ def connect(names, hub):
 
 def namespaces(storm):
     """The coordinator and each board in a network namespace of its own; between them hub.py, with delay, loss, repeats, damage and another order."""
+    if not storm.has_keys:
+        print('not run: network namespaces, which want keys')
+        return
     mine, slow = os.getpid(), 'BOARDS_PAUSE=20000'
     names, hub = ['boards%d-%d' % (mine, k) for k in range(9)], 'boards%d-hub' % mine
     key = ['--key', storm.put('key', os.urandom(40), 0o600)]
