@@ -35,7 +35,7 @@ MOST = model.encode([128, 128], [2, 8], [64, 0], [(1, 0), (0, 1), (1, 1)])
 WIDE = model.encode([128, 128], [32, 64], [4, 0], [(32, 0), (0, 64), (32, 64), (1, 1)])    # messages of eight chunks
 ALL_FAULTS = 'BOARDS_NET=30:10:5:20'    # percentages: lost, twice, corrupted, late
 PATIENCE = ['--timeout', '30']
-GIVEN_UP = 120    # seconds after which a run is taken to hang
+GIVEN_UP = 600    # seconds after which a run is taken to hang: on a machine that others keep busy 64 boards take minutes
 HUB = os.path.join(os.path.dirname(os.path.abspath(__file__)), 'hub.py')
 COUNTED = ('lost', 'repeated', 'dropped')
 
@@ -454,6 +454,9 @@ def main(folder, runs, minutes, seed, only):
     with tempfile.TemporaryDirectory() as scratch:
         storm = Storm(folder, scratch, seed)
         first, more = ([name for name in names if not only or name in only] for names in (list(STORMS), MORE))
+        # lanes side by side are not to do the same at the same time
+        storm.rng.shuffle(first)
+        storm.rng.shuffle(more)
         for name in itertools.chain(first, itertools.cycle(more)):
             if storm.runs >= runs and not first or time.time() > until:
                 break
