@@ -8,7 +8,7 @@
 
 #include "file.h"
 #include "options.h"
-#include "packet.h"
+#include "rolwyddac.h"
 #include "plan.h"
 #include "status.h"
 

@@ -10,7 +10,7 @@
 #include "counts.h"
 #include "hosts.h"
 #include "key.h"
-#include "packet.h"
+#include "rolwyddac.h"
 #include "status.h"
 
 enum { NET_BYTES = ROLWYDDAC_LONGEST_PACKET + TAG_BYTES };

@@ -43,20 +43,20 @@ class Overlaps(unittest.TestCase):
                 for other in parameters:
                     if not written.write or not other.area or other is written:
                         continue
-                    memory = memoryview(bytearray(48))
+                    memory = memoryview(bytearray(96))
                     lent = {each.name: self.area(each) if each.area else 0 for each in parameters}
                     lent[written.name] = self.area(written, memory)
-                    lent[other.name] = self.area(other, memory[12:])
+                    lent[other.name] = self.area(other, memory[24:])
                     with self.subTest(name, written=written.name, other=other.name):
                         with self.assertRaisesRegex(ValueError, 'overlap'):
                             call(**lent)
-                        self.assertEqual(bytes(memory), bytes(48))
+                        self.assertEqual(bytes(memory), bytes(96))
                     tried += 1
         self.assertGreater(tried, 180)
 
     def area(self, parameter, memory=None):
-        memory = memoryview(bytearray(48)) if memory is None else memory
-        return memory.cast({'u8': 'B', 'i8': 'b', 'u16': 'H', 'i16': 'h', 'u32': 'I', 'Progress': 'I'}[parameter.kind])
+        memory = memoryview(bytearray(96)) if memory is None else memory
+        return memory.cast({'u8': 'B', 'i8': 'b', 'u16': 'H', 'i16': 'h', 'u32': 'I', 'u64': 'Q', 'Progress': 'I'}[parameter.kind])
 
     def test_what_is_only_read_may_be_the_same(self):
         words = array.array('I', [1] * 4)

@@ -105,6 +105,10 @@ class Reading(unittest.TestCase):
         self.assertEqual(len(tried), 15)
 
 
+# packets of any kind are of no recipe: test_packets has what is told of them
+OF_NO_RECIPE = {'fingerprint', 'packet', 'packet_read', 'chunk'}
+
+
 class Told(unittest.TestCase):
     """Every call that tells by value, refused in turn by the recipe and by what else it is given."""
 
@@ -112,7 +116,10 @@ class Told(unittest.TestCase):
         """Each call's parameters; a number of a message, an office or a processor that is too high where asked for."""
         memories, buffer, source = (array.array('I', [word] * count) for word, count in ((0, 8), (0, 1), (1, 4)))
         progress, fresh = (rolwyddac.Progress * 2)(), (rolwyddac.Progress * 2)()
+        packet = model.packet(model.fingerprint(recipe, 0), 3, 0, 1, 0, 1, number, 0, [2])[1]
         return {
+            'send': (recipe, 0, 3, 0, buffer, bytearray(b'\2'), 0, number, 0, bytearray(calls.LONGEST_PACKET)),
+            'receive': (recipe, 0, 3, source, memories, buffer, fresh, bytearray(1), 1, packet, array.array('I', [0]), array.array('Q', [0])),
             'summary': (recipe, 0), 'message': (recipe, 0, number), 'hops': (recipe, number), 'read': (recipe,),
             'rounds': (recipe, source, memories, buffer, progress, bytearray(1)), 'view': (recipe, memories, memories, 0, number),
             'chart': (recipe, source, 0, 0, 1, bytearray(200)), 'chart_length': (recipe, source, 0, 0, 1),
@@ -121,7 +128,7 @@ class Told(unittest.TestCase):
 
     def test_what_is_told(self):
         wanted = {'summary': [2, 1, 1, 6], 'message': [0, 1, 0, 1, 1], 'hops': [1], 'rounds': [2], 'view': [0, 4], 'chart': [78],
-                  'chart_length': [78], 'opens': [1, 0], 'part_sizes': [2, 2, 1, 1], 'awaited': [0]}
+                  'chart_length': [78], 'opens': [1, 0], 'part_sizes': [2, 2, 1, 1], 'awaited': [0], 'send': [64], 'receive': [1, 0]}
         for name, words in self.given(ROW_D, 0).items():
             answer = calls.EXPORTED[name].answer(*words)
             with self.subTest(name):
@@ -131,7 +138,7 @@ class Told(unittest.TestCase):
 
     def test_a_refusal_tells_its_number_alone(self):
         told = {name for name, call in calls.EXPORTED.items() if isinstance(call._function.restype, type(calls.Told))}
-        self.assertEqual(set(self.given(ROW_D, 0)), told)
+        self.assertEqual(set(self.given(ROW_D, 0)), told - OF_NO_RECIPE)
         for recipe, number in ((ROW_D[1:], 1), (b'\7' + ROW_D[1:], 2), (ROW_D, 11)):
             for name, words in self.given(recipe, 9).items():
                 answer = calls.EXPORTED[name].answer(*words)

@@ -78,6 +78,6 @@ fn row_d_by_packets() {
     assert_eq!(second.receive(RUN, &sent), Ok(Received { whole: 1, message: 0 }));
     // posted again in another life: the same words, and turned away
     assert_eq!(second.receive(RUN, &first.packet(RUN, 2, 0, 0).unwrap()), Err(Refusal::NoMail));
-    (0..3).for_each(|_| second.turn().unwrap());
+    (0..2).for_each(|_| second.turn().unwrap());
     assert_eq!(second.memory(), [0, 2, 3, 4]);
 }
