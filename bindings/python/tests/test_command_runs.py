@@ -224,7 +224,7 @@ class Numbers(InFolder):
         self.assertIn('    0  01 00 04 00 00 00 02 00', told)
         self.assertIn('Here: dimension 1 has tile 0', told)
         self.assertIn('fresh, turn 1\n', self.ends(0, 'numbers', 12).decode())
-        self.ends(2, 'numbers', 26, told='26 is no number of the engine')
+        self.ends(2, 'numbers', 28, told='28 is no number of the engine')
         self.ends(2, 'numbers', 'six', told='is no whole number')
 
     def test_written_examples_are_refused(self):
