@@ -711,9 +711,9 @@ pub fn summary(encoded: &[u8], route: Route) -> Result<Summary, Refusal> {
 pub fn view<'a>(
     encoded: &[u8], first: &'a [u32], second: &'a [u32], tenant: u32, processor: u32,
 ) -> Result<&'a [u32], Refusal> {
-    let Viewed { begin, length } = view_words(encoded, first, second, office, processor)?;
+    let Viewed { begin, length } = view_words(encoded, first, second, tenant, processor)?;
     let begin = begin as usize;
-    Ok(&(if office == 0 { first } else { second })[begin..begin + length as usize])
+    Ok(&(if tenant == 0 { first } else { second })[begin..begin + length as usize])
 }
 
 /// A grid's text for the charting desk: an Esri ASCII grid with the corner `x`, `y` and the cell size given.
