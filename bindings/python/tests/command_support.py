@@ -3,6 +3,7 @@
 import contextlib
 import importlib.util
 import os
+import signal
 import subprocess
 import sys
 import tempfile
@@ -19,6 +20,16 @@ START = [sys.executable, '-c', 'import sys; from rolwyddac.command import main; 
 
 # in a clone the program boards is built; what is installed by the wheel has none
 HAS_BOARDS = os.path.isdir(os.path.join(ROOT, 'bindings', 'boards')) and not os.environ.get('ROLWYDDAC_INSTALLED')
+
+
+@contextlib.contextmanager
+def heeded(number):
+    """What is started here heeds the signal, also where these tests run in the background and a shell has them ignore it."""
+    before = signal.signal(number, signal.SIG_DFL)
+    try:
+        yield
+    finally:
+        signal.signal(number, before)
 
 
 def setUpModule():

@@ -1,6 +1,5 @@
 """Files of the command: written whole or not at all; signals, pipes and disks; names that would steer a terminal."""
 
-import contextlib
 import os
 import pty
 import resource
@@ -13,7 +12,7 @@ import time
 import unittest
 from unittest import mock
 
-from command_support import BASIN, SMALL, START, InFolder, content_of, environment, setUpModule  # noqa: F401
+from command_support import BASIN, SMALL, START, InFolder, content_of, environment, heeded, setUpModule  # noqa: F401
 from rolwyddac.command import files, texts
 from rolwyddac.command.faults import FileFault
 from rolwyddac.command.texts import shown
@@ -24,16 +23,6 @@ PATIENCE = 30
 
 # seconds after which a command that has opened its pipe waits in its read
 SETTLED = 0.2
-
-
-@contextlib.contextmanager
-def heeded(number):
-    """What is started here heeds the signal, also where these tests run in the background and a shell has them ignore it."""
-    before = signal.signal(number, signal.SIG_DFL)
-    try:
-        yield
-    finally:
-        signal.signal(number, before)
 
 
 class Whole(InFolder):

@@ -14,7 +14,7 @@ import unittest
 import zlib
 from unittest import mock
 
-from command_support import START, InFolder, content_of, environment, setUpModule  # noqa: F401
+from command_support import START, InFolder, content_of, environment, heeded, setUpModule  # noqa: F401
 from support import Case, Draw, model
 from test_view import SHORE, SINGLE, THREE, data_in
 
@@ -266,7 +266,9 @@ class Served(InFolder):
 
     def setUp(self):
         super().setUp()
-        self.child = subprocess.Popen([*START, 'view', self.put('r', ROW_A), '--serve'], stdout=subprocess.PIPE, stderr=subprocess.PIPE, env=environment())
+        with heeded(signal.SIGINT), heeded(signal.SIGHUP):
+            self.child = subprocess.Popen([*START, 'view', self.put('r', ROW_A), '--serve'], stdout=subprocess.PIPE, stderr=subprocess.PIPE,
+                                          env=environment())
         self.addCleanup(self.child.stdout.close)
         self.addCleanup(self.child.stderr.close)
         self.addCleanup(self.child.wait)
