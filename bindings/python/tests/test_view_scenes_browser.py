@@ -11,7 +11,7 @@ import tempfile
 import time
 import unittest
 
-from command_support import START, environment, setUpModule  # noqa: F401
+from command_support import START, environment, heeded, setUpModule  # noqa: F401
 from support import Draw, model
 from test_view import SHORE, data_in
 from test_view_browser import InBrowser
@@ -198,7 +198,8 @@ class ByHand(InBrowser):
         self.addCleanup(folder.cleanup)
         with open(os.path.join(folder.name, 'r'), 'wb') as file:
             file.write(ROW_A)
-        self.child = subprocess.Popen([*START, 'view', file.name, '--serve'], stdout=subprocess.PIPE, env=environment())
+        with heeded(signal.SIGINT):
+            self.child = subprocess.Popen([*START, 'view', file.name, '--serve'], stdout=subprocess.PIPE, env=environment())
         self.addCleanup(self.child.wait)
         self.addCleanup(self.child.kill)
         self.addCleanup(self.child.stdout.close)
