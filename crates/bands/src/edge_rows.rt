@@ -1,8 +1,8 @@
 // Rows whose first cells read the boundary's word in place of a cell's: those cells one by one, the others by `kernels`.
 ghost use Rattle.std.specs.Prelude.{◌≡◌, ◌+◌, ◌*◌, ◌-◌, ◌/◌, ◌%◌, ◌^◌, ◌≤◌, ◌<◌, length, get_or, leb};
 ghost use Rattle.base.specs.Tests.{pick, tabulate};
-ghost use Rattle.base.specs.Lists.{storeAll};
-ghost use Rattle.kernels.specs.Taps.{mixed, inLine, Mixes, All, AllOrNone, Light, Rested};
+ghost use Rattle.base.specs.Lists.{store_all};
+ghost use Rattle.kernels.specs.Taps.{mixed, in_line, Mixes, All, AllOrNone, Light, Rested};
 
 use kernels::{Rule, closed, row, word_of};
 
@@ -67,7 +67,7 @@ fn edge(
 )
     requires { Mixes n firsts.now backs.now weights.now boundary shift cell component width (length source.now)
         (length memory.old) }
-    ensures { memory.new ≡ storeAll (inLine n firsts.now backs.now
+    ensures { memory.new ≡ store_all (in_line n firsts.now backs.now
         weights.now boundary shift source.now cell component) memory.old
         (tabulate (λ y. cell + y) width) }
 {
@@ -118,7 +118,7 @@ pub fn edge_row(
 )
     requires { Mixes n firsts.now backs.now weights.now boundary shift cell component width (length source.now)
         (length memory.old) × All n firsts.now from }
-    ensures { memory.new ≡ storeAll (inLine n firsts.now backs.now
+    ensures { memory.new ≡ store_all (in_line n firsts.now backs.now
         weights.now boundary shift source.now cell component) memory.old
         (tabulate (λ y. cell + y) width) }
 {
@@ -199,7 +199,7 @@ pub fn short_row(
 )
     requires { Mixes n firsts.now backs.now weights.now boundary shift cell component width (length source.now)
         (length memory.old) × AllOrNone n firsts.now from }
-    ensures { memory.new ≡ storeAll (inLine n firsts.now backs.now
+    ensures { memory.new ≡ store_all (in_line n firsts.now backs.now
         weights.now boundary shift source.now cell component) memory.old
         (tabulate (λ y. cell + y) width) }
 {

@@ -3,7 +3,7 @@
 // The cells of a row wait for each other. So four rows go side by side, each one column behind the row before it: what a cell
 // reads has a lower number and stands in no later column, so it is stored by then, and the words are those of index order.
 ghost use Rattle.std.specs.Prelude.{◌≡◌, ◌+◌, ◌*◌, ◌-◌, ◌/◌, ◌%◌, ◌^◌, ◌≤◌, ◌<◌, length, get_or};
-ghost use Rattle.base.specs.Lists.{storeAll};
+ghost use Rattle.base.specs.Lists.{store_all};
 ghost use Rattle.nest.specs.declared.Nest.{Nest};
 ghost use Rattle.plan.specs.Geometry.{value};
 ghost use Rattle.bands.specs.lagged.Bands.{four, rows_of, numbered, BandGiven};
@@ -32,7 +32,7 @@ pub fn band(
     requires { (x : Nest) × BandGiven (numbered x n shift boundary) first.now back.now weights.now source.now memory.old a b c d component from width }
     ensures { (x : Nest) → BandGiven (numbered x n shift boundary) first.now back.now weights.now source.now
         memory.old a b c d component from width
-        → memory.new ≡ storeAll (value (numbered x n shift boundary) source.now) memory.old (rows_of (four a b c d) width 4) }
+        → memory.new ≡ store_all (value (numbered x n shift boundary) source.now) memory.old (rows_of (four a b c d) width 4) }
 {
     let full = component + (from - 3);
     edge_row(

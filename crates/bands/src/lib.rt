@@ -1,7 +1,7 @@
 // Rows of a nest over the loops of `kernels`: one by one, and four side by side.
 // Four rows go each one column behind the row before it, or in the same columns where no row reads another.
 ghost use Rattle.std.specs.Prelude.{◌≡◌, ◌+◌, ◌*◌, ◌-◌, ◌/◌, ◌%◌, ◌^◌, ◌≤◌, ◌<◌, length, get_or};
-ghost use Rattle.base.specs.Lists.{storeAll};
+ghost use Rattle.base.specs.Lists.{store_all};
 ghost use Rattle.nest.specs.declared.Nest.{Nest};
 ghost use Rattle.plan.specs.Geometry.{value};
 ghost use Rattle.bands.specs.lagged.Bands.{four, rows_of, numbered, BandGiven};
@@ -35,7 +35,7 @@ fn beside(
     requires { (x : Nest) × BandGiven (numbered x n shift boundary) first.now back.now weights.now source.now memory.old a b c d component from width }
     ensures { (x : Nest) → BandGiven (numbered x n shift boundary) first.now back.now weights.now source.now
         memory.old a b c d component from width
-        → memory.new ≡ storeAll (value (numbered x n shift boundary) source.now) memory.old (rows_of (four a b c d) width 4) }
+        → memory.new ≡ store_all (value (numbered x n shift boundary) source.now) memory.old (rows_of (four a b c d) width 4) }
 {
     let few = from - 3;
     let full = component + few;
@@ -78,7 +78,7 @@ pub fn side_by_side(
     requires { (x : Nest) × BandGiven (numbered x n shift boundary) first.now back.now weights.now source.now memory.old a b c d component from width }
     ensures { (x : Nest) → BandGiven (numbered x n shift boundary) first.now back.now weights.now source.now
         memory.old a b c d component from width
-        → memory.new ≡ storeAll (value (numbered x n shift boundary) source.now) memory.old (rows_of (four a b c d) width 4) }
+        → memory.new ≡ store_all (value (numbered x n shift boundary) source.now) memory.old (rows_of (four a b c d) width 4) }
 {
     if own {
         beside(

@@ -10,25 +10,25 @@ use lib.ListN.{length, get_or}
 use lib.Dec.{eqb}
 use borrow.Author.Tests.{eq-eqb, ne_eqb}
 use Rattle.base.specs.Alike.{same_words}
-use Rattle.base.proofs.Tests.{and-true, and-false, and_no, every-all, every-not}
+use Rattle.base.proofs.Tests.{and_true, and_false, and_no, every_all, every_not}
 
 pub same_self : (a : List ℕ) → same_words a a ≡ true
 unfolding same_words
 same_self a =
-    and-true (eq-eqb (length a) (length a) refl) (every-all (λ i. eqb (get_or a i 0) (get_or a i 0)) (length a) (λ i l. eq-eqb (get_or a i 0) (get_or a i 0) refl))
+    and_true (eq-eqb (length a) (length a) refl) (every_all (λ i. eqb (get_or a i 0) (get_or a i 0)) (length a) (λ i l. eq-eqb (get_or a i 0) (get_or a i 0) refl))
 
 pub lengths_differ : (a b : List ℕ) → length a ≢ length b → false ≡ same_words a b
 unfolding same_words
-lengths_differ a b n = sym (and-false _ _ (ne_eqb _ _ n))
+lengths_differ a b n = sym (and_false _ _ (ne_eqb _ _ n))
 
-pub words-differ : (a b : List ℕ) (i : ℕ) → i < length a → get_or a i 0 ≢ get_or b i 0 → false ≡ same_words a b
+pub words_differ : (a b : List ℕ) (i : ℕ) → i < length a → get_or a i 0 ≢ get_or b i 0 → false ≡ same_words a b
 unfolding same_words
-words-differ a b i l n = sym (and_no _ _ (every-not (λ i. eqb (get_or a i 0) (get_or b i 0)) (length a) i l (ne_eqb _ _ n)))
+words_differ a b i l n = sym (and_no _ _ (every_not (λ i. eqb (get_or a i 0) (get_or b i 0)) (length a) i l (ne_eqb _ _ n)))
 
 pub words_same : (a b : List ℕ) (i : ℕ) → length a ≡ length b → length a ≤ i → ((j : ℕ) → j < i → get_or a j 0 ≡ get_or b j 0) → true ≡ same_words a b
 unfolding same_words
 words_same a b i e l h =
-    sym (and-true (eq-eqb _ _ e) (every-all (λ i. eqb (get_or a i 0) (get_or b i 0)) (length a) (λ j k. eq-eqb _ _ (h j (omega arith)))))
+    sym (and_true (eq-eqb _ _ e) (every_all (λ i. eqb (get_or a i 0) (get_or b i 0)) (length a) (λ j k. eq-eqb _ _ (h j (omega arith)))))
 
 pub one_more : (a b : List ℕ) (i : ℕ) → ((j : ℕ) → j < i → get_or a j 0 ≡ get_or b j 0) → get_or a i 0 ≡ get_or b i 0
     → (j : ℕ) → j < i + 1 → get_or a j 0 ≡ get_or b j 0

@@ -8,7 +8,7 @@ use native.Mathlib.Omega.{arith}
 use lib.ListN.{length, get_or, set, replicate, length-set, length-replicate, get_or-replicate}
 use lib.Seq.{get_or-set_same, get_or-set_other, ext_get_or}
 use Rattle.base.specs.Tests.{tabulate}
-use Rattle.base.proofs.Tests.{length-tabulate, tabulate-at}
+use Rattle.base.proofs.Tests.{length_tabulate, tabulate_at}
 
 -- the first i words are those of f, and no word more or less than before
 pub record Stored (f : ℕ → ℕ) (old new : List ℕ) (i : ℕ) : Type 0 where
@@ -17,11 +17,11 @@ pub record Stored (f : ℕ → ℕ) (old new : List ℕ) (i : ℕ) : Type 0 wher
   pub each : (j : ℕ) → j < i → get_or new j 0 ≡ f j
 
 module _ (f : ℕ → ℕ) (old : List ℕ) where
-  pub store-start : Stored f old old 0
-  store-start = record { long = refl; low = omega arith; each = λ j h. absurd (omega arith) }
+  pub store_start : Stored f old old 0
+  store_start = record { long = refl; low = omega arith; each = λ j h. absurd (omega arith) }
 
-  pub store-next : (new : List ℕ) (i v : ℕ) → Stored f old new i → i < length old → v ≡ f i → Stored f old (set new i v) (i + 1)
-  store-next new i v g h e =
+  pub store_next : (new : List ℕ) (i v : ℕ) → Stored f old new i → i < length old → v ≡ f i → Stored f old (set new i v) (i + 1)
+  store_next new i v g h e =
       record { long = length-set new i v ∙ g.long; low = omega arith; each = λ j l. go j (eq-or-lt_of_le (le_of_suc-le-suc (below j l))) }
     where
       below : (j : ℕ) → j < i + 1 → suc j ≤ suc i
@@ -36,10 +36,10 @@ module _ (f : ℕ → ℕ) (old : List ℕ) where
       ext_get_or 0 new (replicate (length old) v) (g.long ∙ sym (length-replicate (length old) v))
       (λ j l. g.each j (omega arith) ∙ z j ∙ sym (get_or-replicate (length old) j v 0 (omega (arith, g.long))))
 
-  pub stored-all : (new : List ℕ) (i n : ℕ) → Stored f old new i → length old ≡ n → n ≤ i → new ≡ tabulate f n
-  stored-all new i n g e h =
-      ext_get_or 0 new (tabulate f n) (g.long ∙ e ∙ sym (length-tabulate f n))
-      (λ j l. g.each j (omega (arith, g.long)) ∙ sym (tabulate-at f n j (omega (arith, g.long))))
+  pub stored_all : (new : List ℕ) (i n : ℕ) → Stored f old new i → length old ≡ n → n ≤ i → new ≡ tabulate f n
+  stored_all new i n g e h =
+      ext_get_or 0 new (tabulate f n) (g.long ∙ e ∙ sym (length_tabulate f n))
+      (λ j l. g.each j (omega (arith, g.long)) ∙ sym (tabulate_at f n j (omega (arith, g.long))))
 
-pub stored-list : (old words new : List ℕ) (i : ℕ) → Stored (λ j. get_or words j 0) old new i → length old ≡ length words → length new ≤ i → new ≡ words
-stored-list old words new i g e h = ext_get_or 0 new words (g.long ∙ e) (λ j l. g.each j (omega arith))
+pub stored_list : (old words new : List ℕ) (i : ℕ) → Stored (λ j. get_or words j 0) old new i → length old ≡ length words → length new ≤ i → new ≡ words
+stored_list old words new i g e h = ext_get_or 0 new words (g.long ∙ e) (λ j l. g.each j (omega arith))

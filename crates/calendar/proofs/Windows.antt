@@ -10,74 +10,74 @@ use lib.ListN.{get_or}
 use lib.Dec.{ltb, leb, eqb}
 use borrow.Author.Tests.{lt-ltb, le-ltb, ltb-true, ltb-false, le-leb, leb-true, eq-eqb, ne_eqb, eqb-true}
 use Rattle.base.specs.Tests.{◌and◌, ◌or◌, not, some}
-use Rattle.base.proofs.Tests.{both, and-true, and_left, and-false, and_no, either, or_left, or_right, is_false, never_both, not-false, not-true}
-use Rattle.base.proofs.Tests.{false-not, same_test, none-some}
-use Rattle.calendar.specs.Windows.{week, opens_at, closes_at, isWindow, isFaulty, faultyPair, faultyBoard, covers, inWindow}
+use Rattle.base.proofs.Tests.{both, and_true, and_left, and_false, and_no, either, or_left, or_right, is_false, never_both, not-false, not-true}
+use Rattle.base.proofs.Tests.{false_not, same_test, none_some}
+use Rattle.calendar.specs.Windows.{week, opens_at, closes_at, is_window, is_faulty, faulty_pair, faulty_board, covers, in_window}
 use Rattle.calendar.specs.Waits.{Fair, First}
 
 -- ---- a pair
 
-pub pair-in : (o c m : ℕ) → covers o c m ≡ true → (o ≤ m) × (m < c)
+pub pair_in : (o c m : ℕ) → covers o c m ≡ true → (o ≤ m) × (m < c)
 unfolding covers
-pair-in o c m e = (leb-true _ _ (both (both e).1).0, ltb-true _ _ (both (both e).1).1)
+pair_in o c m e = (leb-true _ _ (both (both e).1).0, ltb-true _ _ (both (both e).1).1)
 
 pub in_pair : (o c m : ℕ) → o ≤ m → m < c → covers o c m ≡ true
-unfolding covers isWindow
-in_pair o c m a b = and-true (not-false (and_no _ _ (ne_eqb c 0 (λ z. omega arith)))) (and-true (le-leb _ _ a) (lt-ltb _ _ b))
+unfolding covers is_window
+in_pair o c m a b = and_true (not-false (and_no _ _ (ne_eqb c 0 (λ z. omega arith)))) (and_true (le-leb _ _ a) (lt-ltb _ _ b))
 
-or-second : {a b : Bool} → a ≡ false → (a or b) ≡ b
+or_second : {a b : Bool} → a ≡ false → (a or b) ≡ b
 unfolding ◌or◌
-or-second e = rw e refl
+or_second e = rw e refl
 
 -- the code's tests of a minute, and of a pair
-pub covers-before : (o c m : ℕ) → m < o → false ≡ covers o c m
-covers-before o c m h = sym (is_false (λ e. let r = pair-in o c m e in omega arith))
+pub covers_before : (o c m : ℕ) → m < o → false ≡ covers o c m
+covers_before o c m h = sym (is_false (λ e. let r = pair_in o c m e in omega arith))
 
-pub covers-then : (o c m : ℕ) → o ≤ m → ltb m c ≡ covers o c m
-covers-then o c m h = go (dec_lt m c)
+pub covers_then : (o c m : ℕ) → o ≤ m → ltb m c ≡ covers o c m
+covers_then o c m h = go (dec_lt m c)
   where
     go : Dec (m < c) → ltb m c ≡ covers o c m
     go (yes l) = lt-ltb m c l ∙ sym (in_pair o c m h l)
-    go (no l) = le-ltb m c (omega arith) ∙ sym (is_false (λ e. l (pair-in o c m e).1))
+    go (no l) = le-ltb m c (omega arith) ∙ sym (is_false (λ e. l (pair_in o c m e).1))
 
-pub faulty-high : (o c : ℕ) → week < c → true ≡ isFaulty o c
-unfolding isFaulty isWindow
-faulty-high o c h = sym (and-true (not-false (and_no _ _ (ne_eqb c 0 (λ z. omega arith)))) (or_left _ (lt-ltb week c h)))
+pub faulty_high : (o c : ℕ) → week < c → true ≡ is_faulty o c
+unfolding is_faulty is_window
+faulty_high o c h = sym (and_true (not-false (and_no _ _ (ne_eqb c 0 (λ z. omega arith)))) (or_left _ (lt-ltb week c h)))
 
-pub faulty-none : (o c : ℕ) → c ≡ 0 → ltb 0 o ≡ isFaulty o c
-unfolding isFaulty isWindow
-faulty-none o c h = go (ℕ_discrete o 0)
+pub faulty_none : (o c : ℕ) → c ≡ 0 → ltb 0 o ≡ is_faulty o c
+unfolding is_faulty is_window
+faulty_none o c h = go (ℕ_discrete o 0)
   where
     go : Dec (o ≡ 0) → ltb 0 o ≡ (not (eqb o 0 and eqb c 0) and (ltb week c or not (ltb o c)))
-    go (yes z) = le-ltb 0 o (omega arith) ∙ sym (and-false _ _ (not-true (and-true (eq-eqb o 0 z) (eq-eqb c 0 h))))
+    go (yes z) = le-ltb 0 o (omega arith) ∙ sym (and_false _ _ (not-true (and_true (eq-eqb o 0 z) (eq-eqb c 0 h))))
     go (no n) =
         lt-ltb 0 o (omega arith)
-        ∙ sym (and-true (not-false (and-false _ _ (ne_eqb o 0 n))) (or_right _ (not-false (le-ltb o c (omega arith)))))
+        ∙ sym (and_true (not-false (and_false _ _ (ne_eqb o 0 n))) (or_right _ (not-false (le-ltb o c (omega arith)))))
 
-pub faulty-order : (o c : ℕ) → c ≤ week → c ≢ 0 → leb c o ≡ isFaulty o c
-unfolding isFaulty isWindow
-faulty-order o c l n =
-    same_test (λ e. not-false (le-ltb o c (leb-true _ _ e))) (λ e. le-leb c o (ltb-false _ _ (false-not e)))
-    ∙ sym (and_left _ _ (not-false (and_no _ _ (ne_eqb c 0 n))) ∙ or-second (le-ltb week c l))
+pub faulty_order : (o c : ℕ) → c ≤ week → c ≢ 0 → leb c o ≡ is_faulty o c
+unfolding is_faulty is_window
+faulty_order o c l n =
+    same_test (λ e. not-false (le-ltb o c (leb-true _ _ e))) (λ e. le-leb c o (ltb-false _ _ (false_not e)))
+    ∙ sym (and_left _ _ (not-false (and_no _ _ (ne_eqb c 0 n))) ∙ or_second (le-ltb week c l))
 
 module _ (o c m : ℕ) (low : m < week) (fair : Fair o c) where
   out : (n : ℕ) → (o ≤ (m + n) % week → (m + n) % week < c → ⊥) → covers o c ((m + n) % week) ≡ false
-  out n h = is_false (λ e. let r = pair-in o c ((m + n) % week) e in h r.0 r.1)
+  out n h = is_false (λ e. let r = pair_in o c ((m + n) % week) e in h r.0 r.1)
 
-  pub wait-later : m < o → First (λ (n : ℕ). covers o c ((m + n) % week)) (o - m)
-  wait-later h =
+  pub wait_later : m < o → First (λ (n : ℕ). covers o c ((m + n) % week)) (o - m)
+  wait_later h =
       let k : o < c = fair.order (λ z. omega (arith, fair.none z)) in
       let l : c ≤ week = fair.most in
       record { most = omega arith; before = λ n b. out n (λ p q. omega arith); holds = λ b. in_pair o c ((m + (o - m)) % week) (omega arith) (omega arith) }
 
-  pub wait-now : o ≤ m → m < c → First (λ (n : ℕ). covers o c ((m + n) % week)) 0
-  wait-now a b = record { most = omega arith; before = λ n l. absurd (omega arith); holds = λ l. in_pair o c ((m + 0) % week) (omega arith) (omega arith) }
+  pub wait_now : o ≤ m → m < c → First (λ (n : ℕ). covers o c ((m + n) % week)) 0
+  wait_now a b = record { most = omega arith; before = λ n l. absurd (omega arith); holds = λ l. in_pair o c ((m + 0) % week) (omega arith) (omega arith) }
 
-  pub wait-never : c ≡ 0 → First (λ (n : ℕ). covers o c ((m + n) % week)) 10080
-  wait-never z = record { most = omega arith; before = λ n l. out n (λ p q. omega arith); holds = λ l. absurd (omega arith) }
+  pub wait_never : c ≡ 0 → First (λ (n : ℕ). covers o c ((m + n) % week)) 10080
+  wait_never z = record { most = omega arith; before = λ n l. out n (λ p q. omega arith); holds = λ l. absurd (omega arith) }
 
-  pub wait-week : o ≤ m → c ≤ m → c ≢ 0 → First (λ (n : ℕ). covers o c ((m + n) % week)) (o + 10080 - m)
-  wait-week a b z =
+  pub wait_week : o ≤ m → c ≤ m → c ≢ 0 → First (λ (n : ℕ). covers o c ((m + n) % week)) (o + 10080 - m)
+  wait_week a b z =
       let k : o < c = fair.order z in
       record {
         most = omega arith;
@@ -89,9 +89,9 @@ module _ (o c m : ℕ) (low : m < week) (fair : Fair o c) where
 -- ---- a window of the table
 
 module _ (calendar : List ℕ) (b : ℕ) where
-  pub fair-pair : (w : ℕ) → faultyPair calendar b w ≡ false → Fair (opens_at calendar b w) (closes_at calendar b w)
-  unfolding isFaulty isWindow
-  fair-pair w e = record { most = most; order = order; none = none }
+  pub fair_pair : (w : ℕ) → faulty_pair calendar b w ≡ false → Fair (opens_at calendar b w) (closes_at calendar b w)
+  unfolding is_faulty is_window
+  fair_pair w e = record { most = most; order = order; none = none }
     where
       o : ℕ
       o = opens_at calendar b w
@@ -101,7 +101,7 @@ module _ (calendar : List ℕ) (b : ℕ) where
 
       -- a pair that is not of zeros, with a fault, is faulty
       fault : ((o ≡ 0) × (c ≡ 0) → ⊥) → (ltb week c or not (ltb o c)) ≡ true → ⊥
-      fault h k = never_both (and-true (not-false (is_false (λ z. h (eqb-true _ _ (both z).0, eqb-true _ _ (both z).1)))) k) e
+      fault h k = never_both (and_true (not-false (is_false (λ z. h (eqb-true _ _ (both z).0, eqb-true _ _ (both z).1)))) k) e
 
       most : c ≤ week
       most = le (dec_lt week c)
@@ -124,6 +124,6 @@ module _ (calendar : List ℕ) (b : ℕ) where
           eq (yes h) = h
           eq (no h) = absurd (fault (λ y. h y.0) (or_right _ (not-false (le-ltb o c (omega arith)))))
 
-  pub fair-at : faultyBoard calendar b ≡ false → (w : ℕ) → w < 14 → Fair (opens_at calendar b w) (closes_at calendar b w)
-  unfolding faultyBoard
-  fair-at e w l = fair-pair w (none-some (faultyPair calendar b) 14 e w l)
+  pub fair_at : faulty_board calendar b ≡ false → (w : ℕ) → w < 14 → Fair (opens_at calendar b w) (closes_at calendar b w)
+  unfolding faulty_board
+  fair_at e w l = fair_pair w (none_some (faulty_pair calendar b) 14 e w l)

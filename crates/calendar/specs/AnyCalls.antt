@@ -3,17 +3,17 @@
 use Rattle.std.specs.Prelude.{ℕ, ◌≤◌, ◌<◌, ◌≡◌, ◌⊎◌, true, List, []}
 use Rattle.std.proofs.Common.{inl, inr}
 use Rattle.machine.specs.Plan.{Plan}
-use Rattle.machine.specs.Machine.{State, Answered, tilesLeft}
-use Rattle.machine.specs.Runs.{Event, act, stateAfter, total}
+use Rattle.machine.specs.Machine.{State, Answered, tiles_left}
+use Rattle.machine.specs.Runs.{Event, act, state_after, total}
 use Rattle.machine.specs.AnyCalls.{whole, mixed, either, steps_of, Demand3In, WordsIn}
-use Rattle.tenants.specs.Tenants.{Sharing, Sources, own_of, Call, actOn}
-use Rattle.tenants.specs.AnyCalls.{tenantView, Words208, Demand3For, GoesOnFor}
-use Rattle.calendar.specs.Windows.{Timed, eventOf, actAt, TimedCall, call_of, actAtOn}
+use Rattle.tenants.specs.Tenants.{Sharing, Sources, own_of, Call, act_on}
+use Rattle.tenants.specs.AnyCalls.{tenant_view, Words208, Demand3For, GoesOnFor}
+use Rattle.calendar.specs.Windows.{Timed, event_of, act_at, TimedCall, call_of, act_at_on}
 use Rattle.calendar.specs.Demands212.{Faultless, OpensSometime, SomeStep, SomeCall}
 
 -- ---- turns with hours alone, of one tenant and of one of two
 abbrev pub Words212 : (State → Timed → Answered State) → State → Plan → List ℕ → Type 0
-Words212 acts start p source = WordsIn (whole eventOf) acts start p source
+Words212 acts start p source = WordsIn (whole event_of) acts start p source
 
 abbrev pub Words212For : (Sharing → TimedCall → Answered Sharing) → Sharing → Plan → Sources → Type 0
 Words212For acts start p sources = Words208 call_of acts start p sources
@@ -22,39 +22,39 @@ Words212For acts start p sources = Words208 call_of acts start p sources
 abbrev pub Mixed : Type 0
 Mixed = Event ⊎ Timed
 
-abbrev pub mixedEvent : Mixed → Event
-mixedEvent = either (λ e. e) eventOf
+abbrev pub mixed_event : Mixed → Event
+mixed_event = either (λ e. e) event_of
 
-abbrev pub actMixed : Plan → List ℕ → State → Mixed → Answered State
-actMixed p source = mixed (act p source) (actAt p source)
+abbrev pub act_mixed : Plan → List ℕ → State → Mixed → Answered State
+act_mixed p source = mixed (act p source) (act_at p source)
 
 abbrev pub MixedCall : Type 0
 MixedCall = Call ⊎ TimedCall
 
-abbrev pub mixedCall : MixedCall → Call
-mixedCall = either (λ c. c) call_of
+abbrev pub mixed_call : MixedCall → Call
+mixed_call = either (λ c. c) call_of
 
-abbrev pub actMixedOn : Plan → Sources → Sharing → MixedCall → Answered Sharing
-actMixedOn p sources = mixed (actOn p sources) (actAtOn p sources)
+abbrev pub act_mixed_on : Plan → Sources → Sharing → MixedCall → Answered Sharing
+act_mixed_on p sources = mixed (act_on p sources) (act_at_on p sources)
 
 -- the claims about a list of such calls from `start`, by the answers that `acts` gives: of the machine, or of any calls that answer alike
 pub record Mixed212 (acts : State → Mixed → Answered State) (start : State) (p : Plan) (source : List ℕ) (collects : State → List ℕ → Answered (List ℕ))
     (calls : List Mixed) : Type 0 where
-  pub demand : Demand3In (whole mixedEvent) acts start p source collects calls
-  pub words : WordsIn (whole mixedEvent) acts start p source
+  pub demand : Demand3In (whole mixed_event) acts start p source collects calls
+  pub words : WordsIn (whole mixed_event) acts start p source
   -- while steps are left some plain event would give 0
-  pub goes_on : steps_of (whole mixedEvent) acts start calls < total p → (e : Event) × ((acts (stateAfter acts start calls) (inl e)).number ≡ 0)
+  pub goes_on : steps_of (whole mixed_event) acts start calls < total p → (e : Event) × ((acts (state_after acts start calls) (inl e)).number ≡ 0)
   -- and with hours: if every processor with tiles left is open at some minute, some delivery, or some turn then, would give 0
-  pub goes-on-at : (calendar : List ℕ) → Faultless p calendar
-      → ((b : ℕ) → b < p.processors → tilesLeft p (stateAfter acts start calls) b ≡ true → OpensSometime calendar b)
-      → steps_of (whole mixedEvent) acts start calls < total p → SomeStep (λ s x. acts s (inr x)) (stateAfter acts start calls) [] calendar
+  pub goes_on_at : (calendar : List ℕ) → Faultless p calendar
+      → ((b : ℕ) → b < p.processors → tiles_left p (state_after acts start calls) b ≡ true → OpensSometime calendar b)
+      → steps_of (whole mixed_event) acts start calls < total p → SomeStep (λ s x. acts s (inr x)) (state_after acts start calls) [] calendar
 
 pub record Mixed212For (acts : Sharing → MixedCall → Answered Sharing) (start : Sharing) (p : Plan) (sources : Sources)
     (collects : Sharing → ℕ → List ℕ → Answered (List ℕ)) (calls : List MixedCall) : Type 0 where
-  pub demand : Demand3For mixedCall acts start p sources collects calls
-  pub words : Words208 mixedCall acts start p sources
-  pub goes_on : GoesOnFor mixedCall acts start p calls
-  pub goes-on-at : (calendar : List ℕ) → Faultless p calendar
-      → ((o b : ℕ) → o ≤ 1 → b < p.processors → tilesLeft p (own_of (stateAfter acts start calls) o) b ≡ true → OpensSometime calendar b)
-      → (steps_of (tenantView mixedCall 0) acts start calls < total p) ⊎ (steps_of (tenantView mixedCall 1) acts start calls < total p)
-      → SomeCall (λ r c. acts r (inr c)) (stateAfter acts start calls) [] calendar
+  pub demand : Demand3For mixed_call acts start p sources collects calls
+  pub words : Words208 mixed_call acts start p sources
+  pub goes_on : GoesOnFor mixed_call acts start p calls
+  pub goes_on_at : (calendar : List ℕ) → Faultless p calendar
+      → ((o b : ℕ) → o ≤ 1 → b < p.processors → tiles_left p (own_of (state_after acts start calls) o) b ≡ true → OpensSometime calendar b)
+      → (steps_of (tenant_view mixed_call 0) acts start calls < total p) ⊎ (steps_of (tenant_view mixed_call 1) acts start calls < total p)
+      → SomeCall (λ r c. acts r (inr c)) (state_after acts start calls) [] calendar

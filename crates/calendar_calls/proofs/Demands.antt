@@ -6,73 +6,73 @@ use Rattle.machine.specs.Machine.{State, fresh}
 use Rattle.calendar.specs.Windows.{Moment}
 use Rattle.calendar.specs.Demands212.{TellsOpening}
 use Rattle.calendar.proofs.Telling.{tells}
-use Rattle.calendar.proofs.TwoTenants.{isolated-at}
-use Rattle.engine.specs.Calls.{recipe, freshCall}
-use Rattle.engine.proofs.Lines.{areas-are}
-use Rattle.engine.proofs.AsSteps.{fresh-gave}
+use Rattle.calendar.proofs.TwoTenants.{isolated_at}
+use Rattle.engine.specs.Calls.{recipe, fresh_call}
+use Rattle.engine.proofs.Lines.{areas_are}
+use Rattle.engine.proofs.AsSteps.{fresh_gave}
 use Rattle.engine.proofs.Demands.{fixed}
-use Rattle.sharing.proofs.AsRuns.{fresh-reads, fresh-sources, fresh-is}
-use Rattle.sharing.proofs.Demands.{sound-plan}
-use Rattle.calendar_calls.specs.Calls.{turnCallLinesAt, turnCallAt, turnCallLinesAtFor, turnCallAtFor, opensLines, opensCall, sharingCallsAt}
+use Rattle.sharing.proofs.AsRuns.{fresh_reads, fresh_sources, fresh_is}
+use Rattle.sharing.proofs.Demands.{sound_plan}
+use Rattle.calendar_calls.specs.Calls.{turn_call_lines_at, turn_call_at, turn_call_lines_at_for, turn_call_at_for, opens_lines, opens_call, sharing_calls_at}
 use Rattle.calendar_calls.specs.Demands.{FixedAt, TimedDemands}
-use Rattle.calendar_calls.proofs.AsRuns.{run-demand212, guards-for, run-demand212-for}
-use Rattle.calendar_calls.proofs.Mixed.{run-words, run-mixed, run-words-for, run-mixed-for, run_alone}
+use Rattle.calendar_calls.proofs.AsRuns.{run_demand212, guards_for, run_demand212_for}
+use Rattle.calendar_calls.proofs.Mixed.{run_words, run_mixed, run_words_for, run_mixed_for, run_alone}
 
-fixed-at : (bytes : List ℕ) (route : ℕ) (source : List ℕ) (h : Moment) (b : ℕ) → FixedAt bytes route source h b
-unfolding turnCallAt turnCallAtFor opensCall
-fixed-at bytes route source h b =
+fixed_at : (bytes : List ℕ) (route : ℕ) (source : List ℕ) (h : Moment) (b : ℕ) → FixedAt bytes route source h b
+unfolding turn_call_at turn_call_at_for opens_call
+fixed_at bytes route source h b =
     record {
-      turn = λ s. fixed (turnCallLinesAt bytes route source h s b) _ s;
-      tenant-turn = λ o l theirs. fixed (turnCallLinesAtFor bytes route source o h l theirs b) _ l;
-      opens = fixed (opensLines bytes h b) _ _;
+      turn = λ s. fixed (turn_call_lines_at bytes route source h s b) _ s;
+      tenant_turn = λ o l theirs. fixed (turn_call_lines_at_for bytes route source o h l theirs b) _ l;
+      opens = fixed (opens_lines bytes h b) _ _;
     }
 
-told : (bytes : List ℕ) (h : Moment) (b : ℕ) → (opensCall bytes h b).number ≡ 0 → TellsOpening (opensCall bytes h b).after h.calendar h.minute b
-unfolding opensCall
+told : (bytes : List ℕ) (h : Moment) (b : ℕ) → (opens_call bytes h b).number ≡ 0 → TellsOpening (opens_call bytes h b).after h.calendar h.minute b
+unfolding opens_call
 told bytes h b z = rw (pick_true _ _ _ (eq-eqb _ 0 z)) (tells h.calendar h.minute b)
 
-fresh-fresh : (bytes : List ℕ) (route : ℕ) (source : List ℕ) (s : State) → (freshCall bytes route source s).number ≡ 0
-    → (freshCall bytes route source s).after ≡ fresh (recipe bytes route)
-unfolding freshCall
-fresh-fresh bytes route source s z = pick_true _ _ _ (eq-eqb _ 0 z)
+fresh_fresh : (bytes : List ℕ) (route : ℕ) (source : List ℕ) (s : State) → (fresh_call bytes route source s).number ≡ 0
+    → (fresh_call bytes route source s).after ≡ fresh (recipe bytes route)
+unfolding fresh_call
+fresh_fresh bytes route source s z = pick_true _ _ _ (eq-eqb _ 0 z)
 
-pub timed-demands : TimedDemands
-timed-demands =
+pub timed_demands : TimedDemands
+timed_demands =
     record {
-      calls = fixed-at;
+      calls = fixed_at;
       tells = told;
       runs = λ bytes route source s b z events.
-          let gave = fresh-gave bytes route source s z in
-          rw (fresh-fresh bytes route source s z)
-          (run-demand212 bytes route source gave.0 (sound-plan bytes route b gave.0)
-          (areas-are (recipe bytes route) source s gave.1).source events);
-      tenant-runs = λ bytes route sources r b z calls.
-          rw (fresh-is bytes route sources r z)
-          (run-demand212-for bytes route sources (fresh-reads bytes route sources r z) (fresh-sources bytes route sources r z)
-          (sound-plan bytes route b (fresh-reads bytes route sources r z)) calls);
+          let gave = fresh_gave bytes route source s z in
+          rw (fresh_fresh bytes route source s z)
+          (run_demand212 bytes route source gave.0 (sound_plan bytes route b gave.0)
+          (areas_are (recipe bytes route) source s gave.1).source events);
+      tenant_runs = λ bytes route sources r b z calls.
+          rw (fresh_is bytes route sources r z)
+          (run_demand212_for bytes route sources (fresh_reads bytes route sources r z) (fresh_sources bytes route sources r z)
+          (sound_plan bytes route b (fresh_reads bytes route sources r z)) calls);
       apart = λ bytes route sources sources' r r' b z z' o low same.
-          rw (fresh-is bytes route sources r z, fresh-is bytes route sources' r' z')
-          (isolated-at (recipe bytes route) (sound-plan bytes route b (fresh-reads bytes route sources r z)) o low sources sources' same
-          (sharingCallsAt bytes route sources) (sharingCallsAt bytes route sources') _ _
-          (guards-for bytes route sources (fresh-reads bytes route sources r z) (fresh-sources bytes route sources r z))
-          (guards-for bytes route sources' (fresh-reads bytes route sources' r' z') (fresh-sources bytes route sources' r' z')));
+          rw (fresh_is bytes route sources r z, fresh_is bytes route sources' r' z')
+          (isolated_at (recipe bytes route) (sound_plan bytes route b (fresh_reads bytes route sources r z)) o low sources sources' same
+          (sharing_calls_at bytes route sources) (sharing_calls_at bytes route sources') _ _
+          (guards_for bytes route sources (fresh_reads bytes route sources r z) (fresh_sources bytes route sources r z))
+          (guards_for bytes route sources' (fresh_reads bytes route sources' r' z') (fresh_sources bytes route sources' r' z')));
       words = λ bytes route source s b z.
-          let gave = fresh-gave bytes route source s z in
-          rw (fresh-fresh bytes route source s z)
-          (run-words bytes route source gave.0 (sound-plan bytes route b gave.0) (areas-are (recipe bytes route) source s gave.1).source);
-      tenant-words = λ bytes route sources r b z.
-          rw (fresh-is bytes route sources r z)
-          (run-words-for bytes route sources (fresh-reads bytes route sources r z) (sound-plan bytes route b (fresh-reads bytes route sources r z))
-          (fresh-sources bytes route sources r z));
-      mixed-runs = λ bytes route source s b z calls.
-          let gave = fresh-gave bytes route source s z in
-          rw (fresh-fresh bytes route source s z)
-          (run-mixed bytes route source gave.0 (sound-plan bytes route b gave.0) (areas-are (recipe bytes route) source s gave.1).source calls);
-      tenant-mixed-runs = λ bytes route sources r b z calls.
-          rw (fresh-is bytes route sources r z)
-          (run-mixed-for bytes route sources (fresh-reads bytes route sources r z) (sound-plan bytes route b (fresh-reads bytes route sources r z))
-          (fresh-sources bytes route sources r z) calls);
+          let gave = fresh_gave bytes route source s z in
+          rw (fresh_fresh bytes route source s z)
+          (run_words bytes route source gave.0 (sound_plan bytes route b gave.0) (areas_are (recipe bytes route) source s gave.1).source);
+      tenant_words = λ bytes route sources r b z.
+          rw (fresh_is bytes route sources r z)
+          (run_words_for bytes route sources (fresh_reads bytes route sources r z) (sound_plan bytes route b (fresh_reads bytes route sources r z))
+          (fresh_sources bytes route sources r z));
+      mixed_runs = λ bytes route source s b z calls.
+          let gave = fresh_gave bytes route source s z in
+          rw (fresh_fresh bytes route source s z)
+          (run_mixed bytes route source gave.0 (sound_plan bytes route b gave.0) (areas_are (recipe bytes route) source s gave.1).source calls);
+      tenant_mixed_runs = λ bytes route sources r b z calls.
+          rw (fresh_is bytes route sources r z)
+          (run_mixed_for bytes route sources (fresh_reads bytes route sources r z) (sound_plan bytes route b (fresh_reads bytes route sources r z))
+          (fresh_sources bytes route sources r z) calls);
       alone = λ bytes route sources sources' r r' b z z' o low same.
-          run_alone bytes route (fresh-reads bytes route sources r z) (sound-plan bytes route b (fresh-reads bytes route sources r z)) o low sources
-          sources' same (fresh-sources bytes route sources r z) (fresh-sources bytes route sources' r' z');
+          run_alone bytes route (fresh_reads bytes route sources r z) (sound_plan bytes route b (fresh_reads bytes route sources r z)) o low sources
+          sources' same (fresh_sources bytes route sources r z) (fresh_sources bytes route sources' r' z');
     }

@@ -4,20 +4,20 @@ use Rattle.core.specs.Prelude.{◌≡◌, ℕ, List, [], ◌∷◌, ◌++◌, re
 use Rattle.machine.specs.Machine.{Answered}
 use Rattle.calendar.specs.declared.Opening.{Opening}
 use Rattle.calendar.specs.declared.Opening.TheVariants.{OpensIn, Never}
-use Rattle.calendar.specs.Windows.{momentOf}
-use Rattle.nest.specs.Recipes.{rowD}
-use Rattle.calendar_calls.specs.Calls.{opensCall, openingWords}
+use Rattle.calendar.specs.Windows.{moment_of}
+use Rattle.nest.specs.Recipes.{row_d}
+use Rattle.calendar_calls.specs.Calls.{opens_call, opening_words}
 
 -- row D's two processors: the first opens from minute 20 to 30 and from 50 to 60, the second never
 abbrev pub calendar : List ℕ
 calendar = 20 ∷ 30 ∷ 50 ∷ 60 ∷ replicate 52 0
 
 -- the second processor's last window has no minute in it; the table one word short
-abbrev pub faultyTable : List ℕ
-faultyTable = 20 ∷ 30 ∷ 50 ∷ 60 ∷ replicate 50 0 ++ (7 ∷ 7 ∷ [])
+abbrev pub faulty_table : List ℕ
+faulty_table = 20 ∷ 30 ∷ 50 ∷ 60 ∷ replicate 50 0 ++ (7 ∷ 7 ∷ [])
 
-abbrev pub shortTable : List ℕ
-shortTable = 20 ∷ 30 ∷ 50 ∷ 60 ∷ replicate 51 0
+abbrev pub short_table : List ℕ
+short_table = 20 ∷ 30 ∷ 50 ∷ 60 ∷ replicate 51 0
 
 -- the call's number, and what it tells
 abbrev pub gave : ℕ → Opening → Answered Opening
@@ -25,7 +25,7 @@ gave n told = record { number = n; after = told }
 
 -- by a table, asked at a minute for processor b
 abbrev pub asked : List ℕ → ℕ → ℕ → Answered Opening
-asked calendar minute b = opensCall rowD (momentOf calendar minute) b
+asked calendar minute b = opens_call row_d (moment_of calendar minute) b
 
 pub record OpensExamples : Type 0 where
   -- open minute included, close minute excluded; from one window to the next, and over the week's end to the first
@@ -36,15 +36,15 @@ pub record OpensExamples : Type 0 where
   pub week : asked calendar 10079 0 ≡ gave 0 (OpensIn 21)
   pub never : asked calendar 0 1 ≡ gave 0 Never
   -- 25: a faulty window of any processor, a minute of no week; 11: no such processor; 25 before 11. No wait is told: 0, not never
-  pub window : asked faultyTable 0 0 ≡ gave 25 (OpensIn 0)
+  pub window : asked faulty_table 0 0 ≡ gave 25 (OpensIn 0)
   pub minute : asked calendar 10080 0 ≡ gave 25 (OpensIn 0)
   pub processor : asked calendar 0 2 ≡ gave 11 (OpensIn 0)
-  pub window-first : asked faultyTable 0 2 ≡ gave 25 (OpensIn 0)
-  pub minute-first : asked calendar 10080 2 ≡ gave 25 (OpensIn 0)
-  pub minute-never : asked calendar 10080 1 ≡ gave 25 (OpensIn 0)
+  pub window_first : asked faulty_table 0 2 ≡ gave 25 (OpensIn 0)
+  pub minute_first : asked calendar 10080 2 ≡ gave 25 (OpensIn 0)
+  pub minute_never : asked calendar 10080 1 ≡ gave 25 (OpensIn 0)
   -- 9: the table's length, before 25 and 11; the reader's number before 9
-  pub table-short : asked shortTable 0 0 ≡ gave 9 (OpensIn 0)
-  pub lengths-first : asked shortTable 10080 2 ≡ gave 9 (OpensIn 0)
-  pub reader-first : opensCall [] (momentOf shortTable 10080) 2 ≡ gave 1 (OpensIn 0)
+  pub table_short : asked short_table 0 0 ≡ gave 9 (OpensIn 0)
+  pub lengths_first : asked short_table 10080 2 ≡ gave 9 (OpensIn 0)
+  pub reader_first : opens_call [] (moment_of short_table 10080) 2 ≡ gave 1 (OpensIn 0)
   -- as two words: whether it opens at all, and in how many minutes
-  pub words : (openingWords (OpensIn 21) ≡ 1 ∷ 21 ∷ []) × (openingWords Never ≡ 0 ∷ 0 ∷ [])
+  pub words : (opening_words (OpensIn 21) ≡ 1 ∷ 21 ∷ []) × (opening_words Never ≡ 0 ∷ 0 ∷ [])

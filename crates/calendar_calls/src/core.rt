@@ -9,11 +9,11 @@ ghost use Rattle.layout.specs.Sizes.{Sized};
 ghost use Rattle.tables.specs.Tables.{Tabled};
 ghost use Rattle.records.specs.Records.{Flattens};
 ghost use Rattle.engine.specs.Calls.{answer};
-ghost use Rattle.engine.specs.Given.{recordsAfter};
-ghost use Rattle.tenants.specs.Tenants.{tenantAreas};
-ghost use Rattle.calendar.specs.Windows.{momentOf, faultyFor};
-ghost use Rattle.calendar_calls.specs.Calls.{turnCallAt, turnCallAtFor};
-ghost use Rattle.calendar_calls.specs.Given.{hourLines, awayLines, awayLinesFor};
+ghost use Rattle.engine.specs.Given.{records_after};
+ghost use Rattle.tenants.specs.Tenants.{tenant_areas};
+ghost use Rattle.calendar.specs.Windows.{moment_of, faulty_for};
+ghost use Rattle.calendar_calls.specs.Calls.{turn_call_at, turn_call_at_for};
+ghost use Rattle.calendar_calls.specs.Given.{hour_lines, away_lines, away_lines_for};
 
 use crate::windows::{faulty_table, open_at};
 use crate::{WEEK, WINDOW_WORDS};
@@ -30,7 +30,7 @@ use tables::TABLE_WORDS;
 // Line 25: a faulty window of any of n processors, or a faulty minute.
 pub fn faulty(calendar: &[u32], n: usize, minute: u32) -> bool
     requires { (n ≤ 64) × (length calendar.now ≡ 28 * n) }
-    ensures { result ≡ faultyFor n (momentOf calendar.now minute) }
+    ensures { result ≡ faulty_for n (moment_of calendar.now minute) }
 {
     if minute >= WEEK {
         return true;
@@ -41,7 +41,7 @@ pub fn faulty(calendar: &[u32], n: usize, minute: u32) -> bool
 // Lines 25, 11 and 24: faulty hours, no such processor, closed.
 fn refusal_of_minute(calendar: &[u32], n: usize, minute: u32, b: usize) -> u32
     requires { (n ≤ 64) × (length calendar.now ≡ 28 * n) }
-    ensures { result ≡ first_of (hourLines n (momentOf calendar.now minute) b) }
+    ensures { result ≡ first_of (hour_lines n (moment_of calendar.now minute) b) }
 {
     if faulty(calendar, n, minute) {
         return refusals::HOURS;
@@ -72,7 +72,7 @@ fn refusal_of_turn(
     requires sized { Sized nest sizes × Tabled nest sizes lens.now }
     requires words_len { length progress.words ≡ 192 }
     ensures { ((records : List ℕ) → Flattens progress records
-        → result ≡ first_of (awayLines (plan_of sizes.route nest) source.now (momentOf hours.now minute)
+        → result ≡ first_of (away_lines (plan_of sizes.route nest) source.now (moment_of hours.now minute)
         (state_of memories.now buffer.now records status.now) b))
         × (result ≡ 0 → progress.count ≡ 3 * processors nest) }
 {
@@ -104,8 +104,8 @@ pub fn turn(
 ) -> Turned
     requires { length progress.words ≡ 192 }
     ensures { (records : List ℕ) → Flattens progress records
-        → answer result.number (state_of memories.new buffer.new (recordsAfter records processor result) status.new)
-        ≡ turnCallAt encoded.now route source.now (momentOf hours.now minute)
+        → answer result.number (state_of memories.new buffer.new (records_after records processor result) status.new)
+        ≡ turn_call_at encoded.now route source.now (moment_of hours.now minute)
         (state_of memories.old buffer.old records status.old) processor }
 {
     let mut lens = [0u16; TABLE_WORDS];
@@ -158,8 +158,8 @@ fn refusal_of_tenant_turn(
     requires sized { Sized nest sizes × Tabled nest sizes lens.now }
     requires words_len { (length progress.words ≡ 192) × (length theirs.words ≡ 192) }
     ensures { ((records others : List ℕ) → Flattens progress records → Flattens theirs others
-        → result ≡ first_of (awayLinesFor (plan_of sizes.route nest) source.now tenant (momentOf hours.now minute)
-        (tenantAreas (state_of memories.now buffer.now records status.now) engaged.now) others b))
+        → result ≡ first_of (away_lines_for (plan_of sizes.route nest) source.now tenant (moment_of hours.now minute)
+        (tenant_areas (state_of memories.now buffer.now records status.now) engaged.now) others b))
         × (result ≡ 0 → (progress.count ≡ 3 * processors nest) × (theirs.count ≡ 3 * processors nest)) }
 {
     let n = sizes.processors;
@@ -203,10 +203,10 @@ pub fn turn_for(
     requires { (length progress.words ≡ 192) × (length theirs.words ≡ 192) }
     ensures { (records others : List ℕ) → Flattens progress records → Flattens theirs others
         → answer result.number
-        (tenantAreas (state_of memories.new buffer.new (recordsAfter records processor result) status.new)
+        (tenant_areas (state_of memories.new buffer.new (records_after records processor result) status.new)
         engaged.new)
-        ≡ turnCallAtFor encoded.now route source.now tenant (momentOf hours.now minute)
-        (tenantAreas (state_of memories.old buffer.old records status.old)
+        ≡ turn_call_at_for encoded.now route source.now tenant (moment_of hours.now minute)
+        (tenant_areas (state_of memories.old buffer.old records status.old)
         engaged.old) others processor }
 {
     let mut lens = [0u16; TABLE_WORDS];

@@ -2,11 +2,11 @@
 // for one of two, and the minutes until a processor next opens. `hours` is the table, 14 pairs of words a processor.
 ghost use Rattle.core.specs.Prelude.{◌≡◌};
 ghost use Rattle.machine.specs.Machine.{state_of};
-ghost use Rattle.tenants.specs.Tenants.{tenantAreas};
+ghost use Rattle.tenants.specs.Tenants.{tenant_areas};
 ghost use Rattle.calendar.specs.declared.Opening.TheVariants.{OpensIn};
-ghost use Rattle.calendar.specs.Windows.{momentOf};
+ghost use Rattle.calendar.specs.Windows.{moment_of};
 ghost use Rattle.engine.specs.Calls.{answer};
-ghost use Rattle.calendar_calls.specs.Calls.{turnCallAt, turnCallAtFor, opensCall};
+ghost use Rattle.calendar_calls.specs.Calls.{turn_call_at, turn_call_at_for, opens_call};
 
 pub mod core; // core.rt: the calls without the stores into the records
 pub mod windows; // windows.rt: code of the hours (W-212): faulty windows, open at a minute, minutes until a processor opens
@@ -39,7 +39,7 @@ pub fn turn(
     processor: u32,
 ) -> u32
     ensures { answer result (state_of memories.new buffer.new progress.new status.new)
-        ≡ turnCallAt encoded.now route source.now (momentOf hours.now minute)
+        ≡ turn_call_at encoded.now route source.now (moment_of hours.now minute)
         (state_of memories.old buffer.old progress.old status.old) processor }
 {
     let after = core::turn(
@@ -75,9 +75,9 @@ pub fn turn_for(
     processor: u32,
 ) -> u32
     ensures { answer result
-        (tenantAreas (state_of memories.new buffer.new progress.new status.new) engaged.new)
-        ≡ turnCallAtFor encoded.now route source.now tenant (momentOf hours.now minute)
-        (tenantAreas (state_of memories.old buffer.old progress.old status.old)
+        (tenant_areas (state_of memories.new buffer.new progress.new status.new) engaged.new)
+        ≡ turn_call_at_for encoded.now route source.now tenant (moment_of hours.now minute)
+        (tenant_areas (state_of memories.old buffer.old progress.old status.old)
         engaged.old) theirs.now processor }
 {
     let after = core::turn_for(
@@ -118,7 +118,7 @@ fn untold(number: u32) -> Asked
 
 // Minutes until a processor next opens, lent only the table.
 pub fn opens(encoded: &[u8], hours: &[u32], minute: u32, processor: u32) -> Asked
-    ensures { answer result.number result.opening ≡ opensCall encoded.now (momentOf hours.now minute) processor }
+    ensures { answer result.number result.opening ≡ opens_call encoded.now (moment_of hours.now minute) processor }
 {
     let reading = read(encoded);
     let number = reading.number;

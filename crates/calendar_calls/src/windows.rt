@@ -1,7 +1,7 @@
 // Code of the hours when processors may run (W-212): whether a table has a faulty window, whether a processor is open, and the minutes until
 // it next opens. Nothing here knows a recipe.
 ghost use Rattle.core.specs.Prelude.{◌≡◌, ℕ, ◌+◌, ◌*◌, ◌%◌, ◌<◌, ◌≤◌, false, length};
-ghost use Rattle.calendar.specs.Windows.{week, isFaulty, covers, faultyBoard, faultyTable, open_at, untilOpen};
+ghost use Rattle.calendar.specs.Windows.{week, is_faulty, covers, faulty_board, faulty_table, open_at, until_open};
 ghost use Rattle.calendar.specs.Waits.{Fair, First};
 
 use crate::{WEEK, WINDOW_WORDS};
@@ -9,7 +9,7 @@ use calendar::Opening;
 
 // A pair of words is a faulty window.
 fn faulty_pair(opens: u32, closes: u32) -> bool
-    ensures { result ≡ isFaulty opens closes }
+    ensures { result ≡ is_faulty opens closes }
 {
     if closes > WEEK {
         return true;
@@ -23,7 +23,7 @@ fn faulty_pair(opens: u32, closes: u32) -> bool
 // The processor has a faulty window.
 fn faulty_board(calendar: &[u32], b: usize) -> bool
     requires { (b < 64) × (28 * b + 28 ≤ length calendar.now) }
-    ensures { result ≡ faultyBoard calendar.now b }
+    ensures { result ≡ faulty_board calendar.now b }
 {
     for w in 0..14 {
         let at = WINDOW_WORDS * b + 2 * w;
@@ -37,7 +37,7 @@ fn faulty_board(calendar: &[u32], b: usize) -> bool
 // Some window of the first n processors is faulty.
 pub fn faulty_table(calendar: &[u32], n: usize) -> bool
     requires { (n ≤ 64) × (28 * n ≤ length calendar.now) }
-    ensures { result ≡ faultyTable n calendar.now }
+    ensures { result ≡ faulty_table n calendar.now }
 {
     for b in 0..n {
         if faulty_board(calendar, b) {
@@ -90,8 +90,8 @@ fn wait(opens: u32, closes: u32, minute: u32) -> u32
 
 // Each of the processor's 14 windows is viewed at once.
 pub fn minutes(calendar: &[u32], b: usize, minute: u32) -> Opening
-    requires { (b < 64) × ((28 * b + 28 ≤ length calendar.now) × ((minute < week) × (faultyBoard calendar.now b ≡ false))) }
-    ensures { result ≡ untilOpen calendar.now minute b }
+    requires { (b < 64) × ((28 * b + 28 ≤ length calendar.now) × ((minute < week) × (faulty_board calendar.now b ≡ false))) }
+    ensures { result ≡ until_open calendar.now minute b }
 {
     let mut soonest: u32 = WEEK;
     for w in 0..14 {

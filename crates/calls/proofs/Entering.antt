@@ -77,42 +77,42 @@ module _ {M : Type 1} {𝓤 : Ura M} (𝓛 : Logic 𝓤) where
       (mono_r 𝓤 (mean 𝓛 i) (push 𝓛 end (rooms 𝓤 E Γ)))))))
       (swap∗ 𝓛 room (mean 𝓛 i) (star (end ∷ rooms 𝓤 E Γ)))
 
-  lower-both : (i j : Item 𝓤) (E : List (Ty × ℕ)) (Γ : List (Item 𝓤)) → ent 𝓤 (star (i ∷ j ∷ rooms 𝓤 E Γ)) (star (rooms 𝓤 E (i ∷ j ∷ Γ)))
-  lower-both i j E Γ =
+  lower_both : (i j : Item 𝓤) (E : List (Ty × ℕ)) (Γ : List (Item 𝓤)) → ent 𝓤 (star (i ∷ j ∷ rooms 𝓤 E Γ)) (star (rooms 𝓤 E (i ∷ j ∷ Γ)))
+  lower_both i j E Γ =
       via 𝓤 (sep 𝓤 (mean 𝓛 i) (star (rooms 𝓤 E (j ∷ Γ)))) (mono_r 𝓤 (mean 𝓛 i) (lower j E Γ))
       (via 𝓤 (star (i ∷ rooms 𝓤 E (j ∷ Γ))) (push 𝓛 i (rooms 𝓤 E (j ∷ Γ))) (lower i E (j ∷ Γ)))
 
-  raise-both : (i j : Item 𝓤) (E : List (Ty × ℕ)) (Γ : List (Item 𝓤)) → ent 𝓤 (star (rooms 𝓤 E (i ∷ j ∷ Γ))) (star (i ∷ j ∷ rooms 𝓤 E Γ))
-  raise-both i j E Γ =
+  raise_both : (i j : Item 𝓤) (E : List (Ty × ℕ)) (Γ : List (Item 𝓤)) → ent 𝓤 (star (rooms 𝓤 E (i ∷ j ∷ Γ))) (star (i ∷ j ∷ rooms 𝓤 E Γ))
+  raise_both i j E Γ =
       via 𝓤 (star (i ∷ rooms 𝓤 E (j ∷ Γ))) (raise i E (j ∷ Γ))
       (via 𝓤 (sep 𝓤 (mean 𝓛 i) (star (rooms 𝓤 E (j ∷ Γ)))) (pop 𝓛 i (rooms 𝓤 E (j ∷ Γ))) (mono_r 𝓤 (mean 𝓛 i) (raise j E Γ)))
 
 module _ {M : Type 1} {𝓤 : Ura M} {𝓛 : Logic 𝓤} {K : Type 0} where
   open 𝓛 use {H}
 
-  allots-at : K → (ls : List Local) (Γ : List (Item 𝓤)) (Kt : Env 𝓤 H → Goal 𝓤 H)
+  allots_at : K → (ls : List Local) (Γ : List (Item 𝓤)) (Kt : Env 𝓤 H → Goal 𝓤 H)
       → ((b : Spots ls) → Seq K 𝓛 (rooms 𝓤 (placed ls b) Γ) (Kt (placed ls b))) → Seq K 𝓛 Γ (allocs ls Kt)
-  allots-at t [] Γ Kt k = alloc0 t $ k tt
-  allots-at t (local τ h ∷ ls) Γ Kt k =
-      alloc1 t (λ b. allots-at t ls (‵ (froom τ b zero) ∷ ‵ (fdies τ b) ∷ Γ) (λ E. Kt ((τ, b) ∷ E)) (λ bs.
+  allots_at t [] Γ Kt k = alloc0 t $ k tt
+  allots_at t (local τ h ∷ ls) Γ Kt k =
+      alloc1 t (λ b. allots_at t ls (‵ (froom τ b zero) ∷ ‵ (fdies τ b) ∷ Γ) (λ E. Kt ((τ, b) ∷ E)) (λ bs.
       by t (via 𝓤 (⋆ 𝓛 (‵ (froom τ b zero) ∷ ‵ (fdies τ b) ∷ rooms 𝓤 (placed ls bs) Γ))
-      (raise-both 𝓛 (‵ (froom τ b zero)) (‵ (fdies τ b)) (placed ls bs) Γ) (k (b, bs)).prf)))
+      (raise_both 𝓛 (‵ (froom τ b zero)) (‵ (fdies τ b)) (placed ls bs) Γ) (k (b, bs)).prf)))
 
   pub allots : K → (ls : List Local) {Γ : List (Item 𝓤)} {Kt : Env 𝓤 H → Goal 𝓤 H}
       → Curried ls (λ b. Seq K 𝓛 (rooms 𝓤 (placed ls b) Γ) (Kt (placed ls b))) → Seq K 𝓛 Γ (allocs ls Kt)
-  allots t ls {Γ} {Kt} k = allots-at t ls Γ Kt (uncurried ls (λ b. Seq K 𝓛 (rooms 𝓤 (placed ls b) Γ) (Kt (placed ls b))) k)
+  allots t ls {Γ} {Kt} k = allots_at t ls Γ Kt (uncurried ls (λ b. Seq K 𝓛 (rooms 𝓤 (placed ls b) Γ) (Kt (placed ls b))) k)
 
   lowers : K → (i j : Item 𝓤) (E : List (Ty × ℕ)) (Γ : List (Item 𝓤)) {G : Goal 𝓤 H} → Step K 𝓛 (rooms 𝓤 E (i ∷ j ∷ Γ)) G (i ∷ j ∷ rooms 𝓤 E Γ) G
-  lowers t i j E Γ = step (λ s. by t (via 𝓤 (⋆ 𝓛 (rooms 𝓤 E (i ∷ j ∷ Γ))) (lower-both 𝓛 i j E Γ) s.prf))
+  lowers t i j E Γ = step (λ s. by t (via 𝓤 (⋆ 𝓛 (rooms 𝓤 E (i ∷ j ∷ Γ))) (lower_both 𝓛 i j E Γ) s.prf))
 
-  passes-in : K → (P : List ((Ty × ℕ) × Val)) → AllFit P → (E : Env 𝓤 H) (Γ : List (Item 𝓤)) (g : Goal 𝓤 H)
+  passes_in : K → (P : List ((Ty × ℕ) × Val)) → AllFit P → (E : Env 𝓤 H) (Γ : List (Item 𝓤)) (g : Goal 𝓤 H)
       → Step K 𝓛 (stored 𝓤 P Γ) g (rooms 𝓤 (spots P) Γ) (passes (spots P ++ E) (valued P) g)
-  passes-in t [] fit E Γ g = pass0 t
-  passes-in t (p ∷ P) fit E Γ g = step (λ s.
+  passes_in t [] fit E Γ g = pass0 t
+  passes_in t (p ∷ P) fit E Γ g = step (λ s.
       pass1 t (init t 0 refl fit.0) $
       lowers t (‵ (fat full_share p.0.0 p.0.1 zero p.1)) (‵ (fdies p.0.0 p.0.1)) (spots P) Γ $
-      passes-in t P fit.1 E (‵ (fat full_share p.0.0 p.0.1 zero p.1) ∷ ‵ (fdies p.0.0 p.0.1) ∷ Γ) g $ s)
+      passes_in t P fit.1 E (‵ (fat full_share p.0.0 p.0.1 zero p.1) ∷ ‵ (fdies p.0.0 p.0.1) ∷ Γ) g $ s)
 
   pub takes_all : (P : List ((Ty × ℕ) × Val)) → K → AllFit P → (E : Env 𝓤 H) (Γ : List (Item 𝓤)) {e : Ty × ℕ} {i j : Item 𝓤} {g : Goal 𝓤 H}
       → Step K 𝓛 (stored 𝓤 P (i ∷ j ∷ Γ)) g (i ∷ j ∷ rooms 𝓤 (spots P) Γ) (params' (e ∷ spots P ++ E) (valued P) g)
-  takes_all P t fit E Γ {e} {i} {j} {g} = step (λ s. params1 t $ lowers t i j (spots P) Γ $ passes-in t P fit E (i ∷ j ∷ Γ) g $ s)
+  takes_all P t fit E Γ {e} {i} {j} {g} = step (λ s. params1 t $ lowers t i j (spots P) Γ $ passes_in t P fit E (i ∷ j ∷ Γ) g $ s)

@@ -19,7 +19,7 @@ module _ {M : Type 1} {𝓤 : Ura M} {𝓛 : Logic 𝓤} {K : Type 0} {Γ : List
     {C : Calls 𝓤 𝓛.H} {Λ : Loops 𝓤 𝓛.H} {E : Env 𝓤 𝓛.H} {rest : Body} {q : Post 𝓤 𝓛.H} {i j k : ℕ} where
   open 𝓛 use {H}
 
-  pub lends-on : K → (p a c : ℕ) {τ ρ σ : Ty} {d e b o : ℕ} {s s' : Share} {u : Val} {back back' : Val → Item 𝓤}
+  pub lends_on : K → (p a c : ℕ) {τ ρ σ : Ty} {d e b o : ℕ} {s s' : Share} {u : Val} {back back' : Val → Item 𝓤}
       → field_of (spot_of 𝓤 H E i).0 0 ≡ known (ρ, d)
       → field_of (spot_of 𝓤 H E i).0 1 ≡ known (σ, e)
       → nth 𝓛 a Γ ≡ ‵ (froom (spot_of 𝓤 H E j).0 (spot_of 𝓤 H E j).1 zero)
@@ -37,7 +37,7 @@ module _ {M : Type 1} {𝓤 : Ura M} {𝓛 : Logic 𝓤} {K : Type 0} {Γ : List
       (runs C Λ E rest q) Γ
       (runs C Λ E (seq (assign (place j []) (addr_of (place i (field 0 ∷ deref τ ∷ []))))
       (seq (assign (place k []) (aggregate (copy (place j []) ∷ copy (place i (field 1 ∷ [])) ∷ []))) rest)) q)
-  lends-on t p a c first second room-pointer at_pointer room-slice pointer count pointer-fits slice_fits = step (λ s.
+  lends_on t p a c first second room-pointer at_pointer room-slice pointer count pointer-fits slice_fits = step (λ s.
       assigns t (addr t (from t (fld t first (hop t (look_in t p pointer) (stop t))))) (from t (stop t)) (init t a room-pointer pointer-fits) $
       assigns t (agg t (and_then t (load t (from t (stop t)) (look t a at_pointer))
       (and_then t (load t (from t (fld t second (stop t))) (look_in t p count)) (no_more t)))) (from t (stop t)) (init t c room-slice slice_fits) $ s)

@@ -36,7 +36,7 @@ use Rattle.records.specs.declared.Flat.{Flat}
 use Rattle.records.specs.contracts.Flat as S
 use Rattle.records.proofs.Flat.TheLaws as S'
 use Rattle.records.proofs.Locals.{rooms}
-use Rattle.calls.proofs.Walking.{F, low, sepAll, spill, splits}
+use Rattle.calls.proofs.Walking.{F, low, sep_all, spill, splits}
 use Rattle.calls.proofs.Orders.{spots}
 use Rattle.calls.proofs.Entering.{AllFit, valued, stored, takes_all}
 
@@ -209,24 +209,24 @@ module _ {M : Type 1} {𝓤 : Ura M} (𝓛 : Logic 𝓤) {n : ℕ} where
 module _ {M : Type 1} {𝓤 : Ura M} {𝓛 : Logic 𝓤} {K : Type 0} {n : ℕ} (ps : List (Param n)) (κs : Lfts n) (a : Lent κs ps) where
   open 𝓛 use {H}
 
-  pub takes-in : (ls : List ℕ) → K → Fitting ps κs a → (E : Env 𝓤 H) (Γ : List (Item 𝓤)) {e : Ty × ℕ} {i j : Item 𝓤} {g : Goal 𝓤 H}
+  pub takes_in : (ls : List ℕ) → K → Fitting ps κs a → (E : Env 𝓤 H) (Γ : List (Item 𝓤)) {e : Ty × ℕ} {i j : Item 𝓤} {g : Goal 𝓤 H}
       → Step K 𝓛 (stored 𝓤 (taken ps κs a ls) (i ∷ j ∷ Γ)) g (i ∷ j ∷ rooms 𝓤 (spots (taken ps κs a ls)) Γ)
       (params' (e ∷ spots (taken ps κs a ls) ++ E) (valued (taken ps κs a ls)) g)
-  takes-in ls t h E Γ = takes_all (taken ps κs a ls) t (all_fit ps κs a ls h) E Γ
+  takes_in ls t h E Γ = takes_all (taken ps κs a ls) t (all_fit ps κs a ls h) E Γ
 
 -- the call over words has come back with w: it made r, of the type T, and says of it and of the last values what `Said` has
 module _ {M : Type 1} {𝓤 : Ura M} {𝓛 : Logic 𝓤} {K : Type 0} {Γ : List (Item 𝓤)}
     {C : Calls 𝓤 𝓛.H} {Λ : Loops 𝓤 𝓛.H} {E : Env 𝓤 𝓛.H} {d : Place} {rest : Body} {p : Post 𝓤 𝓛.H} {n : ℕ} (ps : List (Param n)) (κs : Lfts n) (a : Lent κs ps) where
   pub comes_back : K → (T : RattleType) (lives : List (Item 𝓤)) (w : Val) (back : SProp 𝓤) (ens : T.Denot → SProp 𝓤)
       (Said : T.Denot → After κs ps a → Type 0)
-      → ent 𝓤 back (mean 𝓛 (later (some (λ (r : T.Denot). (sepAll 𝓤 lives ⊛ ‵ (T.own r (w ∷ []))) ⊛ raw (ens r)))))
+      → ent 𝓤 back (mean 𝓛 (later (some (λ (r : T.Denot). (sep_all 𝓤 lives ⊛ ‵ (T.own r (w ∷ []))) ⊛ raw (ens r)))))
       → ((r : T.Denot) → ent 𝓤 (ens r)
-      (mean 𝓛 (some (λ (us : After κs ps a). sepAll 𝓤 (lasting 𝓤 ps κs a us) ⊛ raw (fact 𝓤 (Said r us))))))
+      (mean 𝓛 (some (λ (us : After κs ps a). sep_all 𝓤 (lasting 𝓤 ps κs a us) ⊛ raw (fact 𝓤 (Said r us))))))
       → ((r : T.Denot) (us : After κs ps a) → Said r us
-      → Seq K 𝓛 (spill 𝓤 (lasting 𝓤 ps κs a us) ((sepAll 𝓤 lives ⊛ ‵ (T.own r (w ∷ []))) ∷ Γ)) (lands C Λ E d w rest p))
+      → Seq K 𝓛 (spill 𝓤 (lasting 𝓤 ps κs a us) ((sep_all 𝓤 lives ⊛ ‵ (T.own r (w ∷ []))) ∷ Γ)) (lands C Λ E d w rest p))
       → Seq K 𝓛 (raw back ∷ Γ) (lands C Λ E d w rest p)
   comes_back t T lives w back ens Said made said k =
-      use1 𝓛 (later (some (λ (r : T.Denot). (sepAll 𝓤 lives ⊛ ‵ (T.own r (w ∷ []))) ⊛ raw (ens r)))) made $
+      use1 𝓛 (later (some (λ (r : T.Denot). (sep_all 𝓤 lives ⊛ ‵ (T.own r (w ∷ []))) ⊛ raw (ens r)))) made $
       await t tt $ pick t (λ r. split t $ move t (1 ∷ []) $
-      use1 𝓛 (some (λ (us : After κs ps a). sepAll 𝓤 (lasting 𝓤 ps κs a us) ⊛ raw (fact 𝓤 (Said r us)))) (said r) $
+      use1 𝓛 (some (λ (us : After κs ps a). sep_all 𝓤 (lasting 𝓤 ps κs a us) ⊛ raw (fact 𝓤 (Said r us)))) (said r) $
       pick t (λ us. split t $ move t (1 ∷ []) $ heard t (Said r us) (λ x. splits t (lasting 𝓤 ps κs a us) $ k r us x)))

@@ -33,7 +33,7 @@ use Rattle.records.specs.contracts.Flat as S
 use Rattle.records.proofs.Flat.TheLaws as S'
 use Rattle.records.specs.contracts.put_all as stores
 use Rattle.records.proofs.put_all.Symbol.{name as #records·put-all}
-use Rattle.calls.proofs.Walking.{R, F, low, slice, fsepAll, given-up}
+use Rattle.calls.proofs.Walking.{R, F, low, slice, fsep_all, given_up}
 
 module _ {M : Type 1} {𝓤 : Ura M} (𝓛 : Logic 𝓤) (mem : Memory → SProp 𝓤) (run : Routine → Fun 𝓤) where
   abbrev pub PutAll : Contract 𝓤
@@ -43,13 +43,13 @@ module _ {M : Type 1} {𝓤 : Ura M} (𝓛 : Logic 𝓤) (mem : Memory → SProp
     abbrev pub to-store : ℕ → Flat → PutAll.Ghost
     to-store n f = (((κ, tt), (q, tt), tt, (x, (n, (f, tt))), (slice x ∷ [], (vint w32 n ∷ [], (low f ∷ [], tt)))), tt)
 
-    goes-store : (ℓ : Lifetime) (n : ℕ) (f : Flat)
+    goes_store : (ℓ : Lifetime) (n : ℕ) (f : Flat)
         → ent 𝓤 (⋆ 𝓛 ((‵ (flft κ q) ⊛ ‵ ftrue)
-        ∷ ‵ (fsepAll ((MutSlice ℓ κ R).own_val x (slice x ∷ []) ∷ u32.own_val n (vint w32 n ∷ []) ∷ F.own f (low f ∷ []) ∷ [])) ∷ []))
+        ∷ ‵ (fsep_all ((MutSlice ℓ κ R).own_val x (slice x ∷ []) ∷ u32.own_val n (vint w32 n ∷ []) ∷ F.own f (low f ∷ []) ∷ [])) ∷ []))
         (PutAll.pre (to-store n f))
-    goes-store ℓ n f =
+    goes_store ℓ n f =
         qed 𝓛 ((‵ (flft κ q) ⊛ ‵ ftrue)
-        ∷ ‵ (fsepAll ((MutSlice ℓ κ R).own_val x (slice x ∷ []) ∷ u32.own_val n (vint w32 n ∷ []) ∷ F.own f (low f ∷ []) ∷ [])) ∷ []) ∵
+        ∷ ‵ (fsep_all ((MutSlice ℓ κ R).own_val x (slice x ∷ []) ∷ u32.own_val n (vint w32 n ∷ []) ∷ F.own f (low f ∷ []) ∷ [])) ∷ []) ∵
         join ! $ frame ! $ done !
 
 module _ {M : Type 1} {𝓤 : Ura M} {𝓛 : Logic 𝓤} {K : Type 0} (mem : Memory → SProp 𝓤) (run : Routine → Fun 𝓤)
@@ -71,7 +71,7 @@ module _ {M : Type 1} {𝓤 : Ura M} {𝓛 : Logic 𝓤} {K : Type 0} (mem : Mem
       owned t u32 (Is u32) (uint_Makes 𝓛 w32) n _ (refl, n-fits) $ fjoin t $
       move t (2 ∷ 0 ∷ []) $ fjoin t $ nothing t $ move t (2 ∷ 0 ∷ []) $ join t $
       use2 𝓛 (raw ((PutAll 𝓛 mem run).pre (to-store 𝓛 mem run κ q x n f)))
-      (goes-store 𝓛 mem run κ q x ℓ n f) $
+      (goes_store 𝓛 mem run κ q x ℓ n f) $
       calls_at t fm (PutAll 𝓛 mem run) known (to-store 𝓛 mem run κ q x n f) os (λ w.
       use1 𝓛 (later (some (λ (u : Unit {0}). ((‵ (flft κ q) ⊛ ‵ ftrue) ⊛ ‵ (Nothing.own u (w ∷ [])))
       ⊛ raw (ensured 𝓛 stores.ended (stores.clauses 𝓛 mem run) (κ, tt) (x, (n, (f, tt))) tt u)))) (id⊢ 𝓤 _) $
@@ -79,4 +79,4 @@ module _ {M : Type 1} {𝓤 : Ura M} {𝓛 : Logic 𝓤} {K : Type 0} (mem : Mem
       use1 𝓛 (some (λ (us : List Progress × (Unit {0} × (Unit {0} × Unit {0}))).
       ‵ (lasts stores.ended (κ, tt) (x, (n, (f, tt))) us) ⊛ raw (fact 𝓤 (us.0 ≡ put_all n f x.now)))) (id⊢ 𝓤 _) $
       pick t (λ us. split t $ move t (1 ∷ []) $ heard t (us.0 ≡ put_all n f x.now) (λ put.
-      given-up mem run κ q x t w _ us.0 (λ long. k us.0 long put)))))
+      given_up mem run κ q x t w _ us.0 (λ long. k us.0 long put)))))

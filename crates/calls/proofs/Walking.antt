@@ -37,7 +37,7 @@ use denote.Triple.Statement.{Contract, Triple}
 use denote.Triple.Call.{calls_at}
 use denote.Triple.Clauses.{ensured, lasts}
 use denote.Triple.Walked.{says}
-use Rattle.records.specs.Records.{flatWords, Flattens, put_at, clearAll}
+use Rattle.records.specs.Records.{flat_words, Flattens, put_at, clear_all}
 use Rattle.records.specs.declared.Progress.{Progress}
 use Rattle.records.specs.declared.Flat.{Flat}
 use Rattle.records.specs.contracts.Progress as T
@@ -75,8 +75,8 @@ low f = only (LL.vals S.the_type S'.the_laws f)
 abbrev pub high : Turned → Val
 high r = only (LL.vals U.the_type U'.the_laws r)
 
-pub progress-is : (r : Turned) → Is E r (high r ∷ []) → Is R r.progress (one r.progress ∷ [])
-progress-is r is = (LL.owed U.the_type U'.the_laws r _ is).1.0
+pub progress_is : (r : Turned) → Is E r (high r ∷ []) → Is R r.progress (one r.progress ∷ [])
+progress_is r is = (LL.owed U.the_type U'.the_laws r _ is).1.0
 
 pub number_fits : (r : Turned) → Is E r (high r ∷ []) → r.number < 2 ^ 32
 number_fits r is = (LL.owed U.the_type U'.the_laws r _ is).0.1
@@ -112,13 +112,13 @@ abbrev pub rising : ℕ → ℕ → List ℕ
 rising a zero = []
 rising a (suc n) = a ∷ rising (suc a) n
 
-abbrev pub sepAll : {M : Type 1} (𝓤 : Ura M) → List (Item 𝓤) → Item 𝓤
-sepAll 𝓤 [] = ‵ ftrue
-sepAll 𝓤 (i ∷ is) = i ⊛ sepAll 𝓤 is
+abbrev pub sep_all : {M : Type 1} (𝓤 : Ura M) → List (Item 𝓤) → Item 𝓤
+sep_all 𝓤 [] = ‵ ftrue
+sep_all 𝓤 (i ∷ is) = i ⊛ sep_all 𝓤 is
 
-abbrev pub fsepAll : List Fml → Fml
-fsepAll [] = ftrue
-fsepAll (P ∷ Ps) = fsep P (fsepAll Ps)
+abbrev pub fsep_all : List Fml → Fml
+fsep_all [] = ftrue
+fsep_all (P ∷ Ps) = fsep P (fsep_all Ps)
 
 -- what lies in the context behind the list's last entry
 abbrev pub spill : {M : Type 1} (𝓤 : Ura M) → List (Item 𝓤) → List (Item 𝓤) → List (Item 𝓤)
@@ -130,19 +130,19 @@ fspill 𝓤 [] Γ = Γ
 fspill 𝓤 (P ∷ Ps) Γ = fspill 𝓤 Ps (‵ P ∷ Γ)
 
 module _ {M : Type 1} {𝓤 : Ura M} {𝓛 : Logic 𝓤} {K : Type 0} {G : Goal 𝓤 𝓛.H} where
-  pub splits : K → (is : List (Item 𝓤)) {Γ : List (Item 𝓤)} → Step K 𝓛 (spill 𝓤 is Γ) G (sepAll 𝓤 is ∷ Γ) G
+  pub splits : K → (is : List (Item 𝓤)) {Γ : List (Item 𝓤)} → Step K 𝓛 (spill 𝓤 is Γ) G (sep_all 𝓤 is ∷ Γ) G
   splits t [] = drop t
   splits t (i ∷ is) = step (λ s. split t $ move t (1 ∷ []) $ splits t is $ s)
 
-  pub joins : K → (is : List (Item 𝓤)) {Γ : List (Item 𝓤)} → Step K 𝓛 (sepAll 𝓤 is ∷ Γ) G (spill 𝓤 is Γ) G
+  pub joins : K → (is : List (Item 𝓤)) {Γ : List (Item 𝓤)} → Step K 𝓛 (sep_all 𝓤 is ∷ Γ) G (spill 𝓤 is Γ) G
   joins t [] = nothing t
   joins t (i ∷ is) = step (λ s. joins t is $ move t (1 ∷ 0 ∷ []) $ join t $ s)
 
-  pub fsplits : K → (Ps : List Fml) {Γ : List (Item 𝓤)} → Step K 𝓛 (fspill 𝓤 Ps Γ) G (‵ (fsepAll Ps) ∷ Γ) G
+  pub fsplits : K → (Ps : List Fml) {Γ : List (Item 𝓤)} → Step K 𝓛 (fspill 𝓤 Ps Γ) G (‵ (fsep_all Ps) ∷ Γ) G
   fsplits t [] = drop t
   fsplits t (P ∷ Ps) = step (λ s. fsplit t $ move t (1 ∷ []) $ fsplits t Ps $ s)
 
-  pub fjoins : K → (Ps : List Fml) {Γ : List (Item 𝓤)} → Step K 𝓛 (‵ (fsepAll Ps) ∷ Γ) G (fspill 𝓤 Ps Γ) G
+  pub fjoins : K → (Ps : List Fml) {Γ : List (Item 𝓤)} → Step K 𝓛 (‵ (fsep_all Ps) ∷ Γ) G (fspill 𝓤 Ps Γ) G
   fjoins t [] = nothing t
   fjoins t (P ∷ Ps) = step (λ s. fjoins t Ps $ move t (1 ∷ 0 ∷ []) $ fjoin t $ s)
 
@@ -179,34 +179,34 @@ module _ {M : Type 1} {𝓤 : Ura M} (𝓛 : Logic 𝓤) (mem : Memory → SProp
     abbrev pub to_clear : ℕ → Clear.Ghost
     to_clear n = (((κ, tt), (q, tt), tt, (x, (n, tt)), (slice x ∷ [], (vint w32 n ∷ [], tt))), tt)
 
-    flatten-of : (f : Flat)
-        → ent 𝓤 (ensured 𝓛 flatten.ended (flatten.clauses 𝓛 mem run) (κ, tt) (x, tt) tt f) (fact 𝓤 (Flattens f (flatWords x.now)))
-    flatten-of f = ex_e 𝓤 _ (λ ws. snd∗ 𝓤 (sem 𝓛 (lasts flatten.ended (κ, tt) (x, tt) ws)) (fact 𝓤 (Flattens f (flatWords x.now))))
+    flatten_of : (f : Flat)
+        → ent 𝓤 (ensured 𝓛 flatten.ended (flatten.clauses 𝓛 mem run) (κ, tt) (x, tt) tt f) (fact 𝓤 (Flattens f (flat_words x.now)))
+    flatten_of f = ex_e 𝓤 _ (λ ws. snd∗ 𝓤 (sem 𝓛 (lasts flatten.ended (κ, tt) (x, tt) ws)) (fact 𝓤 (Flattens f (flat_words x.now))))
 
-    goes-flatten : (ℓ : Lifetime)
+    goes_flatten : (ℓ : Lifetime)
         → ent 𝓤 (sep 𝓤 (A.lft κ q) (sem 𝓛 ((ShrSlice ℓ κ R).own_val x (slice x ∷ [])))) (Flatten.pre to-flatten)
-    goes-flatten ℓ =
+    goes_flatten ℓ =
         qed 𝓛 (‵ (flft κ q) ∷ ‵ ((ShrSlice ℓ κ R).own_val x (slice x ∷ [])) ∷ []) ∵
         nothing ! $ move ! (1 ∷ 0 ∷ []) $ join ! $ nothing ! $ move ! (2 ∷ 0 ∷ []) $ fjoin ! $
         move ! (1 ∷ 0 ∷ []) $ join ! $ frame ! $ done !
 
-    goes-put : (ℓ : Lifetime) (n i : ℕ) (p : Progress) → (n ≡ 0 → i < length x.now)
+    goes_put : (ℓ : Lifetime) (n i : ℕ) (p : Progress) → (n ≡ 0 → i < length x.now)
         → ent 𝓤 (⋆ 𝓛 ((‵ (flft κ q) ⊛ ‵ ftrue)
-        ∷ ‵ (fsepAll ((MutSlice ℓ κ R).own_val x (slice x ∷ []) ∷ u32.own_val n (vint w32 n ∷ []) ∷ u32.own_val i (vint w32 i ∷ [])
+        ∷ ‵ (fsep_all ((MutSlice ℓ κ R).own_val x (slice x ∷ []) ∷ u32.own_val n (vint w32 n ∷ []) ∷ u32.own_val i (vint w32 i ∷ [])
         ∷ R.own p (one p ∷ []) ∷ [])) ∷ []))
         (Put.pre (to-put n i p))
-    goes-put ℓ n i p c =
+    goes_put ℓ n i p c =
         qed 𝓛 ((‵ (flft κ q) ⊛ ‵ ftrue)
-        ∷ ‵ (fsepAll ((MutSlice ℓ κ R).own_val x (slice x ∷ []) ∷ u32.own_val n (vint w32 n ∷ []) ∷ u32.own_val i (vint w32 i ∷ [])
+        ∷ ‵ (fsep_all ((MutSlice ℓ κ R).own_val x (slice x ∷ []) ∷ u32.own_val n (vint w32 n ∷ []) ∷ u32.own_val i (vint w32 i ∷ [])
         ∷ R.own p (one p ∷ []) ∷ [])) ∷ []) ∵
         says ! c $ done !
 
-    goes-clear : (ℓ : Lifetime) (n : ℕ)
-        → ent 𝓤 (⋆ 𝓛 ((‵ (flft κ q) ⊛ ‵ ftrue) ∷ ‵ (fsepAll ((MutSlice ℓ κ R).own_val x (slice x ∷ []) ∷ u32.own_val n (vint w32 n ∷ []) ∷ []))
+    goes_clear : (ℓ : Lifetime) (n : ℕ)
+        → ent 𝓤 (⋆ 𝓛 ((‵ (flft κ q) ⊛ ‵ ftrue) ∷ ‵ (fsep_all ((MutSlice ℓ κ R).own_val x (slice x ∷ []) ∷ u32.own_val n (vint w32 n ∷ []) ∷ []))
         ∷ []))
         (Clear.pre (to_clear n))
-    goes-clear ℓ n =
-        qed 𝓛 ((‵ (flft κ q) ⊛ ‵ ftrue) ∷ ‵ (fsepAll ((MutSlice ℓ κ R).own_val x (slice x ∷ []) ∷ u32.own_val n (vint w32 n ∷ []) ∷ [])) ∷ []) ∵
+    goes_clear ℓ n =
+        qed 𝓛 ((‵ (flft κ q) ⊛ ‵ ftrue) ∷ ‵ (fsep_all ((MutSlice ℓ κ R).own_val x (slice x ∷ []) ∷ u32.own_val n (vint w32 n ∷ []) ∷ [])) ∷ []) ∵
         join ! $ frame ! $ done !
 
 module _ {M : Type 1} {𝓤 : Ura M} {𝓛 : Logic 𝓤} {K : Type 0} (mem : Memory → SProp 𝓤) (run : Routine → Fun 𝓤)
@@ -216,16 +216,16 @@ module _ {M : Type 1} {𝓤 : Ura M} {𝓛 : Logic 𝓤} {K : Type 0} (mem : Mem
 
   pub flattens : K → FmC 𝓤 H 𝓛.laws C → Triple 𝓤 (C #records·flatten) (Flatten 𝓛 mem run) → (ℓ : Lifetime)
       → Opds K 𝓛 (raw ((Flatten 𝓛 mem run).pre (to-flatten 𝓛 mem run κ q x)) ∷ Γ) En xs (slice x ∷ [])
-      → ((f : Flat) → Is F f (low f ∷ []) → Flattens f (flatWords x.now) → Seq K 𝓛 (‵ (flft κ q) ∷ Γ) (lands C Λ En d (low f) rest p))
+      → ((f : Flat) → Is F f (low f ∷ []) → Flattens f (flat_words x.now) → Seq K 𝓛 (‵ (flft κ q) ∷ Γ) (lands C Λ En d (low f) rest p))
       → Seq K 𝓛 (‵ (flft κ q) ∷ ‵ ((ShrSlice ℓ κ R).own_val x (slice x ∷ [])) ∷ Γ) (runs C Λ En (seq (call #records·flatten xs d) rest) p)
   flattens t fm known ℓ os k =
-      use2 𝓛 (raw ((Flatten 𝓛 mem run).pre (to-flatten 𝓛 mem run κ q x))) (goes-flatten 𝓛 mem run κ q x ℓ) $
+      use2 𝓛 (raw ((Flatten 𝓛 mem run).pre (to-flatten 𝓛 mem run κ q x))) (goes_flatten 𝓛 mem run κ q x ℓ) $
       calls_at t fm (Flatten 𝓛 mem run) known (to-flatten 𝓛 mem run κ q x) os (λ w.
       use1 𝓛 (later (some (λ (f : Flat). ((‵ (flft κ q) ⊛ ‵ ftrue) ⊛ ‵ (F.own f (w ∷ [])))
       ⊛ raw (ensured 𝓛 flatten.ended (flatten.clauses 𝓛 mem run) (κ, tt) (x, tt) tt f)))) (id⊢ 𝓤 _) $
       await t tt $ pick t (λ f. split t $ move t (1 ∷ []) $
-      use1 𝓛 (raw (fact 𝓤 (Flattens f (flatWords x.now)))) (flatten-of 𝓛 mem run κ q x f) $
-      heard t (Flattens f (flatWords x.now)) (λ e. split t $ move t (1 ∷ []) $
+      use1 𝓛 (raw (fact 𝓤 (Flattens f (flat_words x.now)))) (flatten_of 𝓛 mem run κ q x f) $
+      heard t (Flattens f (flat_words x.now)) (λ e. split t $ move t (1 ∷ []) $
       peeks t F (Is F) (shows 𝓛 F) f (w ∷ []) (λ is. drop t $ split t $ move t (1 ∷ []) $ drop t $
       regoal t (λ (v : Val). lands C Λ En d v rest p) (ap only (LL.tells S.the_type S'.the_laws f (w ∷ []) is)) refl $
       k f (subst (λ (vs : List Val). Is F f vs) (LL.tells S.the_type S'.the_laws f (w ∷ []) is) is) e))))
@@ -236,17 +236,17 @@ module _ {M : Type 1} {𝓤 : Ura M} {𝓛 : Logic 𝓤} {K : Type 0} (mem : Mem
   -- lent as `&` under a name of the call's own
   open 𝓛 use {H}
 
-  pub flattens-lent : {xs : List Operand} → K → FmC 𝓤 H 𝓛.laws C → Triple 𝓤 (C #records·flatten) (Flatten 𝓛 mem run)
+  pub flattens_lent : {xs : List Operand} → K → FmC 𝓤 H 𝓛.laws C → Triple 𝓤 (C #records·flatten) (Flatten 𝓛 mem run)
       → (ℓ : Lifetime) → Room R (length x.now)
       → ((ν : ℕ) (δ : GName)
       → Opds K 𝓛 (raw ((Flatten 𝓛 mem run).pre (to-flatten 𝓛 mem run (ν ∷ []) full_share (renamed δ x)))
       ∷ ‵ (LentShared R κ (ν ∷ []) q x.ghost_name x.ref_ptr.0 x.ref_ptr.1 x.now) ∷ Γ)
       En xs (slice x ∷ []))
-      → ((f : Flat) → Is F f (low f ∷ []) → Flattens f (flatWords x.now)
+      → ((f : Flat) → Is F f (low f ∷ []) → Flattens f (flat_words x.now)
       → Seq K 𝓛 (‵ ((MutSlice ℓ κ R).own_val x (slice x ∷ [])) ∷ ‵ (flft κ q) ∷ Γ) (lands C Λ En d (low f) rest p))
       → Seq K 𝓛 (‵ ((MutSlice ℓ κ R).own_val x (slice x ∷ [])) ∷ ‵ (flft κ q) ∷ Γ)
       (runs C Λ En (seq (call #records·flatten xs d) rest) p)
-  flattens-lent t fm known ℓ room os k =
+  flattens_lent t fm known ℓ room os k =
       lft_new t tt (λ ν. move t (1 ∷ 2 ∷ []) $
       use2 𝓛 (later (some (λ (δ : GName). ‵ ((ShrSlice (named 0) (ν ∷ []) R).own_val (renamed δ x) (slice x ∷ []))
       ⊛ ‵ (LentShared R κ (ν ∷ []) q x.ghost_name x.ref_ptr.0 x.ref_ptr.1 x.now))))
@@ -259,16 +259,16 @@ module _ {M : Type 1} {𝓤 : Ura M} {𝓛 : Logic 𝓤} {K : Type 0} (mem : Mem
       await t tt $ split t $ k f is e)))
 
   -- what a call to which the slice was given up leaves
-  pub given-up : K → (w : Val) (more : Fml) (ws : List Progress)
+  pub given_up : K → (w : Val) (more : Fml) (ws : List Progress)
       → (length ws ≡ length x.now → Seq K 𝓛 (‵ (flft κ q) ∷ ‵ (finally R x.ghost_name ws) ∷ Γ) (lands C Λ En d vunit rest p))
       → Seq K 𝓛 (‵ (fsep (fsep (finally R x.ghost_name ws) (feq ℕ (length ws) (length x.now))) more)
       ∷ ((‵ (flft κ q) ⊛ ‵ ftrue) ⊛ ‵ (Nothing.own tt (w ∷ []))) ∷ Γ) (lands C Λ En d w rest p)
-  given-up t w more ws k =
+  given_up t w more ws k =
       fsplit t $ fsplit t $ move t (1 ∷ []) $ feq_l t (λ long. move t (2 ∷ []) $ split t $ move t (1 ∷ []) $ feq_l t (λ unit.
       split t $ move t (1 ∷ []) $ drop t $ move t (2 ∷ []) $ drop t $
       regoal t (λ (v : Val). lands C Λ En d v rest p) (ap only unit) refl $ k long))
 
-  pub puts-at : {xs : List Operand} → K → FmC 𝓤 H 𝓛.laws C → Triple 𝓤 (C #records·put) (Put 𝓛 mem run)
+  pub puts_at : {xs : List Operand} → K → FmC 𝓤 H 𝓛.laws C → Triple 𝓤 (C #records·put) (Put 𝓛 mem run)
       → (ℓ : Lifetime) (n i : ℕ) (r : Progress)
       → n < 2 ^ 32 → i < 2 ^ 32 → Is R r (one r ∷ []) → (n ≡ 0 → i < length x.now)
       → Opds K 𝓛 (raw ((Put 𝓛 mem run).pre (to-put 𝓛 mem run κ q x n i r)) ∷ Γ) En xs
@@ -277,14 +277,14 @@ module _ {M : Type 1} {𝓤 : Ura M} {𝓛 : Logic 𝓤} {K : Type 0} (mem : Mem
       → Seq K 𝓛 (‵ (flft κ q) ∷ ‵ (finally R x.name ws) ∷ Γ) (lands C Λ En d vunit rest p))
       → Seq K 𝓛 (‵ (flft κ q) ∷ ‵ ((MutSlice ℓ κ R).own_val x (slice x ∷ [])) ∷ Γ)
       (runs C Λ En (seq (call #records·put xs d) rest) p)
-  puts-at t fm known ℓ n i r n-fits i-fits is there os k =
+  puts_at t fm known ℓ n i r n-fits i-fits is there os k =
       nothing t $
       owned t R (Is R) (LL.makes T.the_type T'.the_plain 𝓛) r _ is $ fjoin t $
       owned t u32 (Is u32) (uint_Makes 𝓛 w32) i _ (refl, i-fits) $ fjoin t $
       owned t u32 (Is u32) (uint_Makes 𝓛 w32) n _ (refl, n-fits) $ fjoin t $
       move t (2 ∷ 0 ∷ []) $ fjoin t $ nothing t $ move t (2 ∷ 0 ∷ []) $ join t $
       use2 𝓛 (raw ((Put 𝓛 mem run).pre (to-put 𝓛 mem run κ q x n i r)))
-      (goes-put 𝓛 mem run κ q x ℓ n i r there) $
+      (goes_put 𝓛 mem run κ q x ℓ n i r there) $
       calls_at t fm (Put 𝓛 mem run) known (to-put 𝓛 mem run κ q x n i r) os (λ w.
       use1 𝓛 (later (some (λ (u : Unit {0}). ((‵ (flft κ q) ⊛ ‵ ftrue) ⊛ ‵ (Nothing.own u (w ∷ [])))
       ⊛ raw (ensured 𝓛 puts.ended (puts.clauses 𝓛 mem run) (κ, tt) (x, (n, (i, (r, tt)))) tt u)))) (id⊢ 𝓤 _) $
@@ -292,27 +292,27 @@ module _ {M : Type 1} {𝓤 : Ura M} {𝓛 : Logic 𝓤} {K : Type 0} (mem : Mem
       use1 𝓛 (some (λ (us : List Progress × (Unit {0} × (Unit {0} × (Unit {0} × Unit {0})))).
       ‵ (lasts puts.ended (κ, tt) (x, (n, (i, (r, tt)))) us) ⊛ raw (fact 𝓤 (us.0 ≡ put_at n i r x.now)))) (id⊢ 𝓤 _) $
       pick t (λ us. split t $ move t (1 ∷ []) $ heard t (us.0 ≡ put_at n i r x.now) (λ put.
-      given-up t w _ us.0 (λ long. k us.0 long put)))))
+      given_up t w _ us.0 (λ long. k us.0 long put)))))
 
-  pub clears-at : {xs : List Operand} → K → FmC 𝓤 H 𝓛.laws C → Triple 𝓤 (C #records·clear) (Clear 𝓛 mem run) → (ℓ : Lifetime)
+  pub clears_at : {xs : List Operand} → K → FmC 𝓤 H 𝓛.laws C → Triple 𝓤 (C #records·clear) (Clear 𝓛 mem run) → (ℓ : Lifetime)
       (n : ℕ) → n < 2 ^ 32
       → Opds K 𝓛 (raw ((Clear 𝓛 mem run).pre (to_clear 𝓛 mem run κ q x n)) ∷ Γ) En xs
       (slice x ∷ vint w32 n ∷ [])
-      → ((ws : List Progress) → length ws ≡ length x.now → ws ≡ clearAll n x.now
+      → ((ws : List Progress) → length ws ≡ length x.now → ws ≡ clear_all n x.now
       → Seq K 𝓛 (‵ (flft κ q) ∷ ‵ (finally R x.name ws) ∷ Γ) (lands C Λ En d vunit rest p))
       → Seq K 𝓛 (‵ (flft κ q) ∷ ‵ ((MutSlice ℓ κ R).own_val x (slice x ∷ [])) ∷ Γ)
       (runs C Λ En (seq (call #records·clear xs d) rest) p)
-  clears-at t fm known ℓ n n-fits os k =
+  clears_at t fm known ℓ n n-fits os k =
       nothing t $
       owned t u32 (Is u32) (uint_Makes 𝓛 w32) n _ (refl, n-fits) $ fjoin t $
       move t (2 ∷ 0 ∷ []) $ fjoin t $ nothing t $ move t (2 ∷ 0 ∷ []) $ join t $
       use2 𝓛 (raw ((Clear 𝓛 mem run).pre (to_clear 𝓛 mem run κ q x n)))
-      (goes-clear 𝓛 mem run κ q x ℓ n) $
+      (goes_clear 𝓛 mem run κ q x ℓ n) $
       calls_at t fm (Clear 𝓛 mem run) known (to_clear 𝓛 mem run κ q x n) os (λ w.
       use1 𝓛 (later (some (λ (u : Unit {0}). ((‵ (flft κ q) ⊛ ‵ ftrue) ⊛ ‵ (Nothing.own u (w ∷ [])))
       ⊛ raw (ensured 𝓛 clears.ended (clears.clauses 𝓛 mem run) (κ, tt) (x, (n, tt)) tt u)))) (id⊢ 𝓤 _) $
       await t tt $ pick t (λ u. split t $ move t (1 ∷ []) $
       use1 𝓛 (some (λ (us : List Progress × (Unit {0} × Unit {0})).
-      ‵ (lasts clears.ended (κ, tt) (x, (n, tt)) us) ⊛ raw (fact 𝓤 (us.0 ≡ clearAll n x.now)))) (id⊢ 𝓤 _) $
-      pick t (λ us. split t $ move t (1 ∷ []) $ heard t (us.0 ≡ clearAll n x.now) (λ put.
-      given-up t w _ us.0 (λ long. k us.0 long put)))))
+      ‵ (lasts clears.ended (κ, tt) (x, (n, tt)) us) ⊛ raw (fact 𝓤 (us.0 ≡ clear_all n x.now)))) (id⊢ 𝓤 _) $
+      pick t (λ us. split t $ move t (1 ∷ []) $ heard t (us.0 ≡ clear_all n x.now) (λ put.
+      given_up t w _ us.0 (λ long. k us.0 long put)))))

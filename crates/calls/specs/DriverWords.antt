@@ -4,5 +4,5 @@ use Rattle.core.specs.Prelude.{ℕ, List, length, take, ◌==◌}
 use Rattle.base.specs.Tests.{pick}
 
 -- after a driver that gave this number and kept these words of them
-unfoldable pub wordsAfter : List ℕ → ℕ → List ℕ → List ℕ
-wordsAfter records number kept = pick (number == 0) (take (length records) kept) records
+unfoldable pub words_after : List ℕ → ℕ → List ℕ → List ℕ
+words_after records number kept = pick (number == 0) (take (length records) kept) records

@@ -5,20 +5,20 @@ use Rattle.core.specs.Prelude.{ℕ, zero, suc, List}
 use Rattle.base.specs.Numbers.{first_of}
 use Rattle.calendar.specs.declared.Opening.{Opening}
 use Rattle.calendar.specs.declared.Opening.TheVariants.{OpensIn, Never}
-use Rattle.calendar.specs.Windows.{Moment, untilOpen}
-use Rattle.calendar_calls.specs.Calls.{opensLines}
+use Rattle.calendar.specs.Windows.{Moment, until_open}
+use Rattle.calendar_calls.specs.Calls.{opens_lines}
 use Rattle.calls.specs.declared.hour.NextOpening.{NextOpening}
 
 abbrev pub tells : ℕ → ℕ → ℕ → NextOpening
 tells n opens minutes = record { number = n; opens = opens; minutes = minutes }
 
-unfoldable pub openingTold : Opening → NextOpening
-openingTold (OpensIn m) = tells 0 1 m
-openingTold Never = tells 0 0 0
+unfoldable pub opening_told : Opening → NextOpening
+opening_told (OpensIn m) = tells 0 1 m
+opening_told Never = tells 0 0 0
 
-unfoldable pub opensIf : ℕ → Opening → NextOpening
-opensIf zero o = openingTold o
-opensIf (suc n) o = tells (suc n) 0 0
+unfoldable pub opens_if : ℕ → Opening → NextOpening
+opens_if zero o = opening_told o
+opens_if (suc n) o = tells (suc n) 0 0
 
 unfoldable pub opens_of : List ℕ → Moment → ℕ → NextOpening
-opens_of bytes h b = opensIf (first_of (opensLines bytes h b)) (untilOpen h.calendar h.minute b)
+opens_of bytes h b = opens_if (first_of (opens_lines bytes h b)) (until_open h.calendar h.minute b)

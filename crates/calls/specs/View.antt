@@ -4,19 +4,19 @@
 use Rattle.core.specs.Prelude.{ℕ, zero, suc, ◌*◌, List}
 use Rattle.machine.specs.Plan.{Plan}
 use Rattle.engine.specs.Calls.{recipe}
-use Rattle.sharing.specs.Calls.{viewNumber}
+use Rattle.sharing.specs.Calls.{view_number}
 use Rattle.calls.specs.declared.tenant.Viewed.{Viewed}
 
 abbrev pub no_view : ℕ → Viewed
 no_view n = record { number = n; begin = 0; length = 0 }
 
 -- of processor b
-abbrev pub viewAt : Plan → ℕ → Viewed
-viewAt p b = record { number = 0; begin = b * p.cells; length = p.cells }
+abbrev pub view_at : Plan → ℕ → Viewed
+view_at p b = record { number = 0; begin = b * p.cells; length = p.cells }
 
-unfoldable pub viewIf : ℕ → Plan → ℕ → Viewed
-viewIf zero p b = viewAt p b
-viewIf (suc n) p b = no_view (suc n)
+unfoldable pub view_if : ℕ → Plan → ℕ → Viewed
+view_if zero p b = view_at p b
+view_if (suc n) p b = no_view (suc n)
 
 unfoldable pub view_of : List ℕ → List ℕ → List ℕ → ℕ → ℕ → Viewed
-view_of bytes first second o b = viewIf (viewNumber bytes first second o b) (recipe bytes 0) b
+view_of bytes first second o b = view_if (view_number bytes first second o b) (recipe bytes 0) b

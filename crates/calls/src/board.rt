@@ -1,6 +1,6 @@
 // The calls for one processor that is lent its own part alone, with C linkage, its record as a struct: the lengths of its areas, the messages that it
 // handles, a fresh start, a turn, a message handed over to a transport, a message that arrives, and its cells' words for the grid.
-ghost use Rattle.calls.specs.Gave.{areasOf, PartSizesGave, PartMessagesGave, PartFreshGave, PartTurnGave};
+ghost use Rattle.calls.specs.Gave.{areas_of, PartSizesGave, PartMessagesGave, PartFreshGave, PartTurnGave};
 ghost use Rattle.calls.specs.Gave.{PartPostGave, PartArriveGave, PartCollectGave};
 
 use part_calls::AreaLengths;
@@ -39,8 +39,8 @@ pub extern "C" fn rolwyddac_part_fresh(
     processor: u32,
 ) -> u32
     ensures { PartFreshGave encoded.now route processor
-        (areasOf memory.old mail.old progress.old marks.old)
-        result (areasOf memory.new mail.new progress.new marks.new) }
+        (areas_of memory.old mail.old progress.old marks.old)
+        result (areas_of memory.new mail.new progress.new marks.new) }
 {
     let words = 3 * progress.len();
     let number = part_calls::core::fresh(encoded, route, memory, mail, words, marks, processor);
@@ -61,8 +61,8 @@ pub extern "C" fn rolwyddac_part_turn(
     processor: u32,
 ) -> u32
     ensures { PartTurnGave encoded.now route source.now processor
-        (areasOf memory.old mail.old progress.old marks.old)
-        result (areasOf memory.new mail.new progress.new marks.new) }
+        (areas_of memory.old mail.old progress.old marks.old)
+        result (areas_of memory.new mail.new progress.new marks.new) }
 {
     let flat = records::flatten(progress);
     let after = part_calls::turn::turn(
@@ -85,8 +85,8 @@ pub extern "C" fn rolwyddac_part_post(
     message: u32,
 ) -> u32
     ensures { PartPostGave encoded.now route processor message
-        (areasOf memory.now mail.now progress.now marks.old)
-        result (areasOf memory.now mail.now progress.now marks.new) }
+        (areas_of memory.now mail.now progress.now marks.old)
+        result (areas_of memory.now mail.now progress.now marks.new) }
 {
     let flat = records::flatten(progress);
     part_calls::core::post(
@@ -108,8 +108,8 @@ pub extern "C" fn rolwyddac_part_arrive(
     words: &[u32],
 ) -> u32
     ensures { PartArriveGave encoded.now route processor message words.now
-        (areasOf memory.now mail.old progress.now marks.old)
-        result (areasOf memory.now mail.new progress.now marks.new) }
+        (areas_of memory.now mail.old progress.now marks.old)
+        result (areas_of memory.now mail.new progress.now marks.new) }
 {
     let flat = records::flatten(progress);
     part_calls::core::arrive(

@@ -1,6 +1,6 @@
 // The calls that a transport needs with C linkage, where processors share no memory: all messages, the processor of each cell; over progress
 // records as structs what a processor waits for, and taking a message in.
-ghost use Rattle.calls.specs.Gave.{areasOf, MessagesGave, OwnersGave, AwaitedGave, TakeInGave};
+ghost use Rattle.calls.specs.Gave.{areas_of, MessagesGave, OwnersGave, AwaitedGave, TakeInGave};
 
 use records::Progress;
 use transport::Waiting;
@@ -53,8 +53,8 @@ pub extern "C" fn rolwyddac_take_in(
     words: &[u32],
 ) -> u32
     ensures { TakeInGave encoded.now route source.now
-        (areasOf memories.now buffer.old progress.now status.old) processor message words.now
-        result (areasOf memories.now buffer.new progress.now status.new) }
+        (areas_of memories.now buffer.old progress.now status.old) processor message words.now
+        result (areas_of memories.now buffer.new progress.now status.new) }
 {
     let flat = records::flatten(progress);
     transport::core::take_in(

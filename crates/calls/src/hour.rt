@@ -1,9 +1,9 @@
 // The calls with hours with C linkage: a turn at a minute of the week, for one tenant and for one of two, over progress records as structs;
 // and the minutes until a processor next opens. `hours` is the table, 14 pairs of words a processor.
 ghost use Rattle.core.specs.Prelude.{◌≡◌};
-ghost use Rattle.calendar.specs.Windows.{momentOf, turnAt};
-ghost use Rattle.calls.specs.Gave.{areasOf, lentAreasOf, TimedGave, TenantTimedGave, OpensGave};
-ghost use Rattle.calls.specs.Opens.{tells, openingTold};
+ghost use Rattle.calendar.specs.Windows.{moment_of, turn_at};
+ghost use Rattle.calls.specs.Gave.{areas_of, lent_areas_of, TimedGave, TenantTimedGave, OpensGave};
+ghost use Rattle.calls.specs.Opens.{tells, opening_told};
 
 use calendar::Opening;
 use records::Progress;
@@ -23,9 +23,9 @@ pub extern "C" fn rolwyddac_turn_at(
     processor: u32,
 ) -> u32
     ensures { TimedGave encoded.now route source.now
-        (areasOf memories.old buffer.old progress.old status.old)
-        (turnAt (momentOf hours.now minute) processor)
-        result (areasOf memories.new buffer.new progress.new status.new) }
+        (areas_of memories.old buffer.old progress.old status.old)
+        (turn_at (moment_of hours.now minute) processor)
+        result (areas_of memories.new buffer.new progress.new status.new) }
 {
     let flat = records::flatten(progress);
     let after = calendar_calls::core::turn(
@@ -53,9 +53,9 @@ pub extern "C" fn rolwyddac_tenant_turn_at(
     processor: u32,
 ) -> u32
     ensures { TenantTimedGave encoded.now route source.now tenant other.now
-        (lentAreasOf (areasOf memories.old buffer.old progress.old status.old) engaged.old)
-        (turnAt (momentOf hours.now minute) processor)
-        result (lentAreasOf (areasOf memories.new buffer.new progress.new status.new) engaged.new) }
+        (lent_areas_of (areas_of memories.old buffer.old progress.old status.old) engaged.old)
+        (turn_at (moment_of hours.now minute) processor)
+        result (lent_areas_of (areas_of memories.new buffer.new progress.new status.new) engaged.new) }
 {
     let own = records::flatten(progress);
     let theirs = records::flatten(other);
@@ -87,7 +87,7 @@ fn tell(number: u32, opens: u32, minutes: u32) -> NextOpening
 }
 
 fn tell_opening(opening: Opening) -> NextOpening
-    ensures { result ≡ openingTold opening }
+    ensures { result ≡ opening_told opening }
 {
     match opening {
         Opening::OpensIn(minutes) => tell(0, 1, minutes),
@@ -103,7 +103,7 @@ pub extern "C" fn rolwyddac_opens(
     minute: u32,
     processor: u32,
 ) -> NextOpening
-    ensures { OpensGave encoded.now (momentOf hours.now minute) processor result }
+    ensures { OpensGave encoded.now (moment_of hours.now minute) processor result }
 {
     let asked = calendar_calls::opens(encoded, hours, minute, processor);
     let number = asked.number;

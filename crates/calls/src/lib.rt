@@ -5,7 +5,7 @@
 // Two steps, either way round (W-214), have no code: specs/Demands214 states them of the calls on bytes, specs/OverRecords214 of these.
 ghost use Rattle.machine.specs.Runs.{turn_of, deliveryOf};
 ghost use Rattle.writer.specs.Fields.{fields};
-ghost use Rattle.calls.specs.Gave.{areasOf, FreshGave, EventGave, CollectGave, SweepGave, SummaryGave, MessageGave, HopsGave};
+ghost use Rattle.calls.specs.Gave.{areas_of, FreshGave, EventGave, CollectGave, SweepGave, SummaryGave, MessageGave, HopsGave};
 ghost use Rattle.calls.specs.Gave.{ReadGave, WriteGave, SoundingsGave};
 
 use records::Progress;
@@ -33,8 +33,8 @@ pub extern "C" fn rolwyddac_turn(
     processor: u32,
 ) -> u32
     ensures { EventGave encoded.now route source.now
-        (areasOf memories.old buffer.old progress.old status.old) (turn_of processor)
-        result (areasOf memories.new buffer.new progress.new status.new) }
+        (areas_of memories.old buffer.old progress.old status.old) (turn_of processor)
+        result (areas_of memories.new buffer.new progress.new status.new) }
 {
     let flat = records::flatten(progress);
     let after = engine::core::turn(
@@ -56,8 +56,8 @@ pub extern "C" fn rolwyddac_fresh(
     status: &mut [u8],
 ) -> u32
     ensures { FreshGave encoded.now route source.now
-        (areasOf memories.old buffer.old progress.old status.old)
-        result (areasOf memories.new buffer.new progress.new status.new) }
+        (areas_of memories.old buffer.old progress.old status.old)
+        result (areas_of memories.new buffer.new progress.new status.new) }
 {
     let words = 3 * progress.len();
     let number = engine::core::fresh(encoded, route, source, memories, buffer, words, status);
@@ -78,8 +78,8 @@ pub extern "C" fn rolwyddac_deliver(
     message: u32,
 ) -> u32
     ensures { EventGave encoded.now route source.now
-        (areasOf memories.now buffer.now progress.now status.old) (deliveryOf message)
-        result (areasOf memories.now buffer.now progress.now status.new) }
+        (areas_of memories.now buffer.now progress.now status.old) (deliveryOf message)
+        result (areas_of memories.now buffer.now progress.now status.new) }
 {
     let flat = records::flatten(progress);
     engine::core::deliver(
@@ -100,7 +100,7 @@ pub extern "C" fn rolwyddac_collect(
     grid: &mut [u32],
 ) -> u32
     ensures { CollectGave encoded.now route source.now
-        (areasOf memories.now buffer.now progress.now status.now) grid.old result grid.new }
+        (areas_of memories.now buffer.now progress.now status.now) grid.old result grid.new }
 {
     let flat = records::flatten(progress);
     engine::core::collect(encoded, route, source, memories, buffer, flat, status, grid)

@@ -1,8 +1,8 @@
 // Between the areas of a run and the wire, with C linkage: what recipe and route are known by, an item's chunk as a packet, what a packet says, a chunk put to
 // what came, a message's chunk out of its sender's buffer; and, over progress records as structs, bytes as they came at a message's taker's.
 ghost use Rattle.packets.specs.Cut.{chunk_of};
-ghost use Rattle.wire.specs.Wire.{label, inboxOf};
-ghost use Rattle.calls.specs.Gave.{areasOf, FingerprintGave, PacketGave, PacketReadGave, ChunkGave, SendGave, ReceiveGave};
+ghost use Rattle.wire.specs.Wire.{label, inbox_of};
+ghost use Rattle.calls.specs.Gave.{areas_of, FingerprintGave, PacketGave, PacketReadGave, ChunkGave, SendGave, ReceiveGave};
 
 use packets::chunks::Taken;
 use records::Progress;
@@ -125,10 +125,10 @@ pub extern "C" fn rolwyddac_receive(
     masks: &mut [u64],
 ) -> Received
     ensures { ReceiveGave encoded.now route run source.now
-        (areasOf memories.now buffer.old progress.now status.old) processor packet.now
-        (inboxOf parts.old masks.old)
-        result (inboxOf parts.new masks.new)
-        (areasOf memories.now buffer.new progress.now status.new) }
+        (areas_of memories.now buffer.old progress.now status.old) processor packet.now
+        (inbox_of parts.old masks.old)
+        result (inbox_of parts.new masks.new)
+        (areas_of memories.now buffer.new progress.now status.new) }
 {
     let flat = records::flatten(progress);
     wire::inbox::receive(

@@ -4,9 +4,9 @@ ghost use Rattle.core.specs.Prelude.{◌≡◌, ℕ, ◌≤◌, List, length};
 ghost use Rattle.machine.specs.Machine.{state_of};
 ghost use Rattle.rounds.specs.Rounds.{told};
 ghost use Rattle.engine.specs.Calls.{answer};
-ghost use Rattle.schedule.specs.Calls.{roundsCall};
-ghost use Rattle.calls.specs.DriverWords.{wordsAfter};
-ghost use Rattle.calls.specs.Gave.{areasOf, RoundsGave, RoundsOfGave};
+ghost use Rattle.schedule.specs.Calls.{rounds_call};
+ghost use Rattle.calls.specs.DriverWords.{words_after};
+ghost use Rattle.calls.specs.Gave.{areas_of, RoundsGave, RoundsOfGave};
 
 use base::refusals;
 use records::{Flat, Progress, RECORD_WORDS};
@@ -47,8 +47,8 @@ fn drive(
 ) -> Ran
     ensures { ((records : List ℕ) → words ≡ length records
         → answer result.driven.number (told result.driven.rounds (state_of memories.new buffer.new
-        (wordsAfter records result.driven.number result.flat.words) status.new))
-        ≡ roundsCall encoded.now source.now
+        (words_after records result.driven.number result.flat.words) status.new))
+        ≡ rounds_call encoded.now source.now
         (state_of memories.old buffer.old records status.old))
         × ((result.driven.number ≡ 0 → words ≤ 192) × (length result.flat.words ≡ 192)) }
 {
@@ -91,8 +91,8 @@ pub extern "C" fn rolwyddac_rounds(
     status: &mut [u8],
 ) -> Driven
     ensures { RoundsGave encoded.now source.now
-        (areasOf memories.old buffer.old progress.old status.old)
-        result (areasOf memories.new buffer.new progress.new status.new) }
+        (areas_of memories.old buffer.old progress.old status.old)
+        result (areas_of memories.new buffer.new progress.new status.new) }
 {
     let words = 3 * progress.len();
     let ran = drive(encoded, source, memories, buffer, words, status);

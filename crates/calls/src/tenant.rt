@@ -3,8 +3,8 @@
 // memory.
 ghost use Rattle.core.specs.Prelude.{◌≡◌};
 ghost use Rattle.machine.specs.Runs.{turn_of, deliveryOf};
-ghost use Rattle.tenants.specs.Tenants.{sourcesOf};
-ghost use Rattle.calls.specs.Gave.{areasOf, lentAreasOf, sharingAreasOf, TenantGave, TenantCollectGave, FreshBothGave, ViewGave};
+ghost use Rattle.tenants.specs.Tenants.{sources_of};
+ghost use Rattle.calls.specs.Gave.{areas_of, lent_areas_of, sharing_areas_of, TenantGave, TenantCollectGave, FreshBothGave, ViewGave};
 ghost use Rattle.calls.specs.View.{no_view};
 
 use records::Progress;
@@ -25,9 +25,9 @@ pub extern "C" fn rolwyddac_tenant_turn(
     processor: u32,
 ) -> u32
     ensures { TenantGave encoded.now route source.now tenant other.now
-        (lentAreasOf (areasOf memories.old buffer.old progress.old status.old) engaged.old)
+        (lent_areas_of (areas_of memories.old buffer.old progress.old status.old) engaged.old)
         (turn_of processor)
-        result (lentAreasOf (areasOf memories.new buffer.new progress.new status.new) engaged.new) }
+        result (lent_areas_of (areas_of memories.new buffer.new progress.new status.new) engaged.new) }
 {
     let own = records::flatten(progress);
     let theirs = records::flatten(other);
@@ -54,9 +54,9 @@ pub extern "C" fn rolwyddac_tenant_deliver(
     message: u32,
 ) -> u32
     ensures { TenantGave encoded.now route source.now tenant other.now
-        (lentAreasOf (areasOf memories.now buffer.now progress.now status.old) engaged.now)
+        (lent_areas_of (areas_of memories.now buffer.now progress.now status.old) engaged.now)
         (deliveryOf message)
-        result (lentAreasOf (areasOf memories.now buffer.now progress.now status.new) engaged.now) }
+        result (lent_areas_of (areas_of memories.now buffer.now progress.now status.new) engaged.now) }
 {
     let own = records::flatten(progress);
     let theirs = records::flatten(other);
@@ -81,7 +81,7 @@ pub extern "C" fn rolwyddac_tenant_collect(
     grid: &mut [u32],
 ) -> u32
     ensures { TenantCollectGave encoded.now route source.now tenant other.now
-        (lentAreasOf (areasOf memories.now buffer.now progress.now status.now) engaged.now)
+        (lent_areas_of (areas_of memories.now buffer.now progress.now status.now) engaged.now)
         grid.old result grid.new }
 {
     let own = records::flatten(progress);
@@ -108,13 +108,13 @@ pub extern "C" fn rolwyddac_fresh_both(
     second_status: &mut [u8],
     engaged: &mut [u32],
 ) -> u32
-    ensures { FreshBothGave encoded.now route (sourcesOf first_source.now second_source.now)
-        (sharingAreasOf (areasOf first_memories.old first_buffer.old first_progress.old first_status.old)
-        (areasOf second_memories.old second_buffer.old second_progress.old second_status.old)
+    ensures { FreshBothGave encoded.now route (sources_of first_source.now second_source.now)
+        (sharing_areas_of (areas_of first_memories.old first_buffer.old first_progress.old first_status.old)
+        (areas_of second_memories.old second_buffer.old second_progress.old second_status.old)
         engaged.old)
         result
-        (sharingAreasOf (areasOf first_memories.new first_buffer.new first_progress.new first_status.new)
-        (areasOf second_memories.new second_buffer.new second_progress.new second_status.new)
+        (sharing_areas_of (areas_of first_memories.new first_buffer.new first_progress.new first_status.new)
+        (areas_of second_memories.new second_buffer.new second_progress.new second_status.new)
         engaged.new) }
 {
     let first_words = 3 * first_progress.len();

@@ -15,45 +15,45 @@ use mir.ValLaws.{to_z-of_z}
 use borrow.Author.Tests.{eqb-true, eq-eqb, ne_eqb, lt-ltb, le-ltb}
 use Rattle.base.specs.Tests.{◌or◌, not, pick}
 use Rattle.base.specs.Numbers.{Line, line, first_of}
-use Rattle.base.proofs.Tests.{or_left, or_right, or-false, not-true, not-false, true-not, neither}
-use Rattle.base.proofs.Numbers.{Numbered, first-true, first-false, first_some, first-behind, none_first}
-pub use Rattle.base.proofs.Numbers.{none-front, none-behind}
+use Rattle.base.proofs.Tests.{or_left, or_right, or_false, not-true, not-false, true_not, neither}
+use Rattle.base.proofs.Numbers.{Numbered, first_true, first_false, first_some, first_behind, none_first}
+pub use Rattle.base.proofs.Numbers.{none_front, none_behind}
 use Rattle.text.specs.Writing.{Pen, pen, write}
-use Rattle.text.proofs.Pens.{write-at, write-front}
+use Rattle.text.proofs.Pens.{write_at, write_front}
 use Rattle.nest.specs.declared.Nest.{Nest}
 use Rattle.nest.specs.declared.Reading.{Reading}
 use Rattle.nest.specs.Nest.{length_of, cells}
-use Rattle.nest.specs.Reader.{readLines, nestOf, reading_of}
+use Rattle.nest.specs.Reader.{read_lines, nest_of, reading_of}
 use Rattle.nest.proofs.Numbered.{numbered}
 use Rattle.nest.proofs.Answers.{number_read, nest-read}
 use Rattle.chart.specs.declared.Told.{Told}
-use Rattle.chart.specs.grid_text.Text.{chartText}
-use Rattle.chart.specs.Call.{notCharted, wrongGrid, measureLines, toldOf, lengthLines, lengthCall, writeLines, Written, written, writtenIf, writeCall}
+use Rattle.chart.specs.grid_text.Text.{chart_text}
+use Rattle.chart.specs.Call.{not_charted, wrong_grid, measure_lines, told_of, length_lines, length_call, write_lines, Written, written, written_if, write_call}
 use Rattle.chart.proofs.grid_text.Lengths.{cells_are}
 
 -- what `tell` promises
 abbrev pub Tells : Told → ℕ → ℕ → Type 0
 Tells r n l = (r.number ≡ n) × (r.length ≡ l)
 
-same-told : (a b c d : ℕ) → a ≡ b → c ≡ d → ◌≡◌ {A = Told} (record { number = a; length = c }) (record { number = b; length = d })
-same-told a b c d p q = rw (p, q)
+same_told : (a b c d : ℕ) → a ≡ b → c ≡ d → ◌≡◌ {A = Told} (record { number = a; length = c }) (record { number = b; length = d })
+same_told a b c d p q = rw (p, q)
 
-told-no : (r : Told) (n : ℕ) (text : List ℕ) → n ≢ 0 → Tells r n 0 → r ≡ toldOf n text
-unfolding toldOf
-told-no r zero text h t = absurd (h refl)
-told-no r (suc n) text h t = same-told r.number (suc n) r.length 0 t.0 t.1
+told_no : (r : Told) (n : ℕ) (text : List ℕ) → n ≢ 0 → Tells r n 0 → r ≡ told_of n text
+unfolding told_of
+told_no r zero text h t = absurd (h refl)
+told_no r (suc n) text h t = same_told r.number (suc n) r.length 0 t.0 t.1
 
-told-yes : (r : Told) (text : List ℕ) → Tells r 0 (length text) → r ≡ toldOf 0 text
-unfolding toldOf
-told-yes r text t = same-told r.number 0 r.length (length text) t.0 t.1
+told-yes : (r : Told) (text : List ℕ) → Tells r 0 (length text) → r ≡ told_of 0 text
+unfolding told_of
+told-yes r text t = same_told r.number 0 r.length (length text) t.0 t.1
 
-number-told : (n : ℕ) (text : List ℕ) → (toldOf n text).number ≡ n
-unfolding toldOf
-number-told zero text = refl
-number-told (suc n) text = refl
+number_told : (n : ℕ) (text : List ℕ) → (told_of n text).number ≡ n
+unfolding told_of
+number_told zero text = refl
+number_told (suc n) text = refl
 
-pub length-told : (n : ℕ) (text : List ℕ) → n ≡ 0 → (toldOf n text).length ≡ length text
-unfolding toldOf
+pub length-told : (n : ℕ) (text : List ℕ) → n ≡ 0 → (told_of n text).length ≡ length text
+unfolding told_of
 length-told zero text e = refl
 length-told (suc n) text e = absurd (omega arith)
 
@@ -61,96 +61,96 @@ length-told (suc n) text e = absurd (omega arith)
 
 module _ (nest : Nest) (g : List ℕ) (x y : ℤ) (size : ℕ) (r : Told) where
   abbrev Measured : Type 0
-  Measured = r ≡ toldOf (first_of (measureLines nest g size)) (chartText nest g x y size)
+  Measured = r ≡ told_of (first_of (measure_lines nest g size)) (chart_text nest g x y size)
 
-  by-line : (n : ℕ) → n ≢ 0 → Tells r n 0 → first_of (measureLines nest g size) ≡ n → Measured
-  by-line n h t e = told-no r n _ h t ∙ ap (λ (k : ℕ). toldOf k (chartText nest g x y size)) (sym e)
+  by_line : (n : ℕ) → n ≢ 0 → Tells r n 0 → first_of (measure_lines nest g size) ≡ n → Measured
+  by_line n h t e = told_no r n _ h t ∙ ap (λ (k : ℕ). told_of k (chart_text nest g x y size)) (sym e)
 
-  line-23 : Tells r 23 0 → notCharted nest size ≡ true → Measured
-  line-23 t e = by-line 23 (λ q. omega arith) t (first-true 23 _ _ e)
+  line-23 : Tells r 23 0 → not_charted nest size ≡ true → Measured
+  line-23 t e = by_line 23 (λ q. omega arith) t (first_true 23 _ _ e)
 
   pub not-flat : Tells r 23 0 → nest.dimensions ≢ 2 → Measured
-  unfolding notCharted
+  unfolding not_charted
   not-flat t h = line-23 t (or_left _ (not-false (ne_eqb _ _ h)))
 
   pub size-zero : Tells r 23 0 → size ≡ 0 → Measured
-  unfolding notCharted
+  unfolding not_charted
   size-zero t e = line-23 t (or_right _ (or_left _ (eq-eqb _ _ e)))
 
   pub size-large : Tells r 23 0 → 65535 < size → Measured
-  unfolding notCharted
+  unfolding not_charted
   size-large t h = line-23 t (or_right _ (or_right _ (lt-ltb _ _ h)))
 
   module _ (flat : nest.dimensions ≡ 2) (some : size ≢ 0) (low : size ≤ 65535) where
-    charted : notCharted nest size ≡ false
-    unfolding notCharted
-    charted = or-false (not-true (eq-eqb _ _ flat)) (or-false (ne_eqb _ _ some) (le-ltb _ _ low))
+    charted : not_charted nest size ≡ false
+    unfolding not_charted
+    charted = or_false (not-true (eq-eqb _ _ flat)) (or_false (ne_eqb _ _ some) (le-ltb _ _ low))
 
     pub grid-wrong : Tells r 9 0 → length g ≢ length_of nest 0 * length_of nest 1 → Measured
-    unfolding wrongGrid
+    unfolding wrong_grid
     grid-wrong t h =
-        by-line 9 (λ q. omega arith) t
-        (first-false 23 _ _ charted ∙ first-true 9 _ _ (not-false (ne_eqb _ _ (λ q. h (q ∙ cells_are nest flat)))))
+        by_line 9 (λ q. omega arith) t
+        (first_false 23 _ _ charted ∙ first_true 9 _ _ (not-false (ne_eqb _ _ (λ q. h (q ∙ cells_are nest flat)))))
 
     pub grid-right : length g ≡ length_of nest 0 * length_of nest 1 → length g ≡ cells nest
     grid-right e = e ∙ sym (cells_are nest flat)
 
     pub measured-all : length g ≡ length_of nest 0 * length_of nest 1 → (q : ℕ) (s t : List ℕ) → SFits w32 x → SFits w32 y
-        → pen q t ≡ write (pen 0 s) (chartText nest g (to_z w32 (of_z w32 x)) (to_z w32 (of_z w32 y)) size) → Tells r 0 q → Measured
-    unfolding wrongGrid first_of
+        → pen q t ≡ write (pen 0 s) (chart_text nest g (to_z w32 (of_z w32 x)) (to_z w32 (of_z w32 y)) size) → Tells r 0 q → Measured
+    unfolding wrong_grid first_of
     measured-all e q s t fx fy w k =
-        let w' : pen q t ≡ write (pen 0 s) (chartText nest g x y size) = rw (to_z-of_z w32 x fx, to_z-of_z w32 y fy) at w in
-        let p : q ≡ length (chartText nest g x y size) =
-        ap (λ (z : Pen). z.at) w' ∙ write-at (pen 0 s) (chartText nest g x y size) ∙ omega arith in
-        let z : first_of (measureLines nest g size) ≡ 0 =
-        first-false 23 (notCharted nest size) (line 9 (wrongGrid nest g) ∷ []) charted
-        ∙ first-false 9 (not (eqb (length g) (cells nest))) [] (not-true (eq-eqb _ _ (grid-right e))) in
-        told-yes r _ (k.0, k.1 ∙ p) ∙ ap (λ (n : ℕ). toldOf n (chartText nest g x y size)) (sym z)
+        let w' : pen q t ≡ write (pen 0 s) (chart_text nest g x y size) = rw (to_z-of_z w32 x fx, to_z-of_z w32 y fy) at w in
+        let p : q ≡ length (chart_text nest g x y size) =
+        ap (λ (z : Pen). z.at) w' ∙ write_at (pen 0 s) (chart_text nest g x y size) ∙ omega arith in
+        let z : first_of (measure_lines nest g size) ≡ 0 =
+        first_false 23 (not_charted nest size) (line 9 (wrong_grid nest g) ∷ []) charted
+        ∙ first_false 9 (not (eqb (length g) (cells nest))) [] (not-true (eq-eqb _ _ (grid-right e))) in
+        told-yes r _ (k.0, k.1 ∙ p) ∙ ap (λ (n : ℕ). told_of n (chart_text nest g x y size)) (sym z)
 
 -- where neither line holds, the nest has two dimensions and the grid one word a cell
-module _ (nest : Nest) (g : List ℕ) (size : ℕ) (text : List ℕ) (m : Told) (e : m ≡ toldOf (first_of (measureLines nest g size)) text) (z : m.number ≡ 0) where
-  lines_none : first_of (measureLines nest g size) ≡ 0
-  lines_none = sym (number-told _ text) ∙ sym (ap (λ (t : Told). t.number) e) ∙ z
+module _ (nest : Nest) (g : List ℕ) (size : ℕ) (text : List ℕ) (m : Told) (e : m ≡ told_of (first_of (measure_lines nest g size)) text) (z : m.number ≡ 0) where
+  lines_none : first_of (measure_lines nest g size) ≡ 0
+  lines_none = sym (number_told _ text) ∙ sym (ap (λ (t : Told). t.number) e) ∙ z
 
-  first : (notCharted nest size ≡ false) × (first_of (line 9 (wrongGrid nest g) ∷ []) ≡ 0)
-  first = none_first 23 (notCharted nest size) (line 9 (wrongGrid nest g) ∷ []) (λ q. omega arith) lines_none
+  first : (not_charted nest size ≡ false) × (first_of (line 9 (wrong_grid nest g) ∷ []) ≡ 0)
+  first = none_first 23 (not_charted nest size) (line 9 (wrong_grid nest g) ∷ []) (λ q. omega arith) lines_none
 
   pub two : nest.dimensions ≡ 2
-  unfolding notCharted
-  two = eqb-true _ _ (true-not (neither first.0).0)
+  unfolding not_charted
+  two = eqb-true _ _ (true_not (neither first.0).0)
 
   pub a-word-a-cell : length g ≡ cells nest
-  unfolding wrongGrid
-  a-word-a-cell = eqb-true _ _ (true-not (none_first 9 (not (eqb (length g) (cells nest))) [] (λ q. omega arith) first.1).0)
+  unfolding wrong_grid
+  a-word-a-cell = eqb-true _ _ (true_not (none_first 9 (not (eqb (length g) (cells nest))) [] (λ q. omega arith) first.1).0)
 
 -- ---- the reader's lines before them
 
 module _ (l : List ℕ) (r : Reading) (e : r ≡ reading_of l) where
-  behind : r.number ≡ 0 → (more : List Line) → first_of (readLines l ++ more) ≡ first_of more
-  behind h more = first-behind (readLines l) more (numbered l) (sym (number_read l r e) ∙ h)
+  behind : r.number ≡ 0 → (more : List Line) → first_of (read_lines l ++ more) ≡ first_of more
+  behind h more = first_behind (read_lines l) more (numbered l) (sym (number_read l r e) ∙ h)
 
-  before : r.number ≢ 0 → (more : List Line) → first_of (readLines l ++ more) ≡ r.number
-  before h more = first_some (readLines l) more (λ q. h (number_read l r e ∙ q)) ∙ sym (number_read l r e)
+  before : r.number ≢ 0 → (more : List Line) → first_of (read_lines l ++ more) ≡ r.number
+  before h more = first_some (read_lines l) more (λ q. h (number_read l r e ∙ q)) ∙ sym (number_read l r e)
 
   module _ (g : List ℕ) (x y : ℤ) (size : ℕ) where
-    pub length-read : (t : Told) → r.number ≢ 0 → Tells t r.number 0 → t ≡ lengthCall l g x y size
-    unfolding lengthCall
+    pub length-read : (t : Told) → r.number ≢ 0 → Tells t r.number 0 → t ≡ length_call l g x y size
+    unfolding length_call
     length-read t h k =
-        told-no t r.number (chartText (nestOf l) g x y size) h k
-        ∙ ap (λ (n : ℕ). toldOf n (chartText (nestOf l) g x y size)) (sym (before h _))
+        told_no t r.number (chart_text (nest_of l) g x y size) h k
+        ∙ ap (λ (n : ℕ). told_of n (chart_text (nest_of l) g x y size)) (sym (before h _))
 
     -- what `measured` told, with the corners as the machine reads them back
     module _ (fx : SFits w32 x) (fy : SFits w32 y) (h : r.number ≡ 0) (t : Told)
-        (k : t ≡ toldOf (first_of (measureLines r.nest g size)) (chartText r.nest g (to_z w32 (of_z w32 x)) (to_z w32 (of_z w32 y)) size)) where
-      told_is : t ≡ toldOf (first_of (measureLines (nestOf l) g size)) (chartText (nestOf l) g x y size)
+        (k : t ≡ told_of (first_of (measure_lines r.nest g size)) (chart_text r.nest g (to_z w32 (of_z w32 x)) (to_z w32 (of_z w32 y)) size)) where
+      told_is : t ≡ told_of (first_of (measure_lines (nest_of l) g size)) (chart_text (nest_of l) g x y size)
       told_is =
-          let k' : t ≡ toldOf (first_of (measureLines r.nest g size)) (chartText r.nest g x y size) =
+          let k' : t ≡ told_of (first_of (measure_lines r.nest g size)) (chart_text r.nest g x y size) =
           rw (to_z-of_z w32 x fx, to_z-of_z w32 y fy) at k in
-          k' ∙ ap (λ (n : Nest). toldOf (first_of (measureLines n g size)) (chartText n g x y size)) (nest-read l r e h)
+          k' ∙ ap (λ (n : Nest). told_of (first_of (measure_lines n g size)) (chart_text n g x y size)) (nest-read l r e h)
 
-      pub length-done : t ≡ lengthCall l g x y size
-      unfolding lengthCall
-      length-done = told_is ∙ ap (λ (n : ℕ). toldOf n (chartText (nestOf l) g x y size)) (sym (behind h _))
+      pub length-done : t ≡ length_call l g x y size
+      unfolding length_call
+      length-done = told_is ∙ ap (λ (n : ℕ). told_of n (chart_text (nest_of l) g x y size)) (sym (behind h _))
 
 -- ---- the text
 
@@ -178,108 +178,108 @@ module _ (a b c : Bool) where
       go false false c z true e = rw e
       go false false c z false e = rw e
 
-unwritten : (t : Told) (n : ℕ) (text s : List ℕ) → n ≢ 0 → Tells t n 0 → written t s ≡ writtenIf n text s
-unfolding writtenIf
+unwritten : (t : Told) (n : ℕ) (text s : List ℕ) → n ≢ 0 → Tells t n 0 → written t s ≡ written_if n text s
+unfolding written_if
 unwritten t zero text s h k = absurd (h refl)
-unwritten t (suc n) text s h k = ap (λ (z : Told). written z s) (told-no t (suc n) text h k)
+unwritten t (suc n) text s h k = ap (λ (z : Told). written z s) (told_no t (suc n) text h k)
 
 module _ (l g : List ℕ) (x y : ℤ) (size : ℕ) (s : List ℕ) where
   abbrev text : List ℕ
-  text = chartText (nestOf l) g x y size
+  text = chart_text (nest_of l) g x y size
 
-  refused : (t : Told) (n : ℕ) → n ≢ 0 → Tells t n 0 → first_of (writeLines l g x y size s) ≡ n → written t s ≡ writeCall l g x y size s
-  unfolding writeCall
-  refused t n h k e = unwritten t n text s h k ∙ ap (λ (m : ℕ). writtenIf m text s) (sym e)
+  refused : (t : Told) (n : ℕ) → n ≢ 0 → Tells t n 0 → first_of (write_lines l g x y size s) ≡ n → written t s ≡ write_call l g x y size s
+  unfolding write_call
+  refused t n h k e = unwritten t n text s h k ∙ ap (λ (m : ℕ). written_if m text s) (sym e)
 
   module _ (r : Reading) (e : r ≡ reading_of l) where
-    pub write_read : (t : Told) → r.number ≢ 0 → Tells t r.number 0 → written t s ≡ writeCall l g x y size s
+    pub write_read : (t : Told) → r.number ≢ 0 → Tells t r.number 0 → written t s ≡ write_call l g x y size s
     write_read t h k = refused t r.number h k (before l r e h _)
 
     module _ (fx : SFits w32 x) (fy : SFits w32 y) (h : r.number ≡ 0) (m : Told)
-        (k : m ≡ toldOf (first_of (measureLines r.nest g size)) (chartText r.nest g (to_z w32 (of_z w32 x)) (to_z w32 (of_z w32 y)) size)) where
-      is : m ≡ toldOf (first_of (measureLines (nestOf l) g size)) text
+        (k : m ≡ told_of (first_of (measure_lines r.nest g size)) (chart_text r.nest g (to_z w32 (of_z w32 x)) (to_z w32 (of_z w32 y)) size)) where
+      is : m ≡ told_of (first_of (measure_lines (nest_of l) g size)) text
       is = told_is l r e g x y size fx fy h m k
 
-      number_is : m.number ≡ first_of (measureLines (nestOf l) g size)
-      number_is = ap (λ (z : Told). z.number) is ∙ number-told _ text
+      number_is : m.number ≡ first_of (measure_lines (nest_of l) g size)
+      number_is = ap (λ (z : Told). z.number) is ∙ number_told _ text
 
-      pub write-fault : (t : Told) → m.number ≢ 0 → Tells t m.number 0 → written t s ≡ writeCall l g x y size s
+      pub write-fault : (t : Told) → m.number ≢ 0 → Tells t m.number 0 → written t s ≡ write_call l g x y size s
       unfolding pair
       write-fault t j q =
           refused t m.number j q
           (behind l r e h _
-          ∙ kept (notCharted (nestOf l) size) (wrongGrid (nestOf l) g) (ltb (length s) (length text)) (λ z. j (number_is ∙ z))
+          ∙ kept (not_charted (nest_of l) size) (wrong_grid (nest_of l) g) (ltb (length s) (length text)) (λ z. j (number_is ∙ z))
           ∙ sym number_is)
 
       module _ (j : m.number ≡ 0) where
-        none : first_of (measureLines (nestOf l) g size) ≡ 0
+        none : first_of (measure_lines (nest_of l) g size) ≡ 0
         none = sym number_is ∙ j
 
         long : m.length ≡ length text
         long = ap (λ (z : Told). z.length) is ∙ length-told _ text none
 
-        pub write-short : (t : Told) → length s < m.length → Tells t 9 0 → written t s ≡ writeCall l g x y size s
+        pub write-short : (t : Told) → length s < m.length → Tells t 9 0 → written t s ≡ write_call l g x y size s
         unfolding pair pick
         write-short t q w =
             refused t 9 (λ z. omega arith) w
-            (behind l r e h _ ∙ late (notCharted (nestOf l) size) (wrongGrid (nestOf l) g) (ltb (length s) (length text)) none true
+            (behind l r e h _ ∙ late (not_charted (nest_of l) size) (wrong_grid (nest_of l) g) (ltb (length s) (length text)) none true
             (lt-ltb (length s) (length text) (omega (arith, long))))
 
         pub write_done : m.length ≤ length s → (q : ℕ) (t : List ℕ)
-            → pen q t ≡ write (pen 0 s) (chartText r.nest g (to_z w32 (of_z w32 x)) (to_z w32 (of_z w32 y)) size)
-            → written m t ≡ writeCall l g x y size s
-        unfolding writeCall writtenIf pair pick
+            → pen q t ≡ write (pen 0 s) (chart_text r.nest g (to_z w32 (of_z w32 x)) (to_z w32 (of_z w32 y)) size)
+            → written m t ≡ write_call l g x y size s
+        unfolding write_call written_if pair pick
         write_done f q t w =
-            let w₁ : pen q t ≡ write (pen 0 s) (chartText r.nest g x y size) = rw (to_z-of_z w32 x fx, to_z-of_z w32 y fy) at w in
-            let w₂ : pen q t ≡ write (pen 0 s) text = w₁ ∙ ap (λ (n : Nest). write (pen 0 s) (chartText n g x y size)) (nest-read l r e h) in
-            let u : t ≡ text ++ drop (length text) s = ap (λ (z : Pen). z.space) w₂ ∙ write-front s text (omega (arith, long, f)) in
-            let m' : m ≡ toldOf 0 text = is ∙ ap (λ (n : ℕ). toldOf n text) none in
-            let z : first_of (writeLines l g x y size s) ≡ 0 =
-            behind l r e h _ ∙ late (notCharted (nestOf l) size) (wrongGrid (nestOf l) g) (ltb (length s) (length text)) none false
+            let w₁ : pen q t ≡ write (pen 0 s) (chart_text r.nest g x y size) = rw (to_z-of_z w32 x fx, to_z-of_z w32 y fy) at w in
+            let w₂ : pen q t ≡ write (pen 0 s) text = w₁ ∙ ap (λ (n : Nest). write (pen 0 s) (chart_text n g x y size)) (nest-read l r e h) in
+            let u : t ≡ text ++ drop (length text) s = ap (λ (z : Pen). z.space) w₂ ∙ write_front s text (omega (arith, long, f)) in
+            let m' : m ≡ told_of 0 text = is ∙ ap (λ (n : ℕ). told_of n text) none in
+            let z : first_of (write_lines l g x y size s) ≡ 0 =
+            behind l r e h _ ∙ late (not_charted (nest_of l) size) (wrong_grid (nest_of l) g) (ltb (length s) (length text)) none false
             (le-ltb (length s) (length text) (omega (arith, long, f))) in
-            ap (λ (o : Told). written o t) m' ∙ ap (written (toldOf 0 text)) u ∙ ap (λ (n : ℕ). writtenIf n text s) (sym z)
+            ap (λ (o : Told). written o t) m' ∙ ap (written (told_of 0 text)) u ∙ ap (λ (n : ℕ). written_if n text s) (sym z)
 
 -- ---- what a caller has of the two calls
 
-module _ (l g : List ℕ) (x y : ℤ) (size : ℕ) (t : Told) (e : t ≡ lengthCall l g x y size) where
-  pub length-number : t.number ≡ first_of (lengthLines l g size)
-  unfolding lengthCall
-  length-number = ap (λ (z : Told). z.number) e ∙ number-told _ (chartText (nestOf l) g x y size)
+module _ (l g : List ℕ) (x y : ℤ) (size : ℕ) (t : Told) (e : t ≡ length_call l g x y size) where
+  pub length-number : t.number ≡ first_of (length_lines l g size)
+  unfolding length_call
+  length-number = ap (λ (z : Told). z.number) e ∙ number_told _ (chart_text (nest_of l) g x y size)
 
-  pub length-length : t.number ≡ 0 → t.length ≡ length (chartText (nestOf l) g x y size)
-  unfolding lengthCall
+  pub length-length : t.number ≡ 0 → t.length ≡ length (chart_text (nest_of l) g x y size)
+  unfolding length_call
   length-length h =
-      ap (λ (z : Told). z.length) e ∙ length-told _ (chartText (nestOf l) g x y size) (sym length-number ∙ h)
+      ap (λ (z : Told). z.length) e ∙ length-told _ (chart_text (nest_of l) g x y size) (sym length-number ∙ h)
 
-written-number : (n : ℕ) (text s : List ℕ) → (writtenIf n text s).told.number ≡ n
-unfolding writtenIf toldOf
+written-number : (n : ℕ) (text s : List ℕ) → (written_if n text s).told.number ≡ n
+unfolding written_if told_of
 written-number zero text s = refl
 written-number (suc n) text s = refl
 
-written-left : (n : ℕ) (text s : List ℕ) → n ≢ 0 → (writtenIf n text s).space ≡ s
-unfolding writtenIf
+written-left : (n : ℕ) (text s : List ℕ) → n ≢ 0 → (written_if n text s).space ≡ s
+unfolding written_if
 written-left zero text s h = absurd (h refl)
 written-left (suc n) text s h = refl
 
-written-wrote : (n : ℕ) (text s : List ℕ) → n ≡ 0 → writtenIf n text s ≡ written (toldOf 0 text) (text ++ drop (length text) s)
-unfolding writtenIf
+written-wrote : (n : ℕ) (text s : List ℕ) → n ≡ 0 → written_if n text s ≡ written (told_of 0 text) (text ++ drop (length text) s)
+unfolding written_if
 written-wrote zero text s h = refl
 written-wrote (suc n) text s h = absurd (omega arith)
 
-module _ (l g : List ℕ) (x y : ℤ) (size : ℕ) (s : List ℕ) (t : Told) (u : List ℕ) (e : written t u ≡ writeCall l g x y size s) where
+module _ (l g : List ℕ) (x y : ℤ) (size : ℕ) (s : List ℕ) (t : Told) (u : List ℕ) (e : written t u ≡ write_call l g x y size s) where
   abbrev its : List ℕ
-  its = chartText (nestOf l) g x y size
+  its = chart_text (nest_of l) g x y size
 
-  pub write-number : t.number ≡ first_of (writeLines l g x y size s)
-  unfolding writeCall
+  pub write-number : t.number ≡ first_of (write_lines l g x y size s)
+  unfolding write_call
   write-number = ap (λ (z : Written). z.told.number) e ∙ written-number _ its s
 
   pub write-left : t.number ≢ 0 → u ≡ s
-  unfolding writeCall
+  unfolding write_call
   write-left h = ap (λ (z : Written). z.space) e ∙ written-left _ its s (λ q. h (write-number ∙ q))
 
-  whole : t.number ≡ 0 → written t u ≡ written (toldOf 0 its) (its ++ drop (length its) s)
-  unfolding writeCall
+  whole : t.number ≡ 0 → written t u ≡ written (told_of 0 its) (its ++ drop (length its) s)
+  unfolding write_call
   whole h = e ∙ written-wrote _ its s (sym write-number ∙ h)
 
   pub write-wrote : t.number ≡ 0 → u ≡ its ++ drop (length its) s
@@ -292,51 +292,51 @@ module _ (l g : List ℕ) (x y : ℤ) (size : ℕ) (s : List ℕ) (t : Told) (u 
 module _ (l g : List ℕ) (x y : ℤ) (size : ℕ) (s : List ℕ) where
   abbrev behind-read : List Line
   behind-read =
-      line 23 (notCharted (nestOf l) size)
-      ∷ line 9 (wrongGrid (nestOf l) g or ltb (length s) (length (chartText (nestOf l) g x y size)))
+      line 23 (not_charted (nest_of l) size)
+      ∷ line 9 (wrong_grid (nest_of l) g or ltb (length s) (length (chart_text (nest_of l) g x y size)))
       ∷ []
 
-  pub lines-kept : first_of (lengthLines l g size) ≢ 0 → first_of (writeLines l g x y size s) ≡ first_of (lengthLines l g size)
+  pub lines-kept : first_of (length_lines l g size) ≢ 0 → first_of (write_lines l g x y size s) ≡ first_of (length_lines l g size)
   unfolding pair
-  lines-kept h = go (ℕ_discrete (first_of (readLines l)) 0)
+  lines-kept h = go (ℕ_discrete (first_of (read_lines l)) 0)
     where
-      go : Dec (first_of (readLines l) ≡ 0) → first_of (writeLines l g x y size s) ≡ first_of (lengthLines l g size)
-      go (no k) = first_some (readLines l) behind-read k ∙ sym (first_some (readLines l) (measureLines (nestOf l) g size) k)
+      go : Dec (first_of (read_lines l) ≡ 0) → first_of (write_lines l g x y size s) ≡ first_of (length_lines l g size)
+      go (no k) = first_some (read_lines l) behind-read k ∙ sym (first_some (read_lines l) (measure_lines (nest_of l) g size) k)
       go (yes z) =
-          let e = first-behind (readLines l) (measureLines (nestOf l) g size) (numbered l) z in
-          first-behind (readLines l) behind-read (numbered l) z
-          ∙ kept (notCharted (nestOf l) size) (wrongGrid (nestOf l) g) (ltb (length s) (length (chartText (nestOf l) g x y size))) (λ q. h (e ∙ q))
+          let e = first_behind (read_lines l) (measure_lines (nest_of l) g size) (numbered l) z in
+          first_behind (read_lines l) behind-read (numbered l) z
+          ∙ kept (not_charted (nest_of l) size) (wrong_grid (nest_of l) g) (ltb (length s) (length (chart_text (nest_of l) g x y size))) (λ q. h (e ∙ q))
           ∙ sym e
 
-  pub lines-late : first_of (lengthLines l g size) ≡ 0 → (first_of (writeLines l g x y size s) ≡ 0) ⊎ (first_of (writeLines l g x y size s) ≡ 9)
+  pub lines-late : first_of (length_lines l g size) ≡ 0 → (first_of (write_lines l g x y size s) ≡ 0) ⊎ (first_of (write_lines l g x y size s) ≡ 9)
   unfolding pair pick
-  lines-late h = go (ltb (length s) (length (chartText (nestOf l) g x y size))) refl
+  lines-late h = go (ltb (length s) (length (chart_text (nest_of l) g x y size))) refl
     where
-      behind-none : first_of (measureLines (nestOf l) g size) ≡ 0
-      behind-none = none-behind (readLines l) (measureLines (nestOf l) g size) (numbered l) h
+      behind_none : first_of (measure_lines (nest_of l) g size) ≡ 0
+      behind_none = none_behind (read_lines l) (measure_lines (nest_of l) g size) (numbered l) h
 
-      first-none : first_of (readLines l) ≡ 0
-      first-none = none-front (readLines l) (measureLines (nestOf l) g size) h
+      first_none : first_of (read_lines l) ≡ 0
+      first_none = none_front (read_lines l) (measure_lines (nest_of l) g size) h
 
-      go : (d : Bool) → ltb (length s) (length (chartText (nestOf l) g x y size)) ≡ d
-          → (first_of (writeLines l g x y size s) ≡ 0) ⊎ (first_of (writeLines l g x y size s) ≡ 9)
+      go : (d : Bool) → ltb (length s) (length (chart_text (nest_of l) g x y size)) ≡ d
+          → (first_of (write_lines l g x y size s) ≡ 0) ⊎ (first_of (write_lines l g x y size s) ≡ 9)
       go true e =
-          inr (first-behind (readLines l) behind-read (numbered l) first-none
-          ∙ late (notCharted (nestOf l) size) (wrongGrid (nestOf l) g) (ltb (length s) (length (chartText (nestOf l) g x y size))) behind-none true e)
+          inr (first_behind (read_lines l) behind-read (numbered l) first_none
+          ∙ late (not_charted (nest_of l) size) (wrong_grid (nest_of l) g) (ltb (length s) (length (chart_text (nest_of l) g x y size))) behind_none true e)
       go false e =
-          inl (first-behind (readLines l) behind-read (numbered l) first-none
-          ∙ late (notCharted (nestOf l) size) (wrongGrid (nestOf l) g) (ltb (length s) (length (chartText (nestOf l) g x y size))) behind-none false e)
+          inl (first_behind (read_lines l) behind-read (numbered l) first_none
+          ∙ late (not_charted (nest_of l) size) (wrong_grid (nest_of l) g) (ltb (length s) (length (chart_text (nest_of l) g x y size))) behind_none false e)
 
-  pub write-numbered : Numbered (writeLines l g x y size s)
-  write-numbered = go (readLines l) (numbered l)
+  pub write-numbered : Numbered (write_lines l g x y size s)
+  write-numbered = go (read_lines l) (numbered l)
     where
       go : (a : List Line) → Numbered a → Numbered (a ++ behind-read)
       go [] n = (λ q. omega arith, (λ q. omega arith, tt))
       go (k ∷ a) n = (n.0, go a n.1)
 
-pub length-numbered : (l g : List ℕ) (size : ℕ) → Numbered (lengthLines l g size)
-length-numbered l g size = go (readLines l) (numbered l)
+pub length-numbered : (l g : List ℕ) (size : ℕ) → Numbered (length_lines l g size)
+length-numbered l g size = go (read_lines l) (numbered l)
   where
-    go : (a : List Line) → Numbered a → Numbered (a ++ measureLines (nestOf l) g size)
+    go : (a : List Line) → Numbered a → Numbered (a ++ measure_lines (nest_of l) g size)
     go [] n = (λ q. omega arith, (λ q. omega arith, tt))
     go (k ∷ a) n = (n.0, go a n.1)

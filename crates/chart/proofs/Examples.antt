@@ -2,35 +2,35 @@
 use mathlib.Core.Path.{refl}
 use Rattle.base.specs.Tests.{◌and◌, ◌or◌, not, pick, every, some, keep, those, tabulate, product}
 use Rattle.base.specs.Numbers.{first_of}
-use Rattle.nest.specs.Nest.{tileCount, cells, boxTiles, processors}
-use Rattle.nest.specs.Places.{rank, place, cellPlace, tileAt, boxTileOf}
-use Rattle.nest.specs.Shape.{level, raised, meets, inShape, exists, existing, tiles}
-use Rattle.nest.specs.Reader.{ofKind, filled, nestBy, nestOf, ragged, blank, boundFits, checked, mayStand, fitsAt, wellFormed, strayRecord, noLength}
-use Rattle.nest.specs.Reader.{badLength, tooLarge, needlesslyWide, noCell, same, beyond, faulty, badDistance, reached, badTile, badSpread}
-use Rattle.nest.specs.Reader.{lastSpread, badProcessors, tooManyTiles, nestLines, readLines}
-use Rattle.text.specs.Decimal.{decimal, signed, digitsIn}
-use Rattle.text.specs.Grid.{gridText, header, headLine, row, more, rows_from, cell}
-use Rattle.chart.specs.Call.{notCharted, wrongGrid, toldOf, lengthCall, writtenIf, writeCall}
+use Rattle.nest.specs.Nest.{tile_count, cells, box_tiles, processors}
+use Rattle.nest.specs.Places.{rank, place, cell_place, tile_at, box_tile_of}
+use Rattle.nest.specs.Shape.{level, raised, meets, in_shape, exists, existing, tiles}
+use Rattle.nest.specs.Reader.{of_kind, filled, nest_by, nest_of, ragged, blank, bound_fits, checked, may_stand, fits_at, well_formed, stray_record, no_length}
+use Rattle.nest.specs.Reader.{bad_length, too_large, needlessly_wide, no_cell, same, beyond, faulty, bad_distance, reached, bad_tile, bad_spread}
+use Rattle.nest.specs.Reader.{last_spread, bad_processors, too_many_tiles, nest_lines, read_lines}
+use Rattle.text.specs.Decimal.{decimal, signed, digits_in}
+use Rattle.text.specs.Grid.{grid_text, header, head_line, row, more, rows_from, cell}
+use Rattle.chart.specs.Call.{not_charted, wrong_grid, told_of, length_call, written_if, write_call}
 use Rattle.chart.specs.Examples.{ChartExamples}
 
 pub rows : ChartExamples
-unfolding first_of ◌and◌ ◌or◌ not pick every some keep those tabulate product rank place cellPlace tileAt boxTileOf tileCount cells boxTiles processors level
-    raised meets inShape exists existing tiles ofKind filled nestBy nestOf ragged blank boundFits checked mayStand fitsAt wellFormed strayRecord noLength
-    badLength tooLarge needlesslyWide noCell same beyond faulty badDistance reached badTile badSpread lastSpread badProcessors tooManyTiles nestLines
-    readLines decimal signed digitsIn gridText header headLine row more rows_from cell notCharted wrongGrid toldOf lengthCall writtenIf writeCall
+unfolding first_of ◌and◌ ◌or◌ not pick every some keep those tabulate product rank place cell_place tile_at box_tile_of tile_count cells box_tiles processors level
+    raised meets in_shape exists existing tiles of_kind filled nest_by nest_of ragged blank bound_fits checked may_stand fits_at well_formed stray_record no_length
+    bad_length too_large needlessly_wide no_cell same beyond faulty bad_distance reached bad_tile bad_spread last_spread bad_processors too_many_tiles nest_lines
+    read_lines decimal signed digits_in grid_text header head_line row more rows_from cell not_charted wrong_grid told_of length_call written_if write_call
 rows =
     record {
       whole = refl;
       exact = refl;
       long = refl;
-      size-0 = refl;
-      size-1 = refl;
-      size-most = refl;
+      size_0 = refl;
+      size_1 = refl;
+      size_most = refl;
       size_above = refl;
       dimensions = refl;
-      grid-short = refl;
-      size-first = refl;
-      reader-first = refl;
-      space-short = refl;
-      size-before-space = refl;
+      grid_short = refl;
+      size_first = refl;
+      reader_first = refl;
+      space_short = refl;
+      size_before_space = refl;
     }

@@ -12,42 +12,42 @@ use borrow.Author.Tests.{eqb-true, ltb-false}
 use Rattle.base.specs.Lists.{Bytes}
 use Rattle.base.specs.Tests.{◌or◌, not}
 use Rattle.base.specs.Numbers.{first_of}
-use Rattle.base.proofs.Tests.{true-not, neither}
+use Rattle.base.proofs.Tests.{true_not, neither}
 use Rattle.base.proofs.Numbers.{none_first}
-use Rattle.nest.specs.Reader.{readLines, nestOf}
+use Rattle.nest.specs.Reader.{read_lines, nest_of}
 use Rattle.nest.proofs.Facts.{accepted}
 use Rattle.nest.proofs.Numbered.{numbered}
-use Rattle.chart.specs.grid_text.Text.{chartText}
-use Rattle.chart.specs.Call.{notCharted, measureLines, toldOf, lengthLines, lengthCall}
+use Rattle.chart.specs.grid_text.Text.{chart_text}
+use Rattle.chart.specs.Call.{not_charted, measure_lines, told_of, length_lines, length_call}
 use Rattle.chart.specs.Longest.{Longest}
 use Rattle.text.proofs.Digits.{size_few}
-use Rattle.chart.proofs.grid_text.Lengths.{Words, text-few}
-use Rattle.chart.proofs.Answers.{none-front, none-behind}
+use Rattle.chart.proofs.grid_text.Lengths.{Words, text_few}
+use Rattle.chart.proofs.Answers.{none_front, none_behind}
 
 module _ (bytes g : List ℕ) (x y : ℤ) (size : ℕ) (b : Bytes bytes) (words : Words g) (fx : SFits w32 x) (fy : SFits w32 y) where
   abbrev text : List ℕ
-  text = chartText (nestOf bytes) g x y size
+  text = chart_text (nest_of bytes) g x y size
 
-  short : first_of (lengthLines bytes g size) ≡ 0 → length text ≤ 180322
-  unfolding notCharted
+  short : first_of (length_lines bytes g size) ≡ 0 → length text ≤ 180322
+  unfolding not_charted
   short z =
-      let behind = none-behind (readLines bytes) (measureLines (nestOf bytes) g size) (numbered bytes) z in
-      let fine = neither (none_first 23 (notCharted (nestOf bytes) size) _ (λ q. omega arith) behind).0 in
+      let behind = none_behind (read_lines bytes) (measure_lines (nest_of bytes) g size) (numbered bytes) z in
+      let fine = neither (none_first 23 (not_charted (nest_of bytes) size) _ (λ q. omega arith) behind).0 in
       let low = ltb-false 65535 size (neither fine.1).1 in
       omega (
         arith,
-        text-few (nestOf bytes) (accepted bytes b (none-front (readLines bytes) (measureLines (nestOf bytes) g size) z))
-            (eqb-true _ _ (true-not fine.0)) x y fx fy size 5 (size_few size low) g words,
+        text_few (nest_of bytes) (accepted bytes b (none_front (read_lines bytes) (measure_lines (nest_of bytes) g size) z))
+            (eqb-true _ _ (true_not fine.0)) x y fx fy size 5 (size_few size low) g words,
       )
 
-  told : (n : ℕ) → (n ≡ 0 → length text ≤ 180322) → (toldOf n text).length ≤ 180322
-  unfolding toldOf
+  told : (n : ℕ) → (n ≡ 0 → length text ≤ 180322) → (told_of n text).length ≤ 180322
+  unfolding told_of
   told zero h = h refl
   told (suc n) h = omega arith
 
-  pub not-longer : (lengthCall bytes g x y size).length ≤ 180322
-  unfolding lengthCall
-  not-longer = told (first_of (lengthLines bytes g size)) short
+  pub not_longer : (length_call bytes g x y size).length ≤ 180322
+  unfolding length_call
+  not_longer = told (first_of (length_lines bytes g size)) short
 
 pub longest : Longest
-longest = record { most = λ bytes g x y size b words fx fy. not-longer bytes g x y size b words fx fy }
+longest = record { most = λ bytes g x y size b words fx fy. not_longer bytes g x y size b words fx fy }

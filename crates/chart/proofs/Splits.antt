@@ -3,7 +3,7 @@ use Prim.Native.Nat.{ℕ, ◌≤◌, ◌<◌}
 use mathlib.Core.Path.{◌≡◌, refl, sym, ap, ◌∙◌}
 use mathlib.Core.List.{List, [], ◌∷◌, ◌++◌, append_assoc}
 use native.Mathlib.Omega.{arith}
-use Rattle.text.specs.Grid.{space, feed, headLine}
+use Rattle.text.specs.Grid.{space, feed, head_line}
 use Rattle.text.proofs.Decimals.{Plain}
 
 -- it starts with a space or a line feed
@@ -24,16 +24,16 @@ split (x ∷ a) (y ∷ b) s t p q m n e =
     let u : a ≡ b = i.0 in
     (cc, i.1)
 
-pub cut-same : (a s t : List ℕ) → a ++ s ≡ a ++ t → s ≡ t
-cut-same [] s t e = e
-cut-same (x ∷ a) s t e = cut-same a s t cc
+pub cut_same : (a s t : List ℕ) → a ++ s ≡ a ++ t → s ≡ t
+cut_same [] s t e = e
+cut_same (x ∷ a) s t e = cut_same a s t cc
 
 -- a line's name is the same: so are its value and what follows the line
-pub head-split : (name v w s t : List ℕ) → Plain v → Plain w → headLine name v ++ s ≡ headLine name w ++ t → (v ≡ w) × (s ≡ t)
-unfolding headLine
-head-split name v w s t p q e =
+pub head_split : (name v w s t : List ℕ) → Plain v → Plain w → head_line name v ++ s ≡ head_line name w ++ t → (v ≡ w) × (s ≡ t)
+unfolding head_line
+head_split name v w s t p q e =
     let e₁ : name ++ (space ∷ (v ++ (feed ∷ s))) ≡ name ++ (space ∷ (w ++ (feed ∷ t))) = simp append_assoc at e in
-    let e₂ : space ∷ (v ++ (feed ∷ s)) ≡ space ∷ (w ++ (feed ∷ t)) = cut-same name _ _ e₁ in
+    let e₂ : space ∷ (v ++ (feed ∷ s)) ≡ space ∷ (w ++ (feed ∷ t)) = cut_same name _ _ e₁ in
     let e₃ : v ++ (feed ∷ s) ≡ w ++ (feed ∷ t) = cc in
     let r = split v w (feed ∷ s) (feed ∷ t) p q (omega arith) (omega arith) e₃ in
     let r₁ : feed ∷ s ≡ feed ∷ t = r.1 in

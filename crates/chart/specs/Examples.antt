@@ -3,7 +3,7 @@
 use Rattle.std.specs.Prelude.{ℕ, ◌≡◌, List, [], ◌∷◌, ◌++◌, replicate, ℤ, pos, negsuc}
 use Rattle.nest.specs.Recipes.{dimension, bound, distance, close}
 use Rattle.chart.specs.declared.Told.{Told}
-use Rattle.chart.specs.Call.{lengthCall, writeCall, written}
+use Rattle.chart.specs.Call.{length_call, write_call, written}
 
 -- N 2,3 with i2 at least i1, so that the second row's first cell is outside the shape; k 1,1 P 2,0, distance (1,0)
 abbrev pub slope : List ℕ
@@ -42,27 +42,27 @@ tells n l = record { number = n; length = l }
 
 -- the length alone, of this recipe's grid with a cell size; the grid one word short
 abbrev pub length_at : ℕ → Told
-length_at size = lengthCall slope grid west south size
+length_at size = length_call slope grid west south size
 
-abbrev pub lengthShort : ℕ → Told
-lengthShort size = lengthCall slope (5 ∷ 0 ∷ 4294967295 ∷ 77 ∷ 10 ∷ []) west south size
+abbrev pub length_short : ℕ → Told
+length_short size = length_call slope (5 ∷ 0 ∷ 4294967295 ∷ 77 ∷ 10 ∷ []) west south size
 
 pub record ChartExamples : Type 0 where
   -- 104 bytes in the place of the space's, those past them as before; a space of exactly the text; the other call tells the same length
-  pub whole : writeCall slope grid west south 250 (replicate 104 0 ++ (7 ∷ 8 ∷ 9 ∷ [])) ≡ written (tells 0 104) (text ++ (7 ∷ 8 ∷ 9 ∷ []))
-  pub exact : writeCall slope grid west south 250 (replicate 104 0) ≡ written (tells 0 104) text
+  pub whole : write_call slope grid west south 250 (replicate 104 0 ++ (7 ∷ 8 ∷ 9 ∷ [])) ≡ written (tells 0 104) (text ++ (7 ∷ 8 ∷ 9 ∷ []))
+  pub exact : write_call slope grid west south 250 (replicate 104 0) ≡ written (tells 0 104) text
   pub long : length_at 250 ≡ tells 0 104
   -- the cell size: 1 to 65,535; nothing is told at a refusal
-  pub size-0 : length_at 0 ≡ tells 23 0
-  pub size-1 : length_at 1 ≡ tells 0 102
-  pub size-most : length_at 65535 ≡ tells 0 106
+  pub size_0 : length_at 0 ≡ tells 23 0
+  pub size_1 : length_at 1 ≡ tells 0 102
+  pub size_most : length_at 65535 ≡ tells 0 106
   pub size_above : length_at 65536 ≡ tells 23 0
   -- three dimensions
-  pub dimensions : lengthCall solid (5 ∷ []) west south 250 ≡ tells 23 0
+  pub dimensions : length_call solid (5 ∷ []) west south 250 ≡ tells 23 0
   -- 9 for the grid's length, 23 before it; the reader's number before 23
-  pub grid-short : lengthShort 250 ≡ tells 9 0
-  pub size-first : lengthShort 65536 ≡ tells 23 0
-  pub reader-first : lengthCall [] grid west south 0 ≡ tells 1 0
+  pub grid_short : length_short 250 ≡ tells 9 0
+  pub size_first : length_short 65536 ≡ tells 23 0
+  pub reader_first : length_call [] grid west south 0 ≡ tells 1 0
   -- 9 for a space that the text has no room in, which stays as it was; 23 before it
-  pub space-short : writeCall slope grid west south 250 (replicate 103 7) ≡ written (tells 9 0) (replicate 103 7)
-  pub size-before-space : writeCall slope grid west south 0 (7 ∷ 8 ∷ 9 ∷ []) ≡ written (tells 23 0) (7 ∷ 8 ∷ 9 ∷ [])
+  pub space_short : write_call slope grid west south 250 (replicate 103 7) ≡ written (tells 9 0) (replicate 103 7)
+  pub size_before_space : write_call slope grid west south 0 (7 ∷ 8 ∷ 9 ∷ []) ≡ written (tells 23 0) (7 ∷ 8 ∷ 9 ∷ [])

@@ -6,7 +6,7 @@ use Rattle.std.specs.Prelude.{ℕ, ◌≤◌, ◌<◌, List, get_or, ℤ}
 use Rattle.std.specs.Int.{w32}
 use Rattle.std.proofs.Common.{SFits}
 use Rattle.base.specs.Lists.{Bytes}
-use Rattle.chart.specs.Call.{lengthCall}
+use Rattle.chart.specs.Call.{length_call}
 
 -- for bytes, words of 32 bits and signed numbers of 32 bits, whatever else they are
 pub record Longest : Type 0 where
@@ -15,4 +15,4 @@ pub record Longest : Type 0 where
       → ((i : ℕ) → get_or grid i 0 < 4294967296)
       → SFits w32 x
       → SFits w32 y
-      → (lengthCall bytes grid x y size).length ≤ 180322
+      → (length_call bytes grid x y size).length ≤ 180322

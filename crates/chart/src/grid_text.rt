@@ -4,13 +4,13 @@
 ghost use Rattle.std.specs.Prelude.{◌≡◌, ◌+◌, ◌*◌, ◌≤◌, ◌<◌, length};
 ghost use Rattle.nest.specs.Accepted.{Accepted};
 ghost use Rattle.nest.specs.Nest.{cells, length_of};
-ghost use Rattle.nest.specs.Shape.{inShape};
+ghost use Rattle.nest.specs.Shape.{in_shape};
 ghost use Rattle.nest.specs.Spans.{within};
 ghost use Rattle.text.specs.Decimal.{decimal, signed};
 ghost use Rattle.text.specs.Writing.{pen, write};
-ghost use Rattle.text.specs.Grid.{frame, headLine, header, cell, more, row, rows_from};
+ghost use Rattle.text.specs.Grid.{frame, head_line, header, cell, more, row, rows_from};
 ghost use Rattle.chart.specs.grid_text.Rows.{Shown, Rows};
-ghost use Rattle.chart.specs.grid_text.Text.{chartText};
+ghost use Rattle.chart.specs.grid_text.Text.{chart_text};
 
 use nest::{Interval, Nest};
 
@@ -18,8 +18,8 @@ use nest::{Interval, Nest};
 
 // A line: its name, a space, its number, a line feed.
 fn put_line(space: &mut [u8], at: usize, name: &[u8], n: u32) -> usize
-    requires { at + length (headLine name.now (decimal n)) ≤ 4294967295 }
-    ensures { pen result space.new ≡ write (pen at space.old) (headLine name.now (decimal n)) }
+    requires { at + length (head_line name.now (decimal n)) ≤ 4294967295 }
+    ensures { pen result space.new ≡ write (pen at space.old) (head_line name.now (decimal n)) }
 {
     let a = text::put_bytes(space, at, name);
     let b = text::put(space, a, 32);
@@ -29,8 +29,8 @@ fn put_line(space: &mut [u8], at: usize, name: &[u8], n: u32) -> usize
 
 // A line with a number of either sign.
 fn put_signed_line(space: &mut [u8], at: usize, name: &[u8], z: i32) -> usize
-    requires { at + length (headLine name.now (signed z)) ≤ 4294967295 }
-    ensures { pen result space.new ≡ write (pen at space.old) (headLine name.now (signed z)) }
+    requires { at + length (head_line name.now (signed z)) ≤ 4294967295 }
+    ensures { pen result space.new ≡ write (pen at space.old) (head_line name.now (signed z)) }
 {
     let a = text::put_bytes(space, at, name);
     let b = text::put(space, a, 32);
@@ -118,9 +118,9 @@ fn put_row(space: &mut [u8], at: usize, grid: &[u32], s: Interval, c: usize, n: 
 }
 
 fn put_rows(space: &mut [u8], at: usize, grid: &[u32], nest: Nest, n: usize, k: usize) -> usize
-    requires k_bound { at + length (rows_from grid.now (inShape nest) n 0 k) ≤ 4294967295 }
+    requires k_bound { at + length (rows_from grid.now (in_shape nest) n 0 k) ≤ 4294967295 }
     requires rows { Rows nest (length grid.now) n k }
-    ensures { pen result space.new ≡ write (pen at space.old) (rows_from grid.now (inShape nest) n 0 k) }
+    ensures { pen result space.new ≡ write (pen at space.old) (rows_from grid.now (in_shape nest) n 0 k) }
 {
     let mut place = at;
     let mut c = 0;
@@ -138,7 +138,7 @@ fn put_rows(space: &mut [u8], at: usize, grid: &[u32], nest: Nest, n: usize, k: 
 
 pub fn put_text(space: &mut [u8], grid: &[u32], nest: Nest, x: i32, y: i32, size: u32) -> usize
     requires { Accepted nest × ((nest.dimensions ≡ 2) × (length grid.now ≡ cells nest)) }
-    ensures space_after { pen result space.new ≡ write (pen 0 space.old) (chartText nest grid.now x y size) }
+    ensures space_after { pen result space.new ≡ write (pen 0 space.old) (chart_text nest grid.now x y size) }
     ensures upper_bound { result ≤ 4294967295 }
 {
     let lengths = nest.lengths;

@@ -2,8 +2,8 @@
 ghost use Rattle.std.specs.Prelude.{◌≡◌};
 ghost use Rattle.nest.specs.Accepted.{Accepted};
 ghost use Rattle.base.specs.Numbers.{first_of};
-ghost use Rattle.chart.specs.grid_text.Text.{chartText};
-ghost use Rattle.chart.specs.Call.{measureLines, toldOf, lengthCall, written, writeCall};
+ghost use Rattle.chart.specs.grid_text.Text.{chart_text};
+ghost use Rattle.chart.specs.Call.{measure_lines, told_of, length_call, written, write_call};
 
 use crate::grid_text::put_text;
 use nest::Nest;
@@ -30,7 +30,7 @@ fn tell(number: u32, length: u32) -> Told
 // The number by lines 23 and 9, and the text's length.
 fn measured(nest: Nest, grid: &[u32], x: i32, y: i32, cell_size: u32) -> Told
     requires { Accepted nest }
-    ensures { result ≡ toldOf (first_of (measureLines nest grid.now cell_size)) (chartText nest grid.now x y cell_size) }
+    ensures { result ≡ told_of (first_of (measure_lines nest grid.now cell_size)) (chart_text nest grid.now x y cell_size) }
 {
     if nest.dimensions != 2 {
         return tell(23, 0);
@@ -54,7 +54,7 @@ fn measured(nest: Nest, grid: &[u32], x: i32, y: i32, cell_size: u32) -> Told
 
 // The length of the grid's text.
 pub fn length_of(encoded: &[u8], grid: &[u32], x: i32, y: i32, cell_size: u32) -> Told
-    ensures { result ≡ lengthCall encoded.now grid.now x y cell_size }
+    ensures { result ≡ length_call encoded.now grid.now x y cell_size }
 {
     let reading = reader::read(encoded);
     let number = reading.number;
@@ -66,7 +66,7 @@ pub fn length_of(encoded: &[u8], grid: &[u32], x: i32, y: i32, cell_size: u32) -
 
 // The grid's text at the front of the space.
 pub fn write(encoded: &[u8], grid: &[u32], x: i32, y: i32, cell_size: u32, space: &mut [u8]) -> Told
-    ensures { written result space.new ≡ writeCall encoded.now grid.now x y cell_size space.old }
+    ensures { written result space.new ≡ write_call encoded.now grid.now x y cell_size space.old }
 {
     let reading = reader::read(encoded);
     let number = reading.number;

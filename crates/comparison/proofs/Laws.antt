@@ -14,93 +14,93 @@ use Rattle.base.specs.Tests.{◌and◌, ◌or◌, pick}
 use Rattle.base.specs.Alike.{same_words}
 use Rattle.base.specs.Numbers.{first_of}
 use Rattle.base.proofs.Alike.{same_self}
-use Rattle.base.proofs.Tests.{both, and-true, and_left, and-false, and_no, or_left, neither, not-true, true-not}
-use Rattle.base.proofs.Tests.{length-tabulate, tabulate-at}
-use Rattle.base.proofs.Numbers.{first-false, first-behind, none_first, none-behind}
+use Rattle.base.proofs.Tests.{both, and_true, and_left, and_false, and_no, or_left, neither, not-true, true_not}
+use Rattle.base.proofs.Tests.{length_tabulate, tabulate_at}
+use Rattle.base.proofs.Numbers.{first_false, first_behind, none_first, none_behind}
 use Rattle.machine.specs.Plan.{count, words}
 use Rattle.machine.specs.Machine.{State, Answered, state_of, sweep}
 use Rattle.machine.specs.Runs.{Event, steps, total}
 use Rattle.nest.specs.declared.Reading.{Reading}
 use Rattle.nest.specs.Nest.{cells, processors}
 use Rattle.base.specs.Lists.{Bytes}
-use Rattle.nest.specs.Reader.{readLines, nestOf, reading_of}
+use Rattle.nest.specs.Reader.{read_lines, nest_of, reading_of}
 use Rattle.nest.proofs.Facts.{accepted}
 use Rattle.nest.proofs.Answers.{nest-read}
 use Rattle.layout.specs.declared.Sizes.{Sizes}
 use Rattle.layout.specs.Sizes.{Sized}
-use Rattle.layout.specs.RouteWords.{routeOf}
+use Rattle.layout.specs.RouteWords.{route_of}
 use Rattle.summary.specs.declared.Figures.{Figures}
-use Rattle.summary.specs.Summary.{figuresOf, summaryOf}
+use Rattle.summary.specs.Summary.{figures_of, summary_of}
 use Rattle.summary.proofs.Answers.{summary-is}
-use Rattle.engine.specs.Calls.{answer, recipe, areas, freshCall, collectCall, sweepCall}
+use Rattle.engine.specs.Calls.{answer, recipe, areas, fresh_call, collect_call, sweep_call}
 use Rattle.engine.specs.Demands.{calls}
 use Rattle.engine.proofs.Demands.{demands}
-use Rattle.comparison.specs.drive.Drive.{roundsOf, Driven}
+use Rattle.comparison.specs.drive.Drive.{rounds_of, Driven}
 use Rattle.comparison.specs.declared.drive.Order.{Order}
 use Rattle.nest.proofs.Numbered.{numbered}
-use Rattle.recipe.specs.Routes.{linesFor}
-use Rattle.recipe.proofs.Laws.{numbered-for, open-direct}
+use Rattle.recipe.specs.Routes.{lines_for}
+use Rattle.recipe.proofs.Laws.{numbered_for, open_direct}
 use Rattle.comparison.proofs.drive.Whole.{ended}
 use Rattle.comparison.specs.declared.Extent.{Extent}
-use Rattle.comparison.specs.Agreement.{isBeyond, source_of, driven, ran, outcome, agreeing, compared, ranAndCompared}
+use Rattle.comparison.specs.Agreement.{is_beyond, source_of, driven, ran, outcome, agreeing, compared, ran_and_compared}
 use Rattle.comparison.specs.Agreement.{Within}
 use Rattle.comparison.specs.Lines.{zeros}
-use Rattle.comparison.proofs.Most.{messages-most, words-most}
+use Rattle.comparison.proofs.Most.{messages_most, words_most}
 
 -- ---- a fresh start
 
 module _ (bytes source : List ℕ) (s : State) where
   -- one that gave 0: the source has a word for each cell
-  fresh-says : (freshCall bytes 0 source s).number ≡ 0 → length source ≡ (recipe bytes 0).cells
-  unfolding freshCall areas
-  fresh-says z =
-      let a = none_first 9 _ [] (λ e. omega arith) (none-behind (linesFor (routeOf 0) bytes) _ (numbered-for (routeOf 0) bytes) z) in
-      eqb-true _ _ (both (true-not a.0)).0
+  fresh_says : (fresh_call bytes 0 source s).number ≡ 0 → length source ≡ (recipe bytes 0).cells
+  unfolding fresh_call areas
+  fresh_says z =
+      let a = none_first 9 _ [] (λ e. omega arith) (none_behind (lines_for (route_of 0) bytes) _ (numbered_for (route_of 0) bytes) z) in
+      eqb-true _ _ (both (true_not a.0)).0
 
   -- it gives 0 where the recipe is accepted and the areas have their lengths
-  fresh-goes : first_of (readLines bytes) ≡ 0 → length source ≡ (recipe bytes 0).cells
+  fresh_goes : first_of (read_lines bytes) ≡ 0 → length source ≡ (recipe bytes 0).cells
       → length s.memories ≡ (recipe bytes 0).processors * (recipe bytes 0).cells → length s.buffer ≡ words (recipe bytes 0)
       → length s.progress ≡ 3 * (recipe bytes 0).processors → length s.status ≡ count (recipe bytes 0)
-      → (freshCall bytes 0 source s).number ≡ 0
-  unfolding freshCall areas first_of
-  fresh-goes z a b c d e =
-      first-behind (linesFor (routeOf 0) bytes) _ (numbered-for (routeOf 0) bytes) (open-direct bytes z)
-      ∙ first-false 9 _ [] (not-true (and-true (eq-eqb _ _ a) (and-true (eq-eqb _ _ b) (and-true (eq-eqb _ _ c) (and-true (eq-eqb _ _ d) (eq-eqb _ _ e))))))
+      → (fresh_call bytes 0 source s).number ≡ 0
+  unfolding fresh_call areas first_of
+  fresh_goes z a b c d e =
+      first_behind (lines_for (route_of 0) bytes) _ (numbered_for (route_of 0) bytes) (open_direct bytes z)
+      ∙ first_false 9 _ [] (not-true (and_true (eq-eqb _ _ a) (and_true (eq-eqb _ _ b) (and_true (eq-eqb _ _ c) (and_true (eq-eqb _ _ d) (eq-eqb _ _ e))))))
 
-  sweep-goes : (grid : List ℕ) → first_of (readLines bytes) ≡ 0 → length source ≡ (recipe bytes 0).cells → length grid ≡ (recipe bytes 0).cells
-      → (sweepCall bytes source grid).number ≡ 0
-  unfolding sweepCall first_of
-  sweep-goes grid z a b =
-      first-behind (readLines bytes) _ (numbered bytes) z ∙ first-false 9 _ [] (not-true (and-true (eq-eqb _ _ a) (eq-eqb _ _ b)))
+  sweep_goes : (grid : List ℕ) → first_of (read_lines bytes) ≡ 0 → length source ≡ (recipe bytes 0).cells → length grid ≡ (recipe bytes 0).cells
+      → (sweep_call bytes source grid).number ≡ 0
+  unfolding sweep_call first_of
+  sweep_goes grid z a b =
+      first_behind (read_lines bytes) _ (numbered bytes) z ∙ first_false 9 _ [] (not-true (and_true (eq-eqb _ _ a) (eq-eqb _ _ b)))
 
 -- ---- a run, collected and compared: each way that the code can end
 
 module _ (bytes source : List ℕ) (s t u : State) (o : Order) (n r : ℕ) where
-  pub run : answer r t ≡ freshCall bytes 0 source s → Driven bytes source o n t u → u ≡ ran bytes source o n s
+  pub run : answer r t ≡ fresh_call bytes 0 source s → Driven bytes source o n t u → u ≡ ran bytes source o n s
   unfolding ran
   run is d = d.state ∙ ap (λ (a : Answered State). driven bytes source o n a.after) is
 
 module _ (bytes source : List ℕ) (t : State) (g h g' h' : List ℕ) (p q : ℕ) where
-  module _ (c : answer p g' ≡ collectCall bytes 0 source t g) (w : answer q h' ≡ sweepCall bytes source h) where
-    by-answers : (b : Bool) → b ≡ agreeing (answer p g') (answer q h') → outcome t g' h' b ≡ compared bytes source t g h
+  module _ (c : answer p g' ≡ collect_call bytes 0 source t g) (w : answer q h' ≡ sweep_call bytes source h) where
+    by_answers : (b : Bool) → b ≡ agreeing (answer p g') (answer q h') → outcome t g' h' b ≡ compared bytes source t g h
     unfolding compared
-    by-answers b e = rw (sym c, sym w) (ap (outcome t g' h') e)
+    by_answers b e = rw (sym c, sym w) (ap (outcome t g' h') e)
 
-    pub not-collected : p ≢ 0 → outcome t g' h' false ≡ compared bytes source t g h
+    pub not_collected : p ≢ 0 → outcome t g' h' false ≡ compared bytes source t g h
     unfolding agreeing
-    not-collected n = by-answers false (sym (and-false _ _ (ne_eqb p 0 n)))
+    not_collected n = by_answers false (sym (and_false _ _ (ne_eqb p 0 n)))
 
-    pub not-swept : p ≡ 0 → q ≢ 0 → outcome t g' h' false ≡ compared bytes source t g h
+    pub not_swept : p ≡ 0 → q ≢ 0 → outcome t g' h' false ≡ compared bytes source t g h
     unfolding agreeing
-    not-swept e n = by-answers false (sym (and_no _ _ (and-false _ _ (ne_eqb q 0 n))))
+    not_swept e n = by_answers false (sym (and_no _ _ (and_false _ _ (ne_eqb q 0 n))))
 
-    pub both-done : (b : Bool) → p ≡ 0 → q ≡ 0 → b ≡ same_words g' h' → outcome t g' h' b ≡ compared bytes source t g h
+    pub both_done : (b : Bool) → p ≡ 0 → q ≡ 0 → b ≡ same_words g' h' → outcome t g' h' b ≡ compared bytes source t g h
     unfolding agreeing
-    both-done b e f is = by-answers b (is ∙ sym (and_left _ _ (eq-eqb p 0 e) ∙ and_left _ _ (eq-eqb q 0 f)))
+    both_done b e f is = by_answers b (is ∙ sym (and_left _ _ (eq-eqb p 0 e) ∙ and_left _ _ (eq-eqb q 0 f)))
 
-pub then-compared : (bytes source : List ℕ) (o : Order) (n : ℕ) (s t : State) (g h g' h' : List ℕ) (b : Bool) → t ≡ ran bytes source o n s
-    → outcome t g' h' b ≡ compared bytes source t g h → outcome t g' h' b ≡ ranAndCompared bytes source o n s g h
-then-compared bytes source o n s t g h g' h' b e f = f ∙ ap (λ (t : State). compared bytes source t g h) e
+pub then_compared : (bytes source : List ℕ) (o : Order) (n : ℕ) (s t : State) (g h g' h' : List ℕ) (b : Bool) → t ≡ ran bytes source o n s
+    → outcome t g' h' b ≡ compared bytes source t g h → outcome t g' h' b ≡ ran_and_compared bytes source o n s g h
+then_compared bytes source o n s t g h g' h' b e f = f ∙ ap (λ (t : State). compared bytes source t g h) e
 
 -- ---- a recipe within the limits never differs
 
@@ -110,17 +110,17 @@ order_of x falling = record { processors = x.processors; messages = x.messages; 
 
 module _ (bytes source : List ℕ) (x : Extent) (falling : Bool) (s : State) (w : Within bytes x) (b : Bytes bytes) where
   abbrev start : State
-  start = (freshCall bytes 0 source s).after
+  start = (fresh_call bytes 0 source s).after
 
   abbrev end : State
   end = ran bytes source (order_of x falling) x.steps s
 
-  module _ (given : (freshCall bytes 0 source s).number ≡ 0) where
+  module _ (given : (fresh_call bytes 0 source s).number ≡ 0) where
     abbrev events : List Event
-    events = roundsOf (calls bytes 0 source) (order_of x falling) x.steps start
+    events = rounds_of (calls bytes 0 source) (order_of x falling) x.steps start
 
-    all-taken : steps (calls bytes 0 source) start events ≡ total (recipe bytes 0)
-    all-taken =
+    all_taken : steps (calls bytes 0 source) start events ≡ total (recipe bytes 0)
+    all_taken =
         ended bytes source (order_of x falling) x.steps start b
         (record {
           before = s;
@@ -132,59 +132,59 @@ module _ (bytes source : List ℕ) (x : Extent) (falling : Bool) (s : State) (w 
         })
 
     collects : (g : List ℕ) → length g ≡ (recipe bytes 0).cells
-        → ((collectCall bytes 0 source end g).number ≡ 0) × ((collectCall bytes 0 source end g).after ≡ sweep (recipe bytes 0) source)
+        → ((collect_call bytes 0 source end g).number ≡ 0) × ((collect_call bytes 0 source end g).after ≡ sweep (recipe bytes 0) source)
     unfolding ran
     collects g l =
         let d = demands.three bytes 0 source s b given events in
-        (d.collecting.can-collect all-taken g l, d.collecting.grid all-taken g l)
+        (d.collecting.can_collect all_taken g l, d.collecting.grid all_taken g l)
 
     sweeps : (h : List ℕ) → length h ≡ (recipe bytes 0).cells
-        → ((sweepCall bytes source h).number ≡ 0) × ((sweepCall bytes source h).after ≡ sweep (recipe bytes 0) source)
+        → ((sweep_call bytes source h).number ≡ 0) × ((sweep_call bytes source h).after ≡ sweep (recipe bytes 0) source)
     sweeps h l =
-        let z = sweep-goes bytes source s h w.read (fresh-says bytes source s given) l in
+        let z = sweep_goes bytes source s h w.read (fresh_says bytes source s given) l in
         (z, ((demands.one bytes 0 source s).sweep h).works z)
 
-    pub never-differs : (g h : List ℕ) → length g ≡ (recipe bytes 0).cells → length h ≡ (recipe bytes 0).cells
-        → (ranAndCompared bytes source (order_of x falling) x.steps s g h).agree ≡ true
+    pub never_differs : (g h : List ℕ) → length g ≡ (recipe bytes 0).cells → length h ≡ (recipe bytes 0).cells
+        → (ran_and_compared bytes source (order_of x falling) x.steps s g h).agree ≡ true
     unfolding compared agreeing
-    never-differs g h l k =
+    never_differs g h l k =
         let c = collects g l in
         let d = sweeps h k in
-        and-true (eq-eqb _ 0 c.0) (and-true (eq-eqb _ 0 d.0) (rw (c.1, d.1) (same_self (sweep (recipe bytes 0) source))))
+        and_true (eq-eqb _ 0 c.0) (and_true (eq-eqb _ 0 d.0) (rw (c.1, d.1) (same_self (sweep (recipe bytes 0) source))))
 
 -- ---- the program's sources
 
-pub source-next : (counting : Bool) (l : List ℕ) (i w : ℕ) → i < length l → ((j : ℕ) → j < i → get_or l j 0 ≡ pick counting (j + 1) 1)
+pub source_next : (counting : Bool) (l : List ℕ) (i w : ℕ) → i < length l → ((j : ℕ) → j < i → get_or l j 0 ≡ pick counting (j + 1) 1)
     → w ≡ pick counting (i + 1) 1 → (j : ℕ) → j < i + 1 → get_or (set l i w) j 0 ≡ pick counting (j + 1) 1
-source-next counting l i w low h e j k = go (eq-or-lt_of_le (omega arith))
+source_next counting l i w low h e j k = go (eq-or-lt_of_le (omega arith))
   where
     go : (j ≡ i) ⊎ (j < i) → get_or (set l i w) j 0 ≡ pick counting (j + 1) 1
     go (inl q) = rw q (get_or-set_same l i w 0 low ∙ e)
     go (inr q) = get_or-set_other l i j w 0 (λ z. omega arith) ∙ h j q
 
-pub source-long : (counting : Bool) (n : ℕ) → length (source_of counting n) ≡ n
+pub source_long : (counting : Bool) (n : ℕ) → length (source_of counting n) ≡ n
 unfolding source_of
-source-long counting n = length-tabulate (λ c. pick counting (c + 1) 1) n
+source_long counting n = length_tabulate (λ c. pick counting (c + 1) 1) n
 
-pub source-done : (counting : Bool) (l m : List ℕ) (i : ℕ) → length l ≡ length m → length m ≤ i → ((j : ℕ) → j < i → get_or l j 0 ≡ pick counting (j + 1) 1)
+pub source_done : (counting : Bool) (l m : List ℕ) (i : ℕ) → length l ≡ length m → length m ≤ i → ((j : ℕ) → j < i → get_or l j 0 ≡ pick counting (j + 1) 1)
     → l ≡ source_of counting (length m)
 unfolding source_of
-source-done counting l m i e k h =
-    ext_get_or 0 l _ (e ∙ sym (length-tabulate (λ c. pick counting (c + 1) 1) (length m)))
-    (λ j q. h j (omega arith) ∙ sym (tabulate-at (λ c. pick counting (c + 1) 1) (length m) j (omega arith)))
+source_done counting l m i e k h =
+    ext_get_or 0 l _ (e ∙ sym (length_tabulate (λ c. pick counting (c + 1) 1) (length m)))
+    (λ j q. h j (omega arith) ∙ sym (tabulate_at (λ c. pick counting (c + 1) 1) (length m) j (omega arith)))
 
 -- ---- the limits
 
-pub many-cells : (c p : ℕ) → 1024 < c → true ≡ isBeyond c p
-unfolding isBeyond
-many-cells c p h = sym (or_left _ (lt-ltb 1024 c h))
+pub many_cells : (c p : ℕ) → 1024 < c → true ≡ is_beyond c p
+unfolding is_beyond
+many_cells c p h = sym (or_left _ (lt-ltb 1024 c h))
 
-pub many-words : (c p w : ℕ) → c ≤ 1024 → w ≡ c * p → ltb 4096 w ≡ isBeyond c p
-unfolding isBeyond ◌or◌
-many-words c p w h e = rw (le-ltb 1024 c h, e)
+pub many_words : (c p w : ℕ) → c ≤ 1024 → w ≡ c * p → ltb 4096 w ≡ is_beyond c p
+unfolding is_beyond ◌or◌
+many_words c p w h e = rw (le-ltb 1024 c h, e)
 
-pub not_beyond : (c p : ℕ) (r : Bool) → r ≡ isBeyond c p → r ≡ false → (c ≤ 1024) × (c * p ≤ 4096)
-unfolding isBeyond
+pub not_beyond : (c p : ℕ) (r : Bool) → r ≡ is_beyond c p → r ≡ false → (c ≤ 1024) × (c * p ≤ 4096)
+unfolding is_beyond
 not_beyond c p r is e =
     let n = neither {a = ltb 1024 c} {b = ltb 4096 (c * p)} (sym is ∙ e) in
     (omega (arith, ltb-false 1024 c n.0), omega (arith, ltb-false 4096 (c * p) n.1))
@@ -200,8 +200,8 @@ room k n h = omega (arith, length-replicate {A = ℕ} n 0)
 
 -- what a call left of the first k words, lent as a part: it stands first when the part is back
 module _ (k : ℕ) (l new : List ℕ) (h : k ≤ length l) (q : length new ≡ length (take k l)) where
-  pub back-room : k ≤ length (new ++ drop k l)
-  back-room = omega (arith, length-append new (drop k l), length-take-le k l h)
+  pub back_room : k ≤ length (new ++ drop k l)
+  back_room = omega (arith, length-append new (drop k l), length-take-le k l h)
 
   pub back_is : take k (new ++ drop k l) ≡ new
   back_is = take_at new (drop k l) k (q ∙ length-take-le k l h)
@@ -209,60 +209,60 @@ module _ (k : ℕ) (l new : List ℕ) (h : k ≤ length l) (q : length new ≡ l
 -- ---- the areas of a recipe within the limits
 
 module _ (bytes : List ℕ) (x : Extent) (b : Bytes bytes) (w : Within bytes x) where
-  pub processors-low : x.processors ≤ 64
-  processors-low = omega (arith, w.measured.processors, (accepted bytes b w.read).processors-most)
+  pub processors_low : x.processors ≤ 64
+  processors_low = omega (arith, w.measured.processors, (accepted bytes b w.read).processors_most)
 
-  pub messages-low : x.messages ≤ 7168
-  messages-low = omega (arith, w.measured.messages, messages-most (nestOf bytes) (accepted bytes b w.read))
+  pub messages_low : x.messages ≤ 7168
+  messages_low = omega (arith, w.measured.messages, messages_most (nest_of bytes) (accepted bytes b w.read))
 
-  pub words-low : x.words ≤ 7168
-  words-low = omega (arith, w.measured.words, w.measured.cells, w.cells, words-most (nestOf bytes) (accepted bytes b w.read))
+  pub words_low : x.words ≤ 7168
+  words_low = omega (arith, w.measured.words, w.measured.cells, w.cells, words_most (nest_of bytes) (accepted bytes b w.read))
 
-  pub low-within : isBeyond (recipe bytes 0).cells (recipe bytes 0).processors ≡ false
-  low-within =
-      sym (ap (λ (c : ℕ). isBeyond c (recipe bytes 0).processors) w.measured.cells) ∙ sym (ap (isBeyond x.cells) w.measured.processors)
-      ∙ sym (many-words x.cells x.processors (x.cells * x.processors) w.cells refl) ∙ le-ltb 4096 (x.cells * x.processors) w.memories
+  pub low_within : is_beyond (recipe bytes 0).cells (recipe bytes 0).processors ≡ false
+  low_within =
+      sym (ap (λ (c : ℕ). is_beyond c (recipe bytes 0).processors) w.measured.cells) ∙ sym (ap (is_beyond x.cells) w.measured.processors)
+      ∙ sym (many_words x.cells x.processors (x.cells * x.processors) w.cells refl) ∙ le-ltb 4096 (x.cells * x.processors) w.memories
 
   -- each part of an area of zeros is within it
-  pub cells-room : (k : ℕ) → k ≡ x.cells → k ≤ length (zeros 1024)
-  cells-room k e = room k 1024 (omega (arith, w.cells))
+  pub cells_room : (k : ℕ) → k ≡ x.cells → k ≤ length (zeros 1024)
+  cells_room k e = room k 1024 (omega (arith, w.cells))
 
-  pub memories-room : (k : ℕ) → k ≡ x.cells * x.processors → k ≤ length (zeros 4096)
-  memories-room k e = room k 4096 (omega (arith, w.memories))
+  pub memories_room : (k : ℕ) → k ≡ x.cells * x.processors → k ≤ length (zeros 4096)
+  memories_room k e = room k 4096 (omega (arith, w.memories))
 
-  pub words-room : (k : ℕ) → k ≡ x.words → k ≤ length (zeros 7168)
-  words-room k e = room k 7168 (omega (arith, words-low))
+  pub words_room : (k : ℕ) → k ≡ x.words → k ≤ length (zeros 7168)
+  words_room k e = room k 7168 (omega (arith, words_low))
 
-  pub progress-room : (k : ℕ) → k ≡ x.processors → 3 * k ≤ length (zeros 192)
-  progress-room k e = room (3 * k) 192 (omega (arith, processors-low))
+  pub progress_room : (k : ℕ) → k ≡ x.processors → 3 * k ≤ length (zeros 192)
+  progress_room k e = room (3 * k) 192 (omega (arith, processors_low))
 
-  pub messages-room : (k : ℕ) → k ≡ x.messages → k ≤ length (zeros 7168)
-  messages-room k e = room k 7168 (omega (arith, messages-low))
+  pub messages_room : (k : ℕ) → k ≡ x.messages → k ≤ length (zeros 7168)
+  messages_room k e = room k 7168 (omega (arith, messages_low))
 
   pub starts : (source m v p s : List ℕ) → length source ≡ x.cells → length m ≡ x.cells * x.processors → length v ≡ x.words
-      → length p ≡ 3 * x.processors → length s ≡ x.messages → (freshCall bytes 0 source (state_of m v p s)).number ≡ 0
+      → length p ≡ 3 * x.processors → length s ≡ x.messages → (fresh_call bytes 0 source (state_of m v p s)).number ≡ 0
   starts source m v p s e1 e2 e3 e4 e5 =
       let q = w.measured in
-      fresh-goes bytes source (state_of m v p s) w.read (e1 ∙ q.cells)
+      fresh_goes bytes source (state_of m v p s) w.read (e1 ∙ q.cells)
       (e2 ∙ mul_comm x.cells x.processors ∙ rw (q.cells, q.processors) refl) (e3 ∙ q.words) (e4 ∙ ap (λ (k : ℕ). 3 * k) q.processors)
       (e5 ∙ q.messages)
 
 -- ---- the figures that the program gives
 
-pub in-limits : (bytes : List ℕ) (r : Reading) (z : Sizes) (f : Figures) (c p : ℕ) → r ≡ reading_of bytes → r.number ≡ 0 → Sized r.nest z
+pub in_limits : (bytes : List ℕ) (r : Reading) (z : Sizes) (f : Figures) (c p : ℕ) → r ≡ reading_of bytes → r.number ≡ 0 → Sized r.nest z
     → (z.cells < 4294967296 → c ≡ z.cells) → (z.processors < 4294967296 → p ≡ z.processors) → (c ≤ 1024) × (c * p ≤ 4096)
-    → f ≡ summaryOf (routeOf 0) bytes
+    → f ≡ summary_of (route_of 0) bytes
     → Within bytes (record { cells = c; processors = p; messages = f.messages; words = f.words; steps = f.steps })
-in-limits bytes r z f c p is zero-read g narrow narrow2 low e =
-    let read : first_of (readLines bytes) ≡ 0 = sym (ap (λ (x : Reading). x.number) is) ∙ zero-read in
+in_limits bytes r z f c p is zero-read g narrow narrow2 low e =
+    let read : first_of (read_lines bytes) ≡ 0 = sym (ap (λ (x : Reading). x.number) is) ∙ zero-read in
     let nest = nest-read bytes r is zero-read in
-    let figures : f ≡ figuresOf (recipe bytes 0) = e ∙ sym (summary-is bytes 0 _ (record { none = open-direct bytes read; is = refl })) in
+    let figures : f ≡ figures_of (recipe bytes 0) = e ∙ sym (summary-is bytes 0 _ (record { none = open_direct bytes read; is = refl })) in
     record {
       read = read;
       measured =
           record {
-            cells = narrow (omega (arith, g.cells, g.accepted.cells-most)) ∙ g.cells ∙ ap cells nest;
-            processors = narrow2 (omega (arith, g.processors, g.accepted.processors-most)) ∙ g.processors ∙ ap processors nest;
+            cells = narrow (omega (arith, g.cells, g.accepted.cells_most)) ∙ g.cells ∙ ap cells nest;
+            processors = narrow2 (omega (arith, g.processors, g.accepted.processors_most)) ∙ g.processors ∙ ap processors nest;
             messages = ap (λ (x : Figures). x.messages) figures;
             words = ap (λ (x : Figures). x.words) figures;
             steps = ap (λ (x : Figures). x.steps) figures;

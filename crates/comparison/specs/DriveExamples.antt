@@ -4,10 +4,10 @@
 use Rattle.std.specs.Prelude.{ℕ, ◌≡◌, Bool, true, false, List, [], ◌∷◌}
 use Rattle.machine.specs.Machine.{fresh}
 use Rattle.machine.specs.Runs.{Event, turn_of, deliveryOf, act}
-use Rattle.nest.specs.Recipes.{rowD}
+use Rattle.nest.specs.Recipes.{row_d}
 use Rattle.engine.specs.Calls.{recipe}
 use Rattle.comparison.specs.declared.drive.Order.{Order}
-use Rattle.comparison.specs.drive.Drive.{turns, deliveriesTo, roundsOf}
+use Rattle.comparison.specs.drive.Drive.{turns, deliveries_to, rounds_of}
 use Rattle.comparison.specs.Agreement.{source_of}
 
 -- three processors, or row D's two with its one message
@@ -18,19 +18,19 @@ abbrev pub two : Bool → Order
 two falling = record { processors = 2; messages = 1; falling = falling }
 
 -- row D's events from a fresh start: at most six rounds, which is its number of steps
-abbrev pub eventsOf : Bool → Bool → List Event
-eventsOf counting falling = roundsOf (act (recipe rowD 0) (source_of counting 4)) (two falling) 6 (fresh (recipe rowD 0))
+abbrev pub events_of : Bool → Bool → List Event
+events_of counting falling = rounds_of (act (recipe row_d 0) (source_of counting 4)) (two falling) 6 (fresh (recipe row_d 0))
 
 pub record DriveExamples : Type 0 where
   pub ones : source_of false 4 ≡ 1 ∷ 1 ∷ 1 ∷ 1 ∷ []
   pub numbers : source_of true 4 ≡ 1 ∷ 2 ∷ 3 ∷ 4 ∷ []
   pub rising : turns (three false) ≡ turn_of 0 ∷ turn_of 1 ∷ turn_of 2 ∷ []
   pub falling : turns (three true) ≡ turn_of 2 ∷ turn_of 1 ∷ turn_of 0 ∷ []
-  pub mail : deliveriesTo 3 ≡ deliveryOf 0 ∷ deliveryOf 1 ∷ deliveryOf 2 ∷ []
+  pub mail : deliveries_to 3 ≡ deliveryOf 0 ∷ deliveryOf 1 ∷ deliveryOf 2 ∷ []
   -- processor 0's three steps, a round with no step, behind which the message is delivered, then processor 1's two
-  pub D-rising : eventsOf true false
+  pub D-rising : events_of true false
       ≡ turn_of 0 ∷ turn_of 1 ∷ turn_of 0 ∷ turn_of 1 ∷ turn_of 0 ∷ turn_of 1 ∷ turn_of 0 ∷ turn_of 1 ∷ deliveryOf 0
       ∷ turn_of 0 ∷ turn_of 1 ∷ turn_of 0 ∷ turn_of 1 ∷ []
-  pub D-falling : eventsOf true true
+  pub D-falling : events_of true true
       ≡ turn_of 1 ∷ turn_of 0 ∷ turn_of 1 ∷ turn_of 0 ∷ turn_of 1 ∷ turn_of 0 ∷ turn_of 1 ∷ turn_of 0 ∷ deliveryOf 0
       ∷ turn_of 1 ∷ turn_of 0 ∷ turn_of 1 ∷ turn_of 0 ∷ []

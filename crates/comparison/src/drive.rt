@@ -3,9 +3,9 @@
 ghost use Rattle.std.specs.Prelude.{◌≡◌, get_or, eqb};
 ghost use Rattle.base.specs.Tests.{◌or◌};
 ghost use Rattle.machine.specs.Machine.{state_of};
-ghost use Rattle.engine.specs.Calls.{deliverCall};
+ghost use Rattle.engine.specs.Calls.{deliver_call};
 ghost use Rattle.engine.specs.Demands.{calls};
-ghost use Rattle.comparison.specs.drive.Drive.{inOrder, turnsTo, deliveriesTo, roundOf, Tried, Delivered, Driven};
+ghost use Rattle.comparison.specs.drive.Drive.{in_order, turns_to, deliveries_to, round_of, Tried, Delivered, Driven};
 
 // How many processors and messages there are, and in which order the processors take turns.
 #[derive(Drop)]
@@ -17,7 +17,7 @@ pub struct Order {
 
 // The processor that takes the turn of this place in the order.
 fn in_order(place: u32, processors: u32, falling: bool) -> u32
-    ensures { result ≡ inOrder processors falling place }
+    ensures { result ≡ in_order processors falling place }
 {
     if falling {
         if place < processors {
@@ -47,7 +47,7 @@ fn turn_each(
 ) -> bool
     ensures { Tried (calls encoded.now 0 source.now)
         (state_of memories.old buffer.old progress.old status.old)
-        (turnsTo processors falling processors) result
+        (turns_to processors falling processors) result
         (state_of memories.new buffer.new progress.new status.new) }
 {
     let mut taken = false;
@@ -84,7 +84,7 @@ fn deliver_one(
     status: &mut [u8],
     message: u32,
 ) -> bool
-    ensures { Delivered (deliverCall encoded.now 0 source.now
+    ensures { Delivered (deliver_call encoded.now 0 source.now
         (state_of memories.now buffer.now progress.now status.old) message) result
         (state_of memories.now buffer.now progress.now status.new) }
 {
@@ -107,7 +107,7 @@ fn deliver_each(
     messages: u32,
 ) -> bool
     ensures { Tried (calls encoded.now 0 source.now)
-        (state_of memories.now buffer.now progress.now status.old) (deliveriesTo messages) result
+        (state_of memories.now buffer.now progress.now status.old) (deliveries_to messages) result
         (state_of memories.now buffer.now progress.now status.new) }
 {
     let mut delivered = false;
@@ -132,7 +132,7 @@ fn round(
 ) -> bool
     ensures { Tried (calls encoded.now 0 source.now)
         (state_of memories.old buffer.old progress.old status.old)
-        (roundOf (calls encoded.now 0 source.now) order
+        (round_of (calls encoded.now 0 source.now) order
         (state_of memories.old buffer.old progress.old status.old)) result
         (state_of memories.new buffer.new progress.new status.new) }
 {

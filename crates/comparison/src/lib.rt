@@ -4,9 +4,9 @@ ghost use Rattle.std.specs.Prelude.{◌≡◌, true, ◌+◌, ◌*◌, ◌≤◌
 ghost use Rattle.base.specs.Tests.{pick};
 ghost use Rattle.machine.specs.Machine.{state_of};
 ghost use Rattle.text.specs.Writing.{pen, write};
-ghost use Rattle.comparison.specs.Agreement.{isBeyond, source_of, ran, outcome, compared};
-ghost use Rattle.comparison.specs.Agreement.{ranAndCompared, Within};
-ghost use Rattle.comparison.specs.Lines.{verdictLine, agreesFor, fourLines, comparisonText};
+ghost use Rattle.comparison.specs.Agreement.{is_beyond, source_of, ran, outcome, compared};
+ghost use Rattle.comparison.specs.Agreement.{ran_and_compared, Within};
+ghost use Rattle.comparison.specs.Lines.{verdict_line, agrees_for, four_lines, comparison_text};
 
 use crate::drive::Order;
 use libc::STDOUT_FILENO;
@@ -116,7 +116,7 @@ fn agrees(
 ) -> bool
     ensures { outcome (state_of memories.new buffer.new progress.new status.new) grid.new
         swept.new result
-        ≡ ranAndCompared encoded.now source.now order steps
+        ≡ ran_and_compared encoded.now source.now order steps
         (state_of memories.old buffer.old progress.old status.old) grid.old
         swept.old }
 {
@@ -132,7 +132,7 @@ fn agrees(
 // 1,024 cells with at most 4,096 words of memories: a message is a tile and one of at most 7 directions, and a cell is at most once in each.
 fn verdict(encoded: &[u8], extent: Extent, counting: bool, falling: bool) -> bool
     requires { Within encoded.now extent }
-    ensures value { result ≡ agreesFor encoded.now counting falling }
+    ensures value { result ≡ agrees_for encoded.now counting falling }
     ensures value_2 { result ≡ true }
 {
     let cells = extent.cells;
@@ -182,7 +182,7 @@ fn put_verdict(
     falling: bool,
 ) -> usize
     requires { (at + 7 ≤ 4294967295) × Within encoded.now extent }
-    ensures space_after { pen result space.new ≡ write (pen at space.old) (verdictLine (agreesFor encoded.now counting falling)) }
+    ensures space_after { pen result space.new ≡ write (pen at space.old) (verdict_line (agrees_for encoded.now counting falling)) }
     ensures upper_bound { result ≤ at + 7 }
 {
     if verdict(encoded, extent, counting, falling) {
@@ -194,7 +194,7 @@ fn put_verdict(
 // The first source's two lines, then the second's.
 fn put_four(space: &mut [u8], encoded: &[u8], extent: Extent) -> usize
     requires { Within encoded.now extent }
-    ensures space_after { pen result space.new ≡ write (pen 0 space.old) (fourLines encoded.now) }
+    ensures space_after { pen result space.new ≡ write (pen 0 space.old) (four_lines encoded.now) }
     ensures upper_bound { result ≤ 28 }
 {
     let a = put_verdict(space, 0, encoded, extent, false, false);
@@ -211,7 +211,7 @@ fn narrow(x: usize) -> u32
 }
 
 fn is_beyond(cells: u32, processors: u32) -> bool
-    ensures { result ≡ isBeyond cells processors }
+    ensures { result ≡ is_beyond cells processors }
 {
     if cells > 1024 {
         return true;
@@ -221,7 +221,7 @@ fn is_beyond(cells: u32, processors: u32) -> bool
 
 // The lines of a recipe: how many bytes they have, each written where the space has room.
 pub fn put_lines(space: &mut [u8], encoded: &[u8]) -> usize
-    ensures space_after { pen result space.new ≡ write (pen 0 space.old) (comparisonText encoded.now) }
+    ensures space_after { pen result space.new ≡ write (pen 0 space.old) (comparison_text encoded.now) }
     ensures upper_bound { result ≤ 28 }
 {
     if encoded.len() > 512 {
@@ -253,7 +253,7 @@ pub fn put_lines(space: &mut [u8], encoded: &[u8]) -> usize
 // The lines at the front of a space that has room for all of them.
 pub fn write_lines(space: &mut [u8], encoded: &[u8]) -> usize
     requires { length space.old ≡ 28 }
-    ensures space_after { take result space.new ≡ comparisonText encoded.now }
+    ensures space_after { take result space.new ≡ comparison_text encoded.now }
     ensures upper_bound { result ≤ 28 }
 {
     put_lines(space, encoded)

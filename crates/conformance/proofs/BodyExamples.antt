@@ -2,33 +2,33 @@
 use mathlib.Core.Path.{refl, ◌∙◌}
 use Rattle.base.specs.Tests.{◌and◌, ◌or◌, not, pick, one, every, some, keep, those, tabulate, sum, product}
 use Rattle.base.specs.Numbers.{first_of}
-use Rattle.machine.specs.Machine.{sweepTo}
-use Rattle.nest.specs.Nest.{tileCount, cells, boxTiles, processors}
-use Rattle.nest.specs.Places.{rank, place, cell_at, cellPlace, tileAt, tilePlace, boxTileOf}
-use Rattle.nest.specs.Shape.{level, raised, meets, inShape, exists, existing, tiles}
-use Rattle.nest.specs.Reader.{ofKind, filled, nestBy, nestOf, ragged, blank, boundFits, checked, mayStand, fitsAt, wellFormed, strayRecord, noLength}
-use Rattle.nest.specs.Reader.{badLength, tooLarge, needlesslyWide, noCell, same, beyond, faulty, badDistance, reached, badTile, badSpread}
-use Rattle.nest.specs.Reader.{lastSpread, badProcessors, tooManyTiles}
+use Rattle.machine.specs.Machine.{sweep_to}
+use Rattle.nest.specs.Nest.{tile_count, cells, box_tiles, processors}
+use Rattle.nest.specs.Places.{rank, place, cell_at, cell_place, tile_at, tile_place, box_tile_of}
+use Rattle.nest.specs.Shape.{level, raised, meets, in_shape, exists, existing, tiles}
+use Rattle.nest.specs.Reader.{of_kind, filled, nest_by, nest_of, ragged, blank, bound_fits, checked, may_stand, fits_at, well_formed, stray_record, no_length}
+use Rattle.nest.specs.Reader.{bad_length, too_large, needlessly_wide, no_cell, same, beyond, faulty, bad_distance, reached, bad_tile, bad_spread}
+use Rattle.nest.specs.Reader.{last_spread, bad_processors, too_many_tiles}
 use Rattle.nest.proofs.Quick.{quick}
-use Rattle.plan.specs.Geometry.{hasRead, readAt, value}
-use Rattle.plan.specs.Loops.{values, doLoop, forEach, nested}
-use Rattle.plan.specs.Shaped.{readsShape, shapedValue}
-use Rattle.conformance.specs.Exact.{sequential, readFrom, body, runNest}
+use Rattle.plan.specs.Geometry.{has_read, read_at, value}
+use Rattle.plan.specs.Loops.{values, do_loop, for_each, nested}
+use Rattle.plan.specs.Shaped.{reads_shape, shaped_value}
+use Rattle.conformance.specs.Exact.{sequential, read_from, body, run_nest}
 use Rattle.conformance.specs.ExactShape.{shape_of}
-use Rattle.conformance.specs.BodyExamples.{rowHeavy, rowHeavyBound, BodyExamples}
+use Rattle.conformance.specs.BodyExamples.{row_heavy, row_heavy_bound, BodyExamples}
 
-pub body-rows : BodyExamples
-unfolding first_of ◌and◌ ◌or◌ not pick one every some keep those tabulate sum product rank place cell_at cellPlace tileAt tilePlace boxTileOf tileCount cells
-    boxTiles processors level raised meets inShape exists existing tiles ofKind filled nestBy nestOf ragged blank boundFits checked mayStand fitsAt wellFormed
-    strayRecord noLength badLength tooLarge needlesslyWide noCell same beyond faulty badDistance reached badTile badSpread lastSpread badProcessors
-    tooManyTiles sweepTo hasRead readAt value values doLoop forEach nested readsShape shapedValue sequential readFrom body runNest shape_of
-body-rows =
+pub body_rows : BodyExamples
+unfolding first_of ◌and◌ ◌or◌ not pick one every some keep those tabulate sum product rank place cell_at cell_place tile_at tile_place box_tile_of tile_count cells
+    box_tiles processors level raised meets in_shape exists existing tiles of_kind filled nest_by nest_of ragged blank bound_fits checked may_stand fits_at well_formed
+    stray_record no_length bad_length too_large needlessly_wide no_cell same beyond faulty bad_distance reached bad_tile bad_spread last_spread bad_processors
+    too_many_tiles sweep_to has_read read_at value values do_loop for_each nested reads_shape shaped_value sequential read_from body run_nest shape_of
+body_rows =
     record {
-      read = quick rowHeavy ∙ refl;
-      read-bound = quick rowHeavyBound ∙ refl;
+      read = quick row_heavy ∙ refl;
+      read_bound = quick row_heavy_bound ∙ refl;
       direct = refl;
       indirect = refl;
       with_bound = refl;
       nest = refl;
-      nest-bound = refl;
+      nest_bound = refl;
     }

@@ -9,34 +9,34 @@ use lib.ListN.{replicate}
 use Rattle.base.specs.Tests.{◌and◌, ◌or◌, not, pick, every, some, keep, those, tabulate, product}
 use Rattle.base.specs.Lists.{Rising}
 use Rattle.base.specs.Numbers.{first_of}
-use Rattle.base.proofs.Select.{keep-rising, keep-few}
-use Rattle.machine.specs.Plan.{offset, takerOf, tilesOf}
+use Rattle.base.proofs.Select.{keep_rising, keep_few}
+use Rattle.machine.specs.Plan.{offset, taker_of, tiles_of}
 use Rattle.nest.specs.declared.Nest.{Nest}
 use Rattle.nest.specs.Accepted.{Accepted}
-use Rattle.nest.specs.Nest.{processorCount, tileCount, cells, boxTiles, processors}
-use Rattle.nest.specs.Places.{rank, place, cell_at, cellPlace, tileAt, tilePlace, boxTileOf}
-use Rattle.nest.specs.Shape.{level, raised, meets, inShape, exists, existing, tiles}
-use Rattle.nest.specs.Reader.{ofKind, filled, nestBy, nestOf, ragged, blank, boundFits, checked, mayStand, fitsAt, wellFormed, strayRecord, noLength}
-use Rattle.nest.specs.Reader.{badLength, tooLarge, needlesslyWide, noCell, same, beyond, faulty, badDistance, reached, badTile, badSpread}
-use Rattle.nest.specs.Reader.{lastSpread, badProcessors, tooManyTiles, readLines}
+use Rattle.nest.specs.Nest.{processor_count, tile_count, cells, box_tiles, processors}
+use Rattle.nest.specs.Places.{rank, place, cell_at, cell_place, tile_at, tile_place, box_tile_of}
+use Rattle.nest.specs.Shape.{level, raised, meets, in_shape, exists, existing, tiles}
+use Rattle.nest.specs.Reader.{of_kind, filled, nest_by, nest_of, ragged, blank, bound_fits, checked, may_stand, fits_at, well_formed, stray_record, no_length}
+use Rattle.nest.specs.Reader.{bad_length, too_large, needlessly_wide, no_cell, same, beyond, faulty, bad_distance, reached, bad_tile, bad_spread}
+use Rattle.nest.specs.Reader.{last_spread, bad_processors, too_many_tiles, read_lines}
 use Rattle.nest.proofs.Quick.{quick}
 use Rattle.nest.proofs.Rank.{rank_same}
 use Rattle.plan.specs.declared.Route.TheVariants.{Direct}
-use Rattle.plan.specs.Geometry.{processorOf, inside}
-use Rattle.plan.specs.Messages.{directions, ahead, reaches, taker, messagesOf}
-use Rattle.plan.specs.Hops.{hopsAlong, hops}
-use Rattle.plan.specs.Shaped.{boxTile, reachesShape, shapedParcel, follows, shapedTaker, shapedSlotTaker, shapedHome, shapedSlotParcel, plan_of}
-use Rattle.plan.proofs.Homes.{hop-in, hops-pos, unmoved, same-mods}
-use Rattle.plan.proofs.Parcels.{ahead-low}
+use Rattle.plan.specs.Geometry.{processor_of, inside}
+use Rattle.plan.specs.Messages.{directions, ahead, reaches, taker, messages_of}
+use Rattle.plan.specs.Hops.{hops_along, hops}
+use Rattle.plan.specs.Shaped.{box_tile, reaches_shape, shaped_parcel, follows, shaped_taker, shaped_slot_taker, shaped_home, shaped_slot_parcel, plan_of}
+use Rattle.plan.proofs.Homes.{hop_in, hops_pos, unmoved, same_mods}
+use Rattle.plan.proofs.Parcels.{ahead_low}
 use Rattle.plan.proofs.Loops.{allocated}
-use Rattle.plan.proofs.SmallNests.{withBound}
-use Rattle.plan.proofs.Tiles.{processorOf-low}
-use Rattle.conformance.specs.ExactShape.{standsAt, CarriesShape}
-use Rattle.conformance.specs.InOrder.{InOrder, rowSpread, SpreadExamples}
-use Rattle.conformance.specs.Examples.{accepted, figuresIf, messageLine, linesTo}
-use Rattle.conformance.proofs.Nested.{cells-in-order, tiles-in-order}
-use Rattle.conformance.proofs.Program.{cell-order, tile-order, processor-order, direction-order}
-use Rattle.conformance.proofs.ShapedNest.{shape-in-order}
+use Rattle.plan.proofs.SmallNests.{with_bound}
+use Rattle.plan.proofs.Tiles.{processor_of_low}
+use Rattle.conformance.specs.ExactShape.{stands_at, CarriesShape}
+use Rattle.conformance.specs.InOrder.{InOrder, row_spread, SpreadExamples}
+use Rattle.conformance.specs.Examples.{accepted, figures_if, message_line, lines_to}
+use Rattle.conformance.proofs.Nested.{cells_in_order, tiles_in_order}
+use Rattle.conformance.proofs.Program.{cell_order, tile_order, processor_order, direction_order}
+use Rattle.conformance.proofs.ShapedNest.{shape_in_order}
 
 -- ---- hops
 
@@ -45,96 +45,96 @@ module _ (x : Nest) (ok : Accepted x) where
   least m t v k = go (dec_lt 0 (hops x v))
     where
       -- where no dimension with a count above 1 is stepped in, the taker is on the sender's processor
-      stays : hops x v ≡ 0 → (j : ℕ) → j < x.spread → Dec (ahead x v j ≡ 0) → Dec (1 < processorCount x j)
-          → (tilePlace x (boxTile x t) j ≡ tilePlace x (boxTile x (takerOf (plan_of Direct x) m)) j) ⊎ (processorCount x j ≡ 1)
+      stays : hops x v ≡ 0 → (j : ℕ) → j < x.spread → Dec (ahead x v j ≡ 0) → Dec (1 < processor_count x j)
+          → (tile_place x (box_tile x t) j ≡ tile_place x (box_tile x (taker_of (plan_of Direct x) m)) j) ⊎ (processor_count x j ≡ 1)
       stays z j l (yes a) d = inl (omega (arith, k.follows.column j l))
-      stays z j l (no a) (yes d) = absurd (omega (arith, hops-pos x v j (hop-in x v j l (omega (arith, ahead-low x v j l)) d)))
+      stays z j l (no a) (yes d) = absurd (omega (arith, hops_pos x v j (hop_in x v j l (omega (arith, ahead_low x v j l)) d)))
       stays z j l (no a) (no d) = inr (omega (arith, ok.manned j l))
 
       go : Dec (0 < hops x v) → 1 ≤ hops x v
       go (yes h) = omega arith
       go (no h) =
           let z : hops x v ≡ 0 = omega arith in
-          absurd (k.away (unmoved x ok (boxTile x t) (boxTile x (takerOf (plan_of Direct x) m))
-          (λ j l. stays z j l (ℕ_discrete (ahead x v j) 0) (dec_lt 1 (processorCount x j)))))
+          absurd (k.away (unmoved x ok (box_tile x t) (box_tile x (taker_of (plan_of Direct x) m))
+          (λ j l. stays z j l (ℕ_discrete (ahead x v j) 0) (dec_lt 1 (processor_count x j)))))
 
   most : (v : ℕ) → hops x v ≤ x.spread
-  unfolding hops hopsAlong
-  most v = keep-few _ x.spread
+  unfolding hops hops_along
+  most v = keep_few _ x.spread
 
   -- ---- processors
-  same_back : (t u : ℕ) → ((j : ℕ) → j < x.spread → standsAt x t j % processorCount x j ≡ standsAt x u j % processorCount x j)
-      → processorOf x (boxTile x t) ≡ processorOf x (boxTile x u)
-  unfolding processorOf
-  same_back t u h = rank_same (processorCount x) _ _ x.spread h
+  same_back : (t u : ℕ) → ((j : ℕ) → j < x.spread → stands_at x t j % processor_count x j ≡ stands_at x u j % processor_count x j)
+      → processor_of x (box_tile x t) ≡ processor_of x (box_tile x u)
+  unfolding processor_of
+  same_back t u h = rank_same (processor_count x) _ _ x.spread h
 
-  rising : (p : ℕ) → Rising (tilesOf (plan_of Direct x) p)
+  rising : (p : ℕ) → Rising (tiles_of (plan_of Direct x) p)
   unfolding those
-  rising p = keep-rising _ (tiles x)
+  rising p = keep_rising _ (tiles x)
 
 pub in_order : (x : Nest) → Accepted x → InOrder x
 in_order x ok =
     record {
-      cell-order = cell-order x ok;
-      box-tile-order = tile-order x ok;
-      processor-order = processor-order x ok;
-      direction-order = direction-order x ok;
-      cells-in-order = cells-in-order x ok;
-      shape-in-order = shape-in-order x ok;
-      tiles-in-order = tiles-in-order x ok;
-      processor-low = λ t h. processorOf-low x ok (boxTile x t);
-      processor-place = λ t j h l. allocated x ok (boxTile x t) j l;
-      processor-same = λ t u lt lu. (same-mods x ok (boxTile x t) (boxTile x u), same_back x ok t u);
-      tiles-rising = rising x ok;
-      hops-least = least x ok;
-      hops-most = most x ok;
+      cell_order = cell_order x ok;
+      box_tile_order = tile_order x ok;
+      processor_order = processor_order x ok;
+      direction_order = direction_order x ok;
+      cells_in_order = cells_in_order x ok;
+      shape_in_order = shape_in_order x ok;
+      tiles_in_order = tiles_in_order x ok;
+      processor_low = λ t h. processor_of_low x ok (box_tile x t);
+      processor_place = λ t j h l. allocated x ok (box_tile x t) j l;
+      processor_same = λ t u lt lu. (same_mods x ok (box_tile x t) (box_tile x u), same_back x ok t u);
+      tiles_rising = rising x ok;
+      hops_least = least x ok;
+      hops_most = most x ok;
     }
 
 -- ---- the row with two spread dimensions
 
-abbrev nestSpread : Nest
-nestSpread = withBound 3 2 1 (3 ∷ 4 ∷ 1 ∷ 0 ∷ []) (1 ∷ 1 ∷ 1 ∷ 0 ∷ []) (2 ∷ 3 ∷ 0 ∷ 0 ∷ [])
+abbrev nest_spread : Nest
+nest_spread = with_bound 3 2 1 (3 ∷ 4 ∷ 1 ∷ 0 ∷ []) (1 ∷ 1 ∷ 1 ∷ 0 ∷ []) (2 ∷ 3 ∷ 0 ∷ 0 ∷ [])
     (1 ∷ replicate 31 0) (1 ∷ replicate 7 0) 2 32768 0
 
-isSpread : nestOf rowSpread ≡ nestSpread
-unfolding ofKind filled nestBy nestOf pick keep those tabulate
-isSpread = refl
+is_spread : nest_of row_spread ≡ nest_spread
+unfolding of_kind filled nest_by nest_of pick keep those tabulate
+is_spread = refl
 
-numberSpread : first_of (readLines rowSpread) ≡ 0
-unfolding first_of ◌and◌ ◌or◌ not pick every some keep those tabulate product rank place cellPlace tileAt boxTileOf tileCount cells boxTiles processors level
-    raised meets inShape exists existing tiles ofKind filled nestBy nestOf ragged blank boundFits checked mayStand fitsAt wellFormed strayRecord noLength
-    badLength tooLarge needlesslyWide noCell same beyond faulty badDistance reached badTile badSpread lastSpread badProcessors tooManyTiles
-numberSpread = quick rowSpread ∙ refl
+number_spread : first_of (read_lines row_spread) ≡ 0
+unfolding first_of ◌and◌ ◌or◌ not pick every some keep those tabulate product rank place cell_place tile_at box_tile_of tile_count cells box_tiles processors level
+    raised meets in_shape exists existing tiles of_kind filled nest_by nest_of ragged blank bound_fits checked may_stand fits_at well_formed stray_record no_length
+    bad_length too_large needlessly_wide no_cell same beyond faulty bad_distance reached bad_tile bad_spread last_spread bad_processors too_many_tiles
+number_spread = quick row_spread ∙ refl
 
-figuresSpread : figuresIf 0 (plan_of Direct nestSpread) ≡ accepted 9 5 5 28
-unfolding figuresIf offset ◌and◌ ◌or◌ pick every some keep product rank place cell_at cellPlace tileAt tilePlace boxTileOf tileCount cells boxTiles level
-    raised meets inShape exists existing tiles inside directions ahead reaches processorOf boxTile reachesShape shapedParcel taker follows shapedTaker
-    shapedSlotTaker shapedHome shapedSlotParcel messagesOf
-figuresSpread = refl
+figures_spread : figures_if 0 (plan_of Direct nest_spread) ≡ accepted 9 5 5 28
+unfolding figures_if offset ◌and◌ ◌or◌ pick every some keep product rank place cell_at cell_place tile_at tile_place box_tile_of tile_count cells box_tiles level
+    raised meets in_shape exists existing tiles inside directions ahead reaches processor_of box_tile reaches_shape shaped_parcel taker follows shaped_taker
+    shaped_slot_taker shaped_home shaped_slot_parcel messages_of
+figures_spread = refl
 
-tilesSpread : existing nestSpread ≡ 0 ∷ 1 ∷ 2 ∷ 3 ∷ 5 ∷ 6 ∷ 7 ∷ 10 ∷ 11 ∷ []
-unfolding ◌and◌ ◌or◌ pick every some keep product rank place cell_at cellPlace tileAt tilePlace boxTileOf tileCount cells boxTiles level raised meets inShape
+tiles_spread : existing nest_spread ≡ 0 ∷ 1 ∷ 2 ∷ 3 ∷ 5 ∷ 6 ∷ 7 ∷ 10 ∷ 11 ∷ []
+unfolding ◌and◌ ◌or◌ pick every some keep product rank place cell_at cell_place tile_at tile_place box_tile_of tile_count cells box_tiles level raised meets in_shape
     exists existing tiles
-tilesSpread = refl
+tiles_spread = refl
 
-processorsSpread : tabulate (plan_of Direct nestSpread).processorOf 9 ≡ 0 ∷ 1 ∷ 2 ∷ 0 ∷ 4 ∷ 5 ∷ 3 ∷ 2 ∷ 0 ∷ []
-unfolding tabulate ◌and◌ ◌or◌ pick every some keep product rank place cell_at cellPlace tileAt tilePlace boxTileOf tileCount cells boxTiles level raised meets
-    inShape exists existing tiles processorOf boxTile
-processorsSpread = refl
+processors_spread : tabulate (plan_of Direct nest_spread).processor_of 9 ≡ 0 ∷ 1 ∷ 2 ∷ 0 ∷ 4 ∷ 5 ∷ 3 ∷ 2 ∷ 0 ∷ []
+unfolding tabulate ◌and◌ ◌or◌ pick every some keep product rank place cell_at cell_place tile_at tile_place box_tile_of tile_count cells box_tiles level raised meets
+    in_shape exists existing tiles processor_of box_tile
+processors_spread = refl
 
-linesSpread : linesTo (plan_of Direct nestSpread) 5
+lines_spread : lines_to (plan_of Direct nest_spread) 5
     ≡ (0 ∷ 1 ∷ 4 ∷ 1 ∷ 4 ∷ 1 ∷ []) ∷ (1 ∷ 2 ∷ 5 ∷ 2 ∷ 5 ∷ 1 ∷ []) ∷ (2 ∷ 3 ∷ 6 ∷ 0 ∷ 3 ∷ 1 ∷ []) ∷ (3 ∷ 5 ∷ 7 ∷ 5 ∷ 2 ∷ 1 ∷ [])
     ∷ (4 ∷ 6 ∷ 8 ∷ 3 ∷ 0 ∷ 1 ∷ []) ∷ []
-unfolding linesTo messageLine ◌and◌ ◌or◌ pick every some keep product rank place cell_at cellPlace tileAt tilePlace boxTileOf tileCount cells boxTiles level
-    raised meets inShape exists existing tiles inside directions ahead reaches processorOf boxTile reachesShape shapedParcel taker follows shapedTaker
-    shapedSlotTaker shapedHome shapedSlotParcel messagesOf
-linesSpread = refl
+unfolding lines_to message_line ◌and◌ ◌or◌ pick every some keep product rank place cell_at cell_place tile_at tile_place box_tile_of tile_count cells box_tiles level
+    raised meets in_shape exists existing tiles inside directions ahead reaches processor_of box_tile reaches_shape shaped_parcel taker follows shaped_taker
+    shaped_slot_taker shaped_home shaped_slot_parcel messages_of
+lines_spread = refl
 
-pub spread-rows : SpreadExamples
-spread-rows =
+pub spread_rows : SpreadExamples
+spread_rows =
     record {
-      figures = rw (numberSpread, isSpread) figuresSpread;
-      tiles-are = rw isSpread tilesSpread;
-      processors-are = rw isSpread processorsSpread;
-      lines = rw isSpread linesSpread;
+      figures = rw (number_spread, is_spread) figures_spread;
+      tiles_are = rw is_spread tiles_spread;
+      processors_are = rw is_spread processors_spread;
+      lines = rw is_spread lines_spread;
     }

@@ -6,81 +6,81 @@ use mathlib.Core.Bool.{Bool, true, false}
 use mathlib.Core.List.{List, [], ◌∷◌, ◌++◌, map}
 use lib.ListN.{length, get_or}
 use lib.Seq.{ext_get_or}
-use Rattle.base.specs.Tests.{◌and◌, pick, keepIf, keep, tabulate}
-use Rattle.base.specs.Lists.{In, storeAll}
+use Rattle.base.specs.Tests.{◌and◌, pick, keep_if, keep, tabulate}
+use Rattle.base.specs.Lists.{In, store_all}
 use Rattle.base.proofs.Tests.{sum_same}
 use Rattle.base.proofs.Lists.{store_length}
-use Rattle.base.proofs.Select.{keep-in, in-keep, keep-rising}
+use Rattle.base.proofs.Select.{keep_in, in_keep, keep_rising}
 use Rattle.machine.specs.Plan.{Plan, Sound}
 use Rattle.machine.specs.Machine.{sweep}
-use Rattle.machine.proofs.Values.{stored-right, sweep-fixed, sweep-outside, sweep-length}
+use Rattle.machine.proofs.Values.{stored_right, sweep_fixed, sweep_outside, sweep_length}
 use Rattle.nest.specs.declared.Nest.{Nest}
 use Rattle.nest.specs.Accepted.{Accepted}
 use Rattle.nest.specs.Nest.{weight, cells}
 use Rattle.nest.specs.Places.{cell_at}
-use Rattle.nest.specs.Shape.{inShape}
+use Rattle.nest.specs.Shape.{in_shape}
 use Rattle.plan.specs.declared.Route.TheVariants.{Direct}
-use Rattle.plan.specs.Geometry.{hasRead, readAt, reads_of, value}
+use Rattle.plan.specs.Geometry.{has_read, read_at, reads_of, value}
 use Rattle.conformance.specs.Report.{Index}
-use Rattle.conformance.specs.Exact.{sequential, runNest}
-use Rattle.plan.specs.Shaped.{readsShape, shapedValue, plan_of}
+use Rattle.conformance.specs.Exact.{sequential, run_nest}
+use Rattle.plan.specs.Shaped.{reads_shape, shaped_value, plan_of}
 use Rattle.conformance.specs.ExactShape.{shape_of}
 use Rattle.conformance.specs.Figure4.{chosen}
-use Rattle.plan.proofs.Tiles.{read_low, read-before}
+use Rattle.plan.proofs.Tiles.{read_low, read_before}
 use Rattle.plan.proofs.Sound.{reads_at, at_reads}
-use Rattle.conformance.proofs.Nested.{Each, run-stores, sequential-each, cells-in-order}
+use Rattle.conformance.proofs.Nested.{Each, run_stores, sequential_each, cells_in_order}
 use Rattle.plan.proofs.ShapedSound.{sound}
 
 -- ---- the shape's indices are the cells kept
 
-pub chosen-append : {A : Type 0} (f : A → Bool) (a b : List A) → chosen f (a ++ b) ≡ chosen f a ++ chosen f b
+pub chosen_append : {A : Type 0} (f : A → Bool) (a b : List A) → chosen f (a ++ b) ≡ chosen f a ++ chosen f b
 unfolding chosen pick
-chosen-append f [] b = refl
-chosen-append {A} f (c ∷ a) b = go (f c) (chosen-append f a b)
+chosen_append f [] b = refl
+chosen_append {A} f (c ∷ a) b = go (f c) (chosen_append f a b)
   where
     go : (t : Bool) → chosen f (a ++ b) ≡ chosen f a ++ chosen f b
         → pick t (c ∷ chosen f (a ++ b)) (chosen f (a ++ b)) ≡ pick t (c ∷ chosen f a) (chosen f a) ++ chosen f b
     go true e = ap (λ (l : List A). c ∷ l) e
     go false e = e
 
-chosen-all : (f : ℕ → Bool) (n : ℕ) → chosen f (tabulate (λ c. c) n) ≡ keep f n
+chosen_all : (f : ℕ → Bool) (n : ℕ) → chosen f (tabulate (λ c. c) n) ≡ keep f n
 unfolding chosen tabulate keep pick
-chosen-all f zero = refl
-chosen-all f (suc n) =
-    chosen-append f (tabulate (λ c. c) n) (n ∷ [])
-    ∙ (ap (λ (l : List ℕ). l ++ pick (f n) (n ∷ []) []) (chosen-all f n) ∙ ap (λ (l : List ℕ). keep f n ++ l) (last (f n)))
+chosen_all f zero = refl
+chosen_all f (suc n) =
+    chosen_append f (tabulate (λ c. c) n) (n ∷ [])
+    ∙ (ap (λ (l : List ℕ). l ++ pick (f n) (n ∷ []) []) (chosen_all f n) ∙ ap (λ (l : List ℕ). keep f n ++ l) (last (f n)))
   where
-    last : (t : Bool) → pick t (n ∷ []) [] ≡ keepIf t n
+    last : (t : Bool) → pick t (n ∷ []) [] ≡ keep_if t n
     last true = refl
     last false = refl
 
-pub map-shape : (x : Nest) (is : List (ℕ → ℕ)) → map (cell_at x) (shape_of x is) ≡ chosen (inShape x) (map (cell_at x) is)
+pub map_shape : (x : Nest) (is : List (ℕ → ℕ)) → map (cell_at x) (shape_of x is) ≡ chosen (in_shape x) (map (cell_at x) is)
 unfolding shape_of chosen pick
-map-shape x [] = refl
-map-shape x (i ∷ is) = go (inShape x (cell_at x i)) (map-shape x is)
+map_shape x [] = refl
+map_shape x (i ∷ is) = go (in_shape x (cell_at x i)) (map_shape x is)
   where
-    go : (t : Bool) → map (cell_at x) (shape_of x is) ≡ chosen (inShape x) (map (cell_at x) is)
+    go : (t : Bool) → map (cell_at x) (shape_of x is) ≡ chosen (in_shape x) (map (cell_at x) is)
         → map (cell_at x) (pick t (i ∷ shape_of x is) (shape_of x is))
-        ≡ pick t (cell_at x i ∷ chosen (inShape x) (map (cell_at x) is)) (chosen (inShape x) (map (cell_at x) is))
+        ≡ pick t (cell_at x i ∷ chosen (in_shape x) (map (cell_at x) is)) (chosen (in_shape x) (map (cell_at x) is))
     go true e = ap (λ (l : List ℕ). cell_at x i ∷ l) e
     go false e = e
 
-pub each-shape : (x : Nest) (is : List (ℕ → ℕ)) → Each (Index x) is → Each (Index x) (shape_of x is)
+pub each_shape : (x : Nest) (is : List (ℕ → ℕ)) → Each (Index x) is → Each (Index x) (shape_of x is)
 unfolding shape_of pick
-each-shape x [] h = h
-each-shape x (i ∷ is) h = go (inShape x (cell_at x i)) (each-shape x is h.1)
+each_shape x [] h = h
+each_shape x (i ∷ is) h = go (in_shape x (cell_at x i)) (each_shape x is h.1)
   where
     go : (t : Bool) → Each (Index x) (shape_of x is) → Each (Index x) (pick t (i ∷ shape_of x is) (shape_of x is))
     go true e = (h.0, e)
     go false e = e
 
 -- the loops meet the shape's cells in rising order
-pub shape-in-order : (x : Nest) → Accepted x → map (cell_at x) (shape_of x (sequential x)) ≡ keep (inShape x) (cells x)
-shape-in-order x ok =
-    map-shape x (sequential x) ∙ (ap (chosen (inShape x)) (cells-in-order x ok) ∙ chosen-all (inShape x) (cells x))
+pub shape_in_order : (x : Nest) → Accepted x → map (cell_at x) (shape_of x (sequential x)) ≡ keep (in_shape x) (cells x)
+shape_in_order x ok =
+    map_shape x (sequential x) ∙ (ap (chosen (in_shape x)) (cells_in_order x ok) ∙ chosen_all (in_shape x) (cells x))
 
 module _ (x : Nest) (ok : Accepted x) (source array : List ℕ) (len : length array ≡ cells x)
-    (outside : (c : ℕ) → c < cells x → inShape x c ≡ false → get_or array c 0 ≡ x.boundary) where
+    (outside : (c : ℕ) → c < cells x → in_shape x c ≡ false → get_or array c 0 ≡ x.boundary) where
   abbrev p : Plan
   p = plan_of Direct x
 
@@ -90,24 +90,24 @@ module _ (x : Nest) (ok : Accepted x) (source array : List ℕ) (len : length ar
   abbrev w : ℕ → ℕ
   w c = get_or (sweep p source) c 0
 
-  unswept : (c : ℕ) → c < cells x → inShape x c ≡ false → w c ≡ x.boundary
-  unswept = sweep-outside p source (so.local source) so.earlier
+  unswept : (c : ℕ) → c < cells x → in_shape x c ≡ false → w c ≡ x.boundary
+  unswept = sweep_outside p source (so.local source) so.earlier
 
   -- the box's value of a cell of the shape, where the outside has the boundary's word
-  value-is : (s : List ℕ) (c : ℕ) → c < cells x → inShape x c ≡ true → ((r : ℕ) → In r (reads_of x c) → get_or s r 0 ≡ w r)
+  value_is : (s : List ℕ) (c : ℕ) → c < cells x → in_shape x c ≡ true → ((r : ℕ) → In r (reads_of x c) → get_or s r 0 ≡ w r)
       → value x source s c ≡ w c
-  unfolding value shapedValue readsShape pick ◌and◌
-  value-is s c h i e =
+  unfolding value shaped_value reads_shape pick ◌and◌
+  value_is s c h i e =
       ap (λ (n : ℕ). (get_or source c 0 + n) / 2 ^ x.shift % 2 ^ 32)
-      (sum_same (λ e. weight x e * pick (hasRead x c e) (get_or s (readAt x c e) 0) x.boundary)
-      (λ e. weight x e * pick (readsShape x c e) (w (readAt x c e)) x.boundary) x.distances
-      (λ d l. ap (λ (n : ℕ). weight x d * n) (one d l (hasRead x c d) refl (inShape x (readAt x c d)) refl)))
-      ∙ sweep-fixed p source (so.local source) so.earlier c h i
+      (sum_same (λ e. weight x e * pick (has_read x c e) (get_or s (read_at x c e) 0) x.boundary)
+      (λ e. weight x e * pick (reads_shape x c e) (w (read_at x c e)) x.boundary) x.distances
+      (λ d l. ap (λ (n : ℕ). weight x d * n) (one d l (has_read x c d) refl (in_shape x (read_at x c d)) refl)))
+      ∙ sweep_fixed p source (so.local source) so.earlier c h i
     where
-      one : (d : ℕ) → d < x.distances → (t : Bool) → hasRead x c d ≡ t → (u : Bool) → inShape x (readAt x c d) ≡ u
-          → pick t (get_or s (readAt x c d) 0) x.boundary ≡ pick (t and u) (w (readAt x c d)) x.boundary
-      one d l true a true b = e (readAt x c d) (at_reads x c d l a)
-      one d l true a false b = e (readAt x c d) (at_reads x c d l a) ∙ unswept (readAt x c d) (read_low x ok c d l a) b
+      one : (d : ℕ) → d < x.distances → (t : Bool) → has_read x c d ≡ t → (u : Bool) → in_shape x (read_at x c d) ≡ u
+          → pick t (get_or s (read_at x c d) 0) x.boundary ≡ pick (t and u) (w (read_at x c d)) x.boundary
+      one d l true a true b = e (read_at x c d) (at_reads x c d l a)
+      one d l true a false b = e (read_at x c d) (at_reads x c d l a) ∙ unswept (read_at x c d) (read_low x ok c d l a) b
       one d l false a true b = refl
       one d l false a false b = refl
 
@@ -116,48 +116,48 @@ module _ (x : Nest) (ok : Accepted x) (source array : List ℕ) (len : length ar
   q =
       record {
         cells = cells x;
-        inside = inShape x;
+        inside = in_shape x;
         boundary = x.boundary;
         tiles = p.tiles;
         processors = p.processors;
-        tileOf = p.tileOf;
+        tile_of = p.tile_of;
         cells_of = p.cells_of;
-        processorOf = p.processorOf;
+        processor_of = p.processor_of;
         messages = p.messages;
         reads_of = reads_of x;
         value = value x;
       }
 
   abbrev all : List ℕ
-  all = keep (inShape x) (cells x)
+  all = keep (in_shape x) (cells x)
 
   abbrev Out : ℕ → Type 0
-  Out r = (r < cells x) × (inShape x r ≡ false)
+  Out r = (r < cells x) × (in_shape x r ≡ false)
 
   read : (c r : ℕ) → c < cells x → In r (reads_of x c) → (In r all × (r < c)) ⊎ Out r
   read c r h k =
       let b = reads_at x c r k in
-      rw b.3 (go (readAt x c b.0) (read_low x ok c b.0 b.1 b.2) (read-before x ok c b.0 b.1 b.2 h) _ refl)
+      rw b.3 (go (read_at x c b.0) (read_low x ok c b.0 b.1 b.2) (read_before x ok c b.0 b.1 b.2 h) _ refl)
     where
-      go : (r : ℕ) → r < cells x → r < c → (t : Bool) → inShape x r ≡ t → (In r all × (r < c)) ⊎ Out r
-      go r l b true i = inl (in-keep (inShape x) (cells x) r l i, b)
+      go : (r : ℕ) → r < cells x → r < c → (t : Bool) → in_shape x r ≡ t → (In r all × (r < c)) ⊎ Out r
+      go r l b true i = inl (in_keep (in_shape x) (cells x) r l i, b)
       go r l b false o = inr (l, o)
 
-  stored_at : (c : ℕ) → (get_or array c 0 ≡ w c) ⊎ In c all → get_or (storeAll (value x source) array all) c 0 ≡ w c
+  stored_at : (c : ℕ) → (get_or array c 0 ≡ w c) ⊎ In c all → get_or (store_all (value x source) array all) c 0 ≡ w c
   stored_at =
-      stored-right q source w value-is all Out (λ c r i k. read c r (keep-in (inShape x) (cells x) c i).0 k)
-      (λ c i. (keep-in (inShape x) (cells x) c i).0) (λ c i. (keep-in (inShape x) (cells x) c i).1) all array
-      (keep-rising (inShape x) (cells x)) (λ y i. i) len (λ y o. outside y o.0 o.1 ∙ sym (unswept y o.0 o.1)) (λ y i. inl i)
+      stored_right q source w value_is all Out (λ c r i k. read c r (keep_in (in_shape x) (cells x) c i).0 k)
+      (λ c i. (keep_in (in_shape x) (cells x) c i).0) (λ c i. (keep_in (in_shape x) (cells x) c i).1) all array
+      (keep_rising (in_shape x) (cells x)) (λ y i. i) len (λ y o. outside y o.0 o.1 ∙ sym (unswept y o.0 o.1)) (λ y i. inl i)
 
-  either : (c : ℕ) → c < cells x → (t : Bool) → inShape x c ≡ t → (get_or array c 0 ≡ w c) ⊎ In c all
-  either c h true i = inr (in-keep (inShape x) (cells x) c h i)
+  either : (c : ℕ) → c < cells x → (t : Bool) → in_shape x c ≡ t → (get_or array c 0 ≡ w c) ⊎ In c all
+  either c h true i = inr (in_keep (in_shape x) (cells x) c h i)
   either c h false o = inl (outside c h o ∙ sym (unswept c h o))
 
-  pub sweep-is : runNest x source array (shape_of x (sequential x)) ≡ sweep (plan_of Direct x) source
-  sweep-is =
-      run-stores x ok source (shape_of x (sequential x)) array (each-shape x (sequential x) (sequential-each x ok source))
-      ∙ ap (storeAll (value x source) array)
-      (map-shape x (sequential x) ∙ ap (chosen (inShape x)) (cells-in-order x ok) ∙ chosen-all (inShape x) (cells x))
-      ∙ ext_get_or 0 (storeAll (value x source) array all) (sweep p source)
-      (store_length (value x source) all array ∙ len ∙ sym (sweep-length p source (so.local source) so.earlier (cells x)))
-      (λ c k. let h : c < cells x = rw (store_length (value x source) all array ∙ len) at k in stored_at c (either c h (inShape x c) refl))
+  pub sweep_is : run_nest x source array (shape_of x (sequential x)) ≡ sweep (plan_of Direct x) source
+  sweep_is =
+      run_stores x ok source (shape_of x (sequential x)) array (each_shape x (sequential x) (sequential_each x ok source))
+      ∙ ap (store_all (value x source) array)
+      (map_shape x (sequential x) ∙ ap (chosen (in_shape x)) (cells_in_order x ok) ∙ chosen_all (in_shape x) (cells x))
+      ∙ ext_get_or 0 (store_all (value x source) array all) (sweep p source)
+      (store_length (value x source) all array ∙ len ∙ sym (sweep_length p source (so.local source) so.earlier (cells x)))
+      (λ c k. let h : c < cells x = rw (store_length (value x source) all array ∙ len) at k in stored_at c (either c h (in_shape x c) refl))

@@ -4,65 +4,65 @@ use mathlib.Core.List.{[], ◌∷◌}
 use Rattle.base.specs.Tests.{◌and◌, ◌or◌, not, pick, one, every, some, keep, those, tabulate, product}
 use Rattle.base.specs.Numbers.{first_of}
 use Rattle.machine.specs.Plan.{offset, count}
-use Rattle.nest.specs.Nest.{tileCount, cells, processors, boxTiles}
-use Rattle.nest.specs.Reader.{ofKind, filled, nestBy, nestOf, ragged, blank, checked, mayStand, fitsAt, wellFormed, strayRecord, noLength, badLength}
-use Rattle.nest.specs.Reader.{tooLarge, needlesslyWide, same, beyond, faulty, badDistance, reached, badTile, badSpread, lastSpread, badProcessors}
-use Rattle.nest.specs.Reader.{readLines}
+use Rattle.nest.specs.Nest.{tile_count, cells, processors, box_tiles}
+use Rattle.nest.specs.Reader.{of_kind, filled, nest_by, nest_of, ragged, blank, checked, may_stand, fits_at, well_formed, stray_record, no_length, bad_length}
+use Rattle.nest.specs.Reader.{too_large, needlessly_wide, same, beyond, faulty, bad_distance, reached, bad_tile, bad_spread, last_spread, bad_processors}
+use Rattle.nest.specs.Reader.{read_lines}
 use Rattle.nest.proofs.Quick.{quick}
 use Rattle.plan.specs.declared.Route.TheVariants.{Direct, Indirect}
-use Rattle.nest.specs.Places.{rank, place, cell_at, cellPlace, tileAt, tilePlace, boxTileOf}
-use Rattle.plan.specs.Geometry.{processorOf, inside}
-use Rattle.plan.specs.Messages.{directions, ahead, reaches, crosses, parcel, taker, before, hasOrigin, origin, passes, passed, neighbour}
-use Rattle.plan.specs.Messages.{slotCells, slotTaker, at_home, slotParcel, messagesTo, boxPlan}
-use Rattle.plan.specs.Hops.{hopsAlong, hops}
-use Rattle.conformance.specs.Examples.{rowSix, row_line, rowTwice, rowMiddle, accepted, figures, figuresIf, messageLine, linesTo, SingleCounts}
-use Rattle.conformance.proofs.RowNests.{nestSix, nestLine, nestTwice, nestMiddle, isSix, is_line, isTwice, isMiddle}
+use Rattle.nest.specs.Places.{rank, place, cell_at, cell_place, tile_at, tile_place, box_tile_of}
+use Rattle.plan.specs.Geometry.{processor_of, inside}
+use Rattle.plan.specs.Messages.{directions, ahead, reaches, crosses, parcel, taker, before, has_origin, origin, passes, passed, neighbour}
+use Rattle.plan.specs.Messages.{slot_cells, slot_taker, at_home, slot_parcel, messages_to, box_plan}
+use Rattle.plan.specs.Hops.{hops_along, hops}
+use Rattle.conformance.specs.Examples.{row_six, row_line, row_twice, row_middle, accepted, figures, figures_if, message_line, lines_to, SingleCounts}
+use Rattle.conformance.proofs.RowNests.{nest_six, nest_line, nest_twice, nest_middle, is_six, is_line, is_twice, is_middle}
 
 -- ---- numbers and figures of all rows
 
 record Numbered : Type 0 where
-  six : first_of (readLines rowSix) ≡ 0
-  line : first_of (readLines row_line) ≡ 0
-  twice : first_of (readLines rowTwice) ≡ 0
-  middle : first_of (readLines rowMiddle) ≡ 0
+  six : first_of (read_lines row_six) ≡ 0
+  line : first_of (read_lines row_line) ≡ 0
+  twice : first_of (read_lines row_twice) ≡ 0
+  middle : first_of (read_lines row_middle) ≡ 0
 
 numbered : Numbered
-unfolding first_of ◌and◌ ◌or◌ not pick every some keep those tabulate product tileCount cells boxTiles processors ofKind filled nestBy nestOf ragged blank
-    checked mayStand fitsAt wellFormed strayRecord noLength badLength tooLarge needlesslyWide same beyond faulty badDistance reached badTile badSpread
-    lastSpread badProcessors
-numbered = record { six = quick rowSix ∙ refl; line = quick row_line ∙ refl; twice = quick rowTwice ∙ refl; middle = quick rowMiddle ∙ refl }
+unfolding first_of ◌and◌ ◌or◌ not pick every some keep those tabulate product tile_count cells box_tiles processors of_kind filled nest_by nest_of ragged blank
+    checked may_stand fits_at well_formed stray_record no_length bad_length too_large needlessly_wide same beyond faulty bad_distance reached bad_tile bad_spread
+    last_spread bad_processors
+numbered = record { six = quick row_six ∙ refl; line = quick row_line ∙ refl; twice = quick row_twice ∙ refl; middle = quick row_middle ∙ refl }
 
 record Counted : Type 0 where
-  six : figuresIf 0 (boxPlan Direct nestSix) ≡ accepted 18 25 25 86
-  line : figuresIf 0 (boxPlan Direct nestLine) ≡ accepted 4 1 4 10
-  twice : figuresIf 0 (boxPlan Direct nestTwice) ≡ accepted 4 3 5 14
-  middle : figuresIf 0 (boxPlan Direct nestMiddle) ≡ accepted 8 1 1 18
+  six : figures_if 0 (box_plan Direct nest_six) ≡ accepted 18 25 25 86
+  line : figures_if 0 (box_plan Direct nest_line) ≡ accepted 4 1 4 10
+  twice : figures_if 0 (box_plan Direct nest_twice) ≡ accepted 4 3 5 14
+  middle : figures_if 0 (box_plan Direct nest_middle) ≡ accepted 8 1 1 18
 
 counted : Counted
-unfolding figuresIf offset ◌and◌ ◌or◌ pick every some keep product tileCount cells boxTiles rank place cell_at cellPlace tileAt tilePlace boxTileOf inside
-    directions ahead reaches crosses parcel taker slotCells slotTaker at_home slotParcel messagesTo processorOf
+unfolding figures_if offset ◌and◌ ◌or◌ pick every some keep product tile_count cells box_tiles rank place cell_at cell_place tile_at tile_place box_tile_of inside
+    directions ahead reaches crosses parcel taker slot_cells slot_taker at_home slot_parcel messages_to processor_of
 counted = record { six = refl; line = refl; twice = refl; middle = refl }
 
 record Indirectly : Type 0 where
-  six : figuresIf 0 (boxPlan Indirect nestSix) ≡ accepted 18 15 25 66
-  line : figuresIf 0 (boxPlan Indirect nestLine) ≡ accepted 4 1 4 10
-  twice : figuresIf 0 (boxPlan Indirect nestTwice) ≡ accepted 4 2 4 12
-  middle : figuresIf 0 (boxPlan Indirect nestMiddle) ≡ accepted 8 2 2 20
+  six : figures_if 0 (box_plan Indirect nest_six) ≡ accepted 18 15 25 66
+  line : figures_if 0 (box_plan Indirect nest_line) ≡ accepted 4 1 4 10
+  twice : figures_if 0 (box_plan Indirect nest_twice) ≡ accepted 4 2 4 12
+  middle : figures_if 0 (box_plan Indirect nest_middle) ≡ accepted 8 2 2 20
 
 indirectly : Indirectly
-unfolding figuresIf offset ◌and◌ ◌or◌ pick every some keep product tileCount cells boxTiles rank place cell_at cellPlace tileAt tilePlace boxTileOf inside
-    directions ahead reaches crosses before hasOrigin origin passes passed neighbour one slotCells slotTaker at_home slotParcel messagesTo processorOf
+unfolding figures_if offset ◌and◌ ◌or◌ pick every some keep product tile_count cells box_tiles rank place cell_at cell_place tile_at tile_place box_tile_of inside
+    directions ahead reaches crosses before has_origin origin passes passed neighbour one slot_cells slot_taker at_home slot_parcel messages_to processor_of
 indirectly = record { six = refl; line = refl; twice = refl; middle = refl }
 
 -- ---- row Six
 
-six : figures Direct rowSix ≡ accepted 18 25 25 86
+six : figures Direct row_six ≡ accepted 18 25 25 86
 unfolding figures
-six = rw (numbered.six, isSix) counted.six
+six = rw (numbered.six, is_six) counted.six
 
-six-indirect : figures Indirect rowSix ≡ accepted 18 15 25 66
+six_indirect : figures Indirect row_six ≡ accepted 18 15 25 66
 unfolding figures
-six-indirect = rw (numbered.six, isSix) indirectly.six
+six_indirect = rw (numbered.six, is_six) indirectly.six
 
 -- ---- row Line
 
@@ -70,86 +70,86 @@ line : figures Direct row_line ≡ accepted 4 1 4 10
 unfolding figures
 line = rw (numbered.line, is_line) counted.line
 
-line-indirect : figures Indirect row_line ≡ accepted 4 1 4 10
+line_indirect : figures Indirect row_line ≡ accepted 4 1 4 10
 unfolding figures
-line-indirect = rw (numbered.line, is_line) indirectly.line
+line_indirect = rw (numbered.line, is_line) indirectly.line
 
 record Listed : Type 0 where
-  line : linesTo (boxPlan Direct nestLine) (count (boxPlan Direct nestLine))
+  line : lines_to (box_plan Direct nest_line) (count (box_plan Direct nest_line))
       ≡ (0 ∷ 0 ∷ 3 ∷ 0 ∷ 1 ∷ 4 ∷ []) ∷ []
-  twice : linesTo (boxPlan Direct nestTwice) (count (boxPlan Direct nestTwice))
+  twice : lines_to (box_plan Direct nest_twice) (count (box_plan Direct nest_twice))
       ≡ (0 ∷ 0 ∷ 2 ∷ 0 ∷ 1 ∷ 2 ∷ []) ∷ (1 ∷ 0 ∷ 3 ∷ 0 ∷ 1 ∷ 1 ∷ []) ∷ (2 ∷ 1 ∷ 3 ∷ 0 ∷ 1 ∷ 2 ∷ []) ∷ []
-  middle : linesTo (boxPlan Direct nestMiddle) (count (boxPlan Direct nestMiddle))
+  middle : lines_to (box_plan Direct nest_middle) (count (box_plan Direct nest_middle))
       ≡ (0 ∷ 0 ∷ 7 ∷ 0 ∷ 3 ∷ 1 ∷ []) ∷ []
 
 listed : Listed
-unfolding linesTo messageLine ◌and◌ ◌or◌ pick every some keep product tileCount cells boxTiles rank place cell_at cellPlace tileAt tilePlace boxTileOf inside
-    directions ahead reaches crosses parcel taker slotCells slotTaker at_home slotParcel messagesTo processorOf
+unfolding lines_to message_line ◌and◌ ◌or◌ pick every some keep product tile_count cells box_tiles rank place cell_at cell_place tile_at tile_place box_tile_of inside
+    directions ahead reaches crosses parcel taker slot_cells slot_taker at_home slot_parcel messages_to processor_of
 listed = record { line = refl; twice = refl; middle = refl }
 
-linesLine-indirect : linesTo (boxPlan Indirect nestLine) (count (boxPlan Indirect nestLine))
+lines_line_indirect : lines_to (box_plan Indirect nest_line) (count (box_plan Indirect nest_line))
     ≡ (0 ∷ 2 ∷ 3 ∷ 0 ∷ 1 ∷ 4 ∷ []) ∷ []
-unfolding linesTo messageLine ◌and◌ ◌or◌ pick every some keep product tileCount cells boxTiles rank place cell_at cellPlace tileAt tilePlace boxTileOf inside
-    directions ahead reaches crosses before hasOrigin origin passes passed neighbour one slotCells slotTaker at_home slotParcel messagesTo processorOf
-linesLine-indirect = refl
+unfolding lines_to message_line ◌and◌ ◌or◌ pick every some keep product tile_count cells box_tiles rank place cell_at cell_place tile_at tile_place box_tile_of inside
+    directions ahead reaches crosses before has_origin origin passes passed neighbour one slot_cells slot_taker at_home slot_parcel messages_to processor_of
+lines_line_indirect = refl
 
-hopsLine : hops nestLine 1 ∷ hops nestLine 2 ∷ hops nestLine 3 ∷ [] ≡ 1 ∷ 0 ∷ 1 ∷ []
-unfolding hops hopsAlong ◌and◌ pick keep place ahead
-hopsLine = refl
+hops_line : hops nest_line 1 ∷ hops nest_line 2 ∷ hops nest_line 3 ∷ [] ≡ 1 ∷ 0 ∷ 1 ∷ []
+unfolding hops hops_along ◌and◌ pick keep place ahead
+hops_line = refl
 
 -- ---- row Twice
 
-twice : figures Direct rowTwice ≡ accepted 4 3 5 14
+twice : figures Direct row_twice ≡ accepted 4 3 5 14
 unfolding figures
-twice = rw (numbered.twice, isTwice) counted.twice
+twice = rw (numbered.twice, is_twice) counted.twice
 
-twice-indirect : figures Indirect rowTwice ≡ accepted 4 2 4 12
+twice_indirect : figures Indirect row_twice ≡ accepted 4 2 4 12
 unfolding figures
-twice-indirect = rw (numbered.twice, isTwice) indirectly.twice
+twice_indirect = rw (numbered.twice, is_twice) indirectly.twice
 
-heldTwice : parcel nestTwice 0 2 ∷ parcel nestTwice 0 3 ∷ [] ≡ (4 ∷ 5 ∷ []) ∷ (5 ∷ []) ∷ []
-unfolding ◌and◌ ◌or◌ pick every some keep product tileCount cells rank place cell_at cellPlace tileAt tilePlace boxTileOf inside ahead reaches crosses parcel
-heldTwice = refl
+held_twice : parcel nest_twice 0 2 ∷ parcel nest_twice 0 3 ∷ [] ≡ (4 ∷ 5 ∷ []) ∷ (5 ∷ []) ∷ []
+unfolding ◌and◌ ◌or◌ pick every some keep product tile_count cells rank place cell_at cell_place tile_at tile_place box_tile_of inside ahead reaches crosses parcel
+held_twice = refl
 
 -- ---- row Middle
 
-middle : figures Direct rowMiddle ≡ accepted 8 1 1 18
+middle : figures Direct row_middle ≡ accepted 8 1 1 18
 unfolding figures
-middle = rw (numbered.middle, isMiddle) counted.middle
+middle = rw (numbered.middle, is_middle) counted.middle
 
-middle-indirect : figures Indirect rowMiddle ≡ accepted 8 2 2 20
+middle_indirect : figures Indirect row_middle ≡ accepted 8 2 2 20
 unfolding figures
-middle-indirect = rw (numbered.middle, isMiddle) indirectly.middle
+middle_indirect = rw (numbered.middle, is_middle) indirectly.middle
 
-linesMiddle-indirect : linesTo (boxPlan Indirect nestMiddle) (count (boxPlan Indirect nestMiddle))
+lines_middle_indirect : lines_to (box_plan Indirect nest_middle) (count (box_plan Indirect nest_middle))
     ≡ (0 ∷ 0 ∷ 4 ∷ 0 ∷ 2 ∷ 1 ∷ []) ∷ (1 ∷ 6 ∷ 7 ∷ 2 ∷ 3 ∷ 1 ∷ []) ∷ []
-unfolding linesTo messageLine ◌and◌ ◌or◌ pick every some keep product tileCount cells boxTiles rank place cell_at cellPlace tileAt tilePlace boxTileOf inside
-    directions ahead reaches crosses before hasOrigin origin passes passed neighbour one slotCells slotTaker at_home slotParcel messagesTo processorOf
-linesMiddle-indirect = refl
+unfolding lines_to message_line ◌and◌ ◌or◌ pick every some keep product tile_count cells box_tiles rank place cell_at cell_place tile_at tile_place box_tile_of inside
+    directions ahead reaches crosses before has_origin origin passes passed neighbour one slot_cells slot_taker at_home slot_parcel messages_to processor_of
+lines_middle_indirect = refl
 
-hopsMiddle : hops nestMiddle 7 ≡ 2
-unfolding hops hopsAlong ◌and◌ pick keep place ahead
-hopsMiddle = refl
+hops_middle : hops nest_middle 7 ≡ 2
+unfolding hops hops_along ◌and◌ pick keep place ahead
+hops_middle = refl
 
 -- ---- the table
 
-pub single-counts : SingleCounts
-single-counts =
+pub single_counts : SingleCounts
+single_counts =
     record {
       six = six;
-      six-indirect = six-indirect;
+      six_indirect = six_indirect;
       line = line;
-      line-indirect = line-indirect;
-      lines-line = rw is_line listed.line;
-      lines-line-indirect = rw is_line linesLine-indirect;
-      hops-line = rw is_line hopsLine;
+      line_indirect = line_indirect;
+      lines_line = rw is_line listed.line;
+      lines_line_indirect_lem = rw is_line lines_line_indirect;
+      hops_line_lem = rw is_line hops_line;
       twice = twice;
-      twice-indirect = twice-indirect;
-      lines-twice = rw isTwice listed.twice;
-      held-twice = rw isTwice heldTwice;
+      twice_indirect = twice_indirect;
+      lines_twice = rw is_twice listed.twice;
+      held_twice_lem = rw is_twice held_twice;
       middle = middle;
-      middle-indirect = middle-indirect;
-      lines-middle = rw isMiddle listed.middle;
-      lines-middle-indirect = rw isMiddle linesMiddle-indirect;
-      hops-middle = rw isMiddle hopsMiddle;
+      middle_indirect = middle_indirect;
+      lines_middle = rw is_middle listed.middle;
+      lines_middle_indirect_lem = rw is_middle lines_middle_indirect;
+      hops_middle_lem = rw is_middle hops_middle;
     }

@@ -3,11 +3,11 @@
 use Rattle.std.specs.Prelude.{ℕ, ◌≡◌, List, [], ◌∷◌, ◌++◌, replicate}
 use Rattle.base.specs.Numbers.{first_of}
 use Rattle.machine.specs.Machine.{sweep}
-use Rattle.nest.specs.Reader.{nestOf, readLines}
+use Rattle.nest.specs.Reader.{nest_of, read_lines}
 use Rattle.nest.specs.Recipes.{dimension, bound}
 use Rattle.plan.specs.declared.Route.TheVariants.{Direct, Indirect}
 use Rattle.plan.specs.Shaped.{plan_of}
-use Rattle.conformance.specs.Exact.{sequential, runNest}
+use Rattle.conformance.specs.Exact.{sequential, run_nest}
 use Rattle.conformance.specs.ExactShape.{shape_of}
 
 -- distance (1,0) of weight 65,535; shift 4, boundary 4,294,967,295
@@ -15,11 +15,11 @@ abbrev pub heavy : List ℕ
 heavy = (2 ∷ 0 ∷ 1 ∷ 0 ∷ 0 ∷ 0 ∷ 255 ∷ 255 ∷ replicate 8 0) ++ (3 ∷ 4 ∷ 0 ∷ 0 ∷ 255 ∷ 255 ∷ 255 ∷ 255 ∷ replicate 8 0)
 
 -- N 2,1 k 1,1 P 2,0; the same with i2 at least 0, which cuts nothing
-abbrev pub rowHeavy : List ℕ
-rowHeavy = dimension 2 1 2 ++ dimension 1 1 0 ++ heavy
+abbrev pub row_heavy : List ℕ
+row_heavy = dimension 2 1 2 ++ dimension 1 1 0 ++ heavy
 
-abbrev pub rowHeavyBound : List ℕ
-rowHeavyBound = dimension 2 1 2 ++ dimension 1 1 0 ++ bound 0 1 0 0 0 0 ++ heavy
+abbrev pub row_heavy_bound : List ℕ
+row_heavy_bound = dimension 2 1 2 ++ dimension 1 1 0 ++ bound 0 1 0 0 0 0 ++ heavy
 
 abbrev pub deep : List ℕ
 deep = 4294967295 ∷ 7 ∷ []
@@ -30,12 +30,12 @@ abbrev pub swept : List ℕ
 swept = 4294963200 ∷ 4009754880 ∷ []
 
 pub record BodyExamples : Type 0 where
-  pub read : first_of (readLines rowHeavy) ≡ 0
-  pub read-bound : first_of (readLines rowHeavyBound) ≡ 0
+  pub read : first_of (read_lines row_heavy) ≡ 0
+  pub read_bound : first_of (read_lines row_heavy_bound) ≡ 0
   -- the sweep's words, which every call's words are, on either route and with a bound
-  pub direct : sweep (plan_of Direct (nestOf rowHeavy)) deep ≡ swept
-  pub indirect : sweep (plan_of Indirect (nestOf rowHeavy)) deep ≡ swept
-  pub with_bound : sweep (plan_of Direct (nestOf rowHeavyBound)) deep ≡ swept
+  pub direct : sweep (plan_of Direct (nest_of row_heavy)) deep ≡ swept
+  pub indirect : sweep (plan_of Indirect (nest_of row_heavy)) deep ≡ swept
+  pub with_bound : sweep (plan_of Direct (nest_of row_heavy_bound)) deep ≡ swept
   -- and those of the report's sequential nest
-  pub nest : runNest (nestOf rowHeavy) deep (0 ∷ 0 ∷ []) (sequential (nestOf rowHeavy)) ≡ swept
-  pub nest-bound : runNest (nestOf rowHeavyBound) deep (0 ∷ 0 ∷ []) (shape_of (nestOf rowHeavyBound) (sequential (nestOf rowHeavyBound))) ≡ swept
+  pub nest : run_nest (nest_of row_heavy) deep (0 ∷ 0 ∷ []) (sequential (nest_of row_heavy)) ≡ swept
+  pub nest_bound : run_nest (nest_of row_heavy_bound) deep (0 ∷ 0 ∷ []) (shape_of (nest_of row_heavy_bound) (sequential (nest_of row_heavy_bound))) ≡ swept

@@ -6,8 +6,8 @@ use Rattle.base.specs.Tests.{not, pick}
 use Rattle.base.specs.Numbers.{Line, line, first_of}
 use Rattle.machine.specs.Plan.{Plan, count, words}
 use Rattle.machine.specs.Machine.{State, fit, Answered, answered}
-use Rattle.stages.specs.Progress.{setRecord}
-use Rattle.engine.specs.Calls.{areaLines}
+use Rattle.stages.specs.Progress.{set_record}
+use Rattle.engine.specs.Calls.{area_lines}
 use Rattle.engine.specs.declared.core.Turned.{Turned}
 
 -- each lent area has exactly its length
@@ -25,18 +25,18 @@ pub record MayTurn (p : Plan) (source : List ℕ) (s : State) (b : ℕ) : Type 0
   pub processor : b < p.processors
 
 -- lines 9 and 10, which a turn, a delivery and collecting share
-abbrev pub unfitLines : Plan → List ℕ → State → List Line
-unfitLines p source s = areaLines p source s ++ (line 10 (not (fit p s)) ∷ [])
+abbrev pub unfit_lines : Plan → List ℕ → State → List Line
+unfit_lines p source s = area_lines p source s ++ (line 10 (not (fit p s)) ∷ [])
 
 -- the marks and the number of a delivery, past the lines before it
-abbrev pub handedOver : List ℕ → ℕ → Answered (List ℕ)
-handedOver status m =
+abbrev pub handed_over : List ℕ → ℕ → Answered (List ℕ)
+handed_over status m =
     answered (first_of (line 11 (not (nat_lt m (length status))) ∷ line 14 (not (slice_index status m == 1)) ∷ [])) (slice_set status m 2) status
 
 -- the records' words after a turn of processor b that gave r
-unfoldable pub recordsAfter : List ℕ → ℕ → Turned → List ℕ
-recordsAfter records b r = pick (r.number == 0) (setRecord records b r.progress) records
+unfoldable pub records_after : List ℕ → ℕ → Turned → List ℕ
+records_after records b r = pick (r.number == 0) (set_record records b r.progress) records
 
 -- the records' words after a fresh start that gave this number
-unfoldable pub zerosAfter : List ℕ → ℕ → List ℕ
-zerosAfter records number = pick (number == 0) (replicate (length records) 0) records
+unfoldable pub zeros_after : List ℕ → ℕ → List ℕ
+zeros_after records number = pick (number == 0) (replicate (length records) 0) records

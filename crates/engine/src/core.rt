@@ -9,8 +9,8 @@ ghost use Rattle.layout.specs.Sizes.{Sized};
 ghost use Rattle.nest.specs.Nest.{processors};
 ghost use Rattle.tables.specs.Tables.{Tabled};
 ghost use Rattle.records.specs.Records.{Flattens};
-ghost use Rattle.engine.specs.Given.{MayTurn, unfitLines, handedOver, recordsAfter, zerosAfter};
-ghost use Rattle.engine.specs.Calls.{answer, areas, freshCall, turnCall, deliverCall, collectCall};
+ghost use Rattle.engine.specs.Given.{MayTurn, unfit_lines, handed_over, records_after, zeros_after};
+ghost use Rattle.engine.specs.Calls.{answer, areas, fresh_call, turn_call, deliver_call, collect_call};
 
 use base::{refusals, word_index, zero_bytes, zero_words};
 use layout::Sizes;
@@ -71,7 +71,7 @@ pub fn refusal_of_areas(
     requires sized { Sized nest sizes × Tabled nest sizes lens.now }
     requires words_len { length progress.words ≡ 192 }
     ensures { ((records : List ℕ) → Flattens progress records
-        → result ≡ first_of (unfitLines (plan_of sizes.route nest) source.now
+        → result ≡ first_of (unfit_lines (plan_of sizes.route nest) source.now
         (state_of memories.now buffer.now records status.now)))
         × (result ≡ 0 → progress.count ≡ 3 * processors nest) }
 {
@@ -133,7 +133,7 @@ pub fn step(
 ) -> Turned
     requires sized { Sized nest sizes × Tabled nest sizes lens.now }
     requires may_turn { MayTurn (plan_of sizes.route nest) source.now (state_of memories.old buffer.old progress.now status.old) b }
-    ensures { answer result.number (state_of memories.new buffer.new (recordsAfter progress.now b result) status.new)
+    ensures { answer result.number (state_of memories.new buffer.new (records_after progress.now b result) status.new)
         ≡ turn (plan_of sizes.route nest) source.now
         (state_of memories.old buffer.old progress.now status.old) b }
 {
@@ -176,8 +176,8 @@ pub fn turn(
 ) -> Turned
     requires { length progress.words ≡ 192 }
     ensures { (records : List ℕ) → Flattens progress records
-        → answer result.number (state_of memories.new buffer.new (recordsAfter records processor result) status.new)
-        ≡ turnCall encoded.now route source.now
+        → answer result.number (state_of memories.new buffer.new (records_after records processor result) status.new)
+        ≡ turn_call encoded.now route source.now
         (state_of memories.old buffer.old records status.old) processor }
 {
     let mut lens = [0u16; TABLE_WORDS];
@@ -215,7 +215,7 @@ pub fn turn(
 
 // The delivery of a message, past the lines before it: line 11, line 14, and the mark.
 pub fn hand_over(status: &mut [u8], message: u32) -> u32
-    ensures { answer result status.new ≡ handedOver status.old message }
+    ensures { answer result status.new ≡ handed_over status.old message }
 {
     let m = message as usize;
     if m >= status.len() {
@@ -242,7 +242,7 @@ pub fn deliver(
     requires { length progress.words ≡ 192 }
     ensures { (records : List ℕ) → Flattens progress records
         → answer result (state_of memories.now buffer.now records status.new)
-        ≡ deliverCall encoded.now route source.now
+        ≡ deliver_call encoded.now route source.now
         (state_of memories.now buffer.now records status.old) message }
 {
     let mut lens = [0u16; TABLE_WORDS];
@@ -276,7 +276,7 @@ pub fn collect(
     requires { length progress.words ≡ 192 }
     ensures { (records : List ℕ) → Flattens progress records
         → answer result grid.new
-        ≡ collectCall encoded.now route source.now
+        ≡ collect_call encoded.now route source.now
         (state_of memories.now buffer.now records status.now) grid.old }
 {
     let mut lens = [0u16; TABLE_WORDS];
@@ -316,8 +316,8 @@ pub fn fresh(
     status: &mut [u8],
 ) -> u32
     ensures { (records : List ℕ) → words ≡ length records
-        → answer result (state_of memories.new buffer.new (zerosAfter records result) status.new)
-        ≡ freshCall encoded.now route source.now
+        → answer result (state_of memories.new buffer.new (zeros_after records result) status.new)
+        ≡ fresh_call encoded.now route source.now
         (state_of memories.old buffer.old records status.old) }
 {
     let mut lens = [0u16; TABLE_WORDS];

@@ -1,8 +1,8 @@
 // The calls for programs, which keep the records as words, three a processor, each on the route that a word names; and the sweep.
 ghost use Rattle.core.specs.Prelude.{◌≡◌, ◌+◌, ◌*◌, ◌<◌, length};
 ghost use Rattle.machine.specs.Machine.{state_of};
-ghost use Rattle.stages.specs.Progress.{setRecord};
-ghost use Rattle.engine.specs.Calls.{answer, freshCall, turnCall, deliverCall, collectCall, sweepCall};
+ghost use Rattle.stages.specs.Progress.{set_record};
+ghost use Rattle.engine.specs.Calls.{answer, fresh_call, turn_call, deliver_call, collect_call, sweep_call};
 
 pub mod core; // core.rt: the calls without the stores into the records
 
@@ -23,7 +23,7 @@ pub fn fresh(
     status: &mut [u8],
 ) -> u32
     ensures { answer result (state_of memories.new buffer.new progress.new status.new)
-        ≡ freshCall encoded.now route source.now
+        ≡ fresh_call encoded.now route source.now
         (state_of memories.old buffer.old progress.old status.old) }
 {
     let number = core::fresh(
@@ -45,7 +45,7 @@ pub fn fresh(
 // The words of a processor's record written.
 pub fn store_record(progress: &mut [u32], processor: usize, p: Progress)
     requires { 3 * processor + 2 < length progress.old }
-    ensures { progress.new ≡ setRecord progress.old processor p }
+    ensures { progress.new ≡ set_record progress.old processor p }
 {
     let at = 3 * processor;
     progress[at] = p.finished;
@@ -65,7 +65,7 @@ pub fn turn(
     processor: u32,
 ) -> u32
     ensures { answer result (state_of memories.new buffer.new progress.new status.new)
-        ≡ turnCall encoded.now route source.now
+        ≡ turn_call encoded.now route source.now
         (state_of memories.old buffer.old progress.old status.old) processor }
 {
     let after = core::turn(
@@ -99,7 +99,7 @@ pub fn deliver(
     message: u32,
 ) -> u32
     ensures { answer result (state_of memories.now buffer.now progress.now status.new)
-        ≡ deliverCall encoded.now route source.now
+        ≡ deliver_call encoded.now route source.now
         (state_of memories.now buffer.now progress.now status.old) message }
 {
     core::deliver(
@@ -126,7 +126,7 @@ pub fn collect(
     grid: &mut [u32],
 ) -> u32
     ensures { answer result grid.new
-        ≡ collectCall encoded.now route source.now
+        ≡ collect_call encoded.now route source.now
         (state_of memories.now buffer.now progress.now status.now) grid.old }
 {
     core::collect(
@@ -143,7 +143,7 @@ pub fn collect(
 
 // The sequential sweep of the whole grid, the same on every route.
 pub fn sweep(encoded: &[u8], source: &[u32], grid: &mut [u32]) -> u32
-    ensures { answer result grid.new ≡ sweepCall encoded.now source.now grid.old }
+    ensures { answer result grid.new ≡ sweep_call encoded.now source.now grid.old }
 {
     let reading = read(encoded);
     let number = reading.number;

@@ -4,74 +4,74 @@ use mathlib.Core.Path.{◌≡◌, refl, sym, ap, ◌∙◌, subst}
 use mathlib.Core.List.{List, []}
 use lib.ListN.{length-replicate}
 use Rattle.machine.specs.Machine.{State, Answered, fresh}
-use Rattle.machine.proofs.RunLaws.{number_of, after-of}
-use Rattle.nest.specs.Recipes.{rowD}
-use Rattle.engine.specs.Calls.{answer, recipe, freshCall}
+use Rattle.machine.proofs.RunLaws.{number_of, after_of}
+use Rattle.nest.specs.Recipes.{row_d}
+use Rattle.engine.specs.Calls.{answer, recipe, fresh_call}
 use Rattle.network.specs.Packets.{Network}
 use Rattle.part.specs.Part.{lent_of}
-use Rattle.part_calls.specs.front.Calls.{toPart, partFreshCall}
-use Rattle.network_runs.specs.Calls.{startCalls}
-use Rattle.network_runs.specs.BoardExamples.{sourceD, wholeSources, partSources, wholeLent, partLent}
+use Rattle.part_calls.specs.front.Calls.{to_part, part_fresh_call}
+use Rattle.network_runs.specs.Calls.{start_calls}
+use Rattle.network_runs.specs.BoardExamples.{source_d, whole_sources, part_sources, whole_lent, part_lent}
 use Rattle.network_runs.proofs.Demands as whole_run
-use Rattle.network_runs.proofs.BoardExamples.{board-rows}
-use Rattle.network_runs.proofs.part.OnePart.{fresh-leaves}
+use Rattle.network_runs.proofs.BoardExamples.{board_rows}
+use Rattle.network_runs.proofs.part.OnePart.{fresh_leaves}
 use Rattle.calls.specs.Gave.{Areas, in_words, FreshGave, PartFreshGave}
 use Rattle.guarantees.specs.OnBoards.{Boards, BegunBoards, BegunParts}
-use Rattle.guarantees.proofs.OverRecords.{areasFrom, in-words, Whole}
+use Rattle.guarantees.proofs.OverRecords.{areas_from, in_words_lem, Whole}
 
 -- an answer's two parts
-answers-as : (n : ℕ) (s : State) (r : Answered State) → r.number ≡ n → r.after ≡ s → answer n s ≡ r
-answers-as n s r e f = rw (sym e, sym f) refl
+answers_as : (n : ℕ) (s : State) (r : Answered State) → r.number ≡ n → r.after ≡ s → answer n s ≡ r
+answers_as n s r e f = rw (sym e, sym f) refl
 
-whole_fresh : Whole (fresh (recipe rowD 0)).progress
+whole_fresh : Whole (fresh (recipe row_d 0)).progress
 unfolding fresh
-whole_fresh = ((recipe rowD 0).processors, length-replicate {A = ℕ} (3 * (recipe rowD 0).processors) 0)
+whole_fresh = ((recipe row_d 0).processors, length-replicate {A = ℕ} (3 * (recipe row_d 0).processors) 0)
 
-abbrev fresh-areas : ℕ → Areas
-fresh-areas b = areasFrom (fresh (recipe rowD 0))
+abbrev fresh_areas : ℕ → Areas
+fresh_areas b = areas_from (fresh (recipe row_d 0))
 
-pub fresh-words : in_words (areasFrom (fresh (recipe rowD 0))) ≡ fresh (recipe rowD 0)
-fresh-words = in-words (fresh (recipe rowD 0)) whole_fresh
+pub fresh_words : in_words (areas_from (fresh (recipe row_d 0))) ≡ fresh (recipe row_d 0)
+fresh_words = in_words_lem (fresh (recipe row_d 0)) whole_fresh
 
-fresh-gave : (b : ℕ) → b < (recipe rowD 0).processors → FreshGave rowD 0 sourceD (fresh-areas b) 0 (fresh-areas b)
-unfolding startCalls
-fresh-gave b h =
-    subst (λ (s : State). answer 0 s ≡ freshCall rowD 0 sourceD s) (sym fresh-words)
-    (answers-as 0 (fresh (recipe rowD 0)) _ (board-rows.begun.gave b h)
-    (whole_run.start_is rowD 0 sourceD wholeSources wholeLent board-rows.begun b h))
+fresh_gave : (b : ℕ) → b < (recipe row_d 0).processors → FreshGave row_d 0 source_d (fresh_areas b) 0 (fresh_areas b)
+unfolding start_calls
+fresh_gave b h =
+    subst (λ (s : State). answer 0 s ≡ fresh_call row_d 0 source_d s) (sym fresh_words)
+    (answers_as 0 (fresh (recipe row_d 0)) _ (board_rows.begun.gave b h)
+    (whole_run.start_is row_d 0 source_d whole_sources whole_lent board_rows.begun b h))
 
-pub begun-boards : BegunBoards rowD 0 sourceD wholeSources fresh-areas (record { areas = fresh-areas; packets = [] })
-begun-boards =
+pub begun_boards : BegunBoards row_d 0 source_d whole_sources fresh_areas (record { areas = fresh_areas; packets = [] })
+begun_boards =
     record {
-      small = board-rows.begun.small;
-      accepted = board-rows.begun.accepted;
-      whole = board-rows.begun.whole;
-      own = board-rows.begun.own;
-      gave = fresh-gave;
+      small = board_rows.begun.small;
+      accepted = board_rows.begun.accepted;
+      whole = board_rows.begun.whole;
+      own = board_rows.begun.own;
+      gave = fresh_gave;
       none = refl;
     }
 
 -- ---- own parts
-abbrev part-areas : ℕ → Areas
-part-areas b = areasFrom (partLent b)
+abbrev part_areas : ℕ → Areas
+part_areas b = areas_from (part_lent b)
 
-part-words : (b : ℕ) → in_words (areasFrom (partLent b)) ≡ partLent b
+part_words : (b : ℕ) → in_words (areas_from (part_lent b)) ≡ part_lent b
 unfolding lent_of
-part-words b = in-words (partLent b) (1, refl)
+part_words b = in_words_lem (part_lent b) (1, refl)
 
-part-gave : (b : ℕ) → b < (recipe rowD 0).processors → PartFreshGave rowD 0 b (part-areas b) 0 (part-areas b)
-part-gave b h =
-    subst (λ (s : State). answer 0 s ≡ partFreshCall rowD 0 s b) (sym (part-words b))
-    (answers-as 0 (partLent b) _ (board-rows.begun-parts.gave b h)
-    (fresh-leaves rowD 0 board-rows.begun.accepted b h (partLent b) (board-rows.begun-parts.gave b h)))
+part_gave : (b : ℕ) → b < (recipe row_d 0).processors → PartFreshGave row_d 0 b (part_areas b) 0 (part_areas b)
+part_gave b h =
+    subst (λ (s : State). answer 0 s ≡ part_fresh_call row_d 0 s b) (sym (part_words b))
+    (answers_as 0 (part_lent b) _ (board_rows.begun_parts.gave b h)
+    (fresh_leaves row_d 0 board_rows.begun.accepted b h (part_lent b) (board_rows.begun_parts.gave b h)))
 
-pub begun-on-parts : BegunParts rowD 0 sourceD partSources part-areas (record { areas = part-areas; packets = [] })
-begun-on-parts =
+pub begun_on_parts : BegunParts row_d 0 source_d part_sources part_areas (record { areas = part_areas; packets = [] })
+begun_on_parts =
     record {
-      small = board-rows.begun.small;
-      accepted = board-rows.begun.accepted;
-      whole = board-rows.begun.whole;
-      own = board-rows.begun-parts.own;
-      gave = part-gave;
+      small = board_rows.begun.small;
+      accepted = board_rows.begun.accepted;
+      whole = board_rows.begun.whole;
+      own = board_rows.begun_parts.own;
+      gave = part_gave;
       none = refl;
     }

@@ -5,119 +5,119 @@ use mathlib.Core.Bool.{true}
 use mathlib.Core.List.{List, map}
 use lib.ListN.{length}
 use Rattle.base.specs.Lists.{Bytes}
-use Rattle.machine.specs.Machine.{State, tilesLeft}
-use Rattle.machine.specs.Runs.{deliveryOf, stateAfter, answersTo}
-use Rattle.machine.proofs.RunLaws.{number_of, after-of}
-use Rattle.tenants.specs.Tenants.{TenantAreas, Sharing, Sources, source_for, lentTo, own_of, put_back, carryOutFor}
-use Rattle.tenants.specs.Demand208.{eventsOf, answersOf}
-use Rattle.calendar.specs.Windows.{Moment, Timed, turnAt, mailOf, TimedCall, call_of, untilOpen}
+use Rattle.machine.specs.Machine.{State, tiles_left}
+use Rattle.machine.specs.Runs.{deliveryOf, state_after, answers_to}
+use Rattle.machine.proofs.RunLaws.{number_of, after_of}
+use Rattle.tenants.specs.Tenants.{TenantAreas, Sharing, Sources, source_for, lent_to, own_of, put_back, carry_out_for}
+use Rattle.tenants.specs.Demand208.{events_of, answers_of}
+use Rattle.calendar.specs.Windows.{Moment, Timed, turn_at, mail_of, TimedCall, call_of, until_open}
 use Rattle.calendar.specs.Demands212.{SomeStep, OnlyHours, SomeCall, OnlyHoursFor, Demand212, Demand212For, IsolatedAt}
 use Rattle.calendar.proofs.Telling.{tells}
 use Rattle.records.specs.declared.Progress.{Progress}
-use Rattle.records.specs.Records.{flatWords}
-use Rattle.records.proofs.Words.{length-words}
-use Rattle.engine.specs.Calls.{answer, recipe, collectCall}
+use Rattle.records.specs.Records.{flat_words}
+use Rattle.records.proofs.Words.{length_words}
+use Rattle.engine.specs.Calls.{answer, recipe, collect_call}
 use Rattle.engine.proofs.Demands as engine
-use Rattle.sharing.specs.Calls.{sharingCollects}
-use Rattle.calendar_calls.specs.Calls.{turnCallAt, turnCallAtFor, calls_at, callAtFor, sharingCallsAt}
-use Rattle.calendar_calls.proofs.Demands.{timed-demands}
+use Rattle.sharing.specs.Calls.{sharing_collects}
+use Rattle.calendar_calls.specs.Calls.{turn_call_at, turn_call_at_for, calls_at, call_at_for, sharing_calls_at}
+use Rattle.calendar_calls.proofs.Demands.{timed_demands}
 use Rattle.calendar.specs.declared.Opening.{Opening}
 use Rattle.calendar.specs.declared.Opening.TheVariants.{OpensIn, Never}
-use Rattle.calendar_calls.specs.Calls.{opensLines}
+use Rattle.calendar_calls.specs.Calls.{opens_lines}
 use Rattle.calls.specs.declared.hour.NextOpening.{NextOpening}
-use Rattle.calls.specs.Opens.{tells as told, openingTold, opensIf, opens_of}
+use Rattle.calls.specs.Opens.{tells as told, opening_told, opens_if, opens_of}
 use Rattle.calls.specs.Tells.{Tells}
-use Rattle.calls.proofs.Tells.{tells-by}
-use Rattle.calls.specs.Gave.{Areas, in_words, LentAreas, lentWords, SharingAreas, sharingWords}
+use Rattle.calls.proofs.Tells.{tells_by}
+use Rattle.calls.specs.Gave.{Areas, in_words, LentAreas, lent_words, SharingAreas, sharing_words}
 use Rattle.calls.specs.Gave.{FreshGave, CollectGave, FreshBothGave, TimedGave, TenantTimedGave, OpensGave}
 use Rattle.guarantees.specs.OverRecords.{Gave}
-use Rattle.guarantees.specs.OverSharing.{ownAreas, otherAreas, lentAreas, CollectGaveFor}
+use Rattle.guarantees.specs.OverSharing.{own_areas, other_areas, lent_areas, CollectGaveFor}
 use Rattle.guarantees.specs.OverCalendar.{TimedCallGave, FixedHours, Gives, NextStep, NextOpen, TimedRun}
 use Rattle.guarantees.specs.OverCalendar.{NextCall, NextOpenFor, TimedSharingRun, OverCalendar}
 use Rattle.guarantees.proofs.OverRecords as one
-use Rattle.guarantees.proofs.OverRecords.{run-numbers, run-words, whole-pick, can-answer, areas-fixed, fixed-as, one_answer, as_before}
-use Rattle.guarantees.proofs.OverRecords.{Whole, areasFrom, in-words, length-carry, over-records}
-use Rattle.guarantees.proofs.OverSharing.{lent-fixed, sharing-fixed, tenant-words, lent-words, other-words, returned-is, whole-lent}
-use Rattle.guarantees.proofs.OverSharing.{can-tenant, among, among-own, among-other, collect-length, collect-words}
+use Rattle.guarantees.proofs.OverRecords.{run_numbers, run_words, whole_pick, can_answer, areas_fixed, fixed_as, one_answer, as_before}
+use Rattle.guarantees.proofs.OverRecords.{Whole, areas_from, in_words_lem, length_carry, over_records}
+use Rattle.guarantees.proofs.OverSharing.{lent_fixed, sharing_fixed, tenant_words, lent_words_lem, other_words, returned_is, whole_lent}
+use Rattle.guarantees.proofs.OverSharing.{can_tenant, among, among_own, among_other, collect_length, collect_words}
 
-zero-told : (o : Opening) → (openingTold o).number ≡ 0
-unfolding openingTold
-zero-told (OpensIn m) = refl
-zero-told Never = refl
+zero_told : (o : Opening) → (opening_told o).number ≡ 0
+unfolding opening_told
+zero_told (OpensIn m) = refl
+zero_told Never = refl
 
 module _ (bytes : List ℕ) (route : ℕ) where
   -- ---- a contract, by the calls over words
 
-  pub event-call : (source : List ℕ) (a : Areas) (x : Timed) (n : ℕ) (b : Areas) → TimedGave bytes route source a x n b
+  pub event_call : (source : List ℕ) (a : Areas) (x : Timed) (n : ℕ) (b : Areas) → TimedGave bytes route source a x n b
       → answer n (in_words b) ≡ calls_at bytes route source (in_words a) x
   unfolding calls_at
-  event-call source a (turnAt h p) n b e = e
-  event-call source a (mailOf m) n b e = e
+  event_call source a (turn_at h p) n b e = e
+  event_call source a (mail_of m) n b e = e
 
-  tenant-call : (source : List ℕ) (o : ℕ) (theirs : List Progress) (a : LentAreas) (x : Timed) (n : ℕ) (b : LentAreas)
+  tenant_call : (source : List ℕ) (o : ℕ) (theirs : List Progress) (a : LentAreas) (x : Timed) (n : ℕ) (b : LentAreas)
       → TenantTimedGave bytes route source o theirs a x n b
-      → answer n (lentWords b) ≡ callAtFor bytes route source o (lentWords a) (flatWords theirs) x
-  unfolding callAtFor
-  tenant-call source o theirs a (turnAt h p) n b e = e
-  tenant-call source o theirs a (mailOf m) n b e = e
+      → answer n (lent_words b) ≡ call_at_for bytes route source o (lent_words a) (flat_words theirs) x
+  unfolding call_at_for
+  tenant_call source o theirs a (turn_at h p) n b e = e
+  tenant_call source o theirs a (mail_of m) n b e = e
 
-  pub sharing-call : (sources : Sources) (a : SharingAreas) (c : TimedCall) (n : ℕ) (b : SharingAreas) → TimedCallGave bytes route sources a c n b
-      → answer n (sharingWords b) ≡ sharingCallsAt bytes route sources (sharingWords a) c
-  unfolding sharingCallsAt
-  sharing-call sources a c n b h =
-      ap (λ (r : Sharing). answer n r) (sym (returned-is a b c.tenant h.others))
-      ∙ ap (put_back (sharingWords a) c.tenant)
-      (tenant-call (source_for sources c.tenant) c.tenant (otherAreas a c.tenant).progress (lentAreas a c.tenant) c.event n
-      (lentAreas b c.tenant) h.gave
-      ∙ ap (λ (l : TenantAreas). callAtFor bytes route (source_for sources c.tenant) c.tenant l
-      (flatWords (otherAreas a c.tenant).progress) c.event)
-      (lent-words a c.tenant)
-      ∙ ap (λ (l : List ℕ). callAtFor bytes route (source_for sources c.tenant) c.tenant (lentTo (sharingWords a) c.tenant) l c.event)
-      (other-words a c.tenant))
+  pub sharing_call : (sources : Sources) (a : SharingAreas) (c : TimedCall) (n : ℕ) (b : SharingAreas) → TimedCallGave bytes route sources a c n b
+      → answer n (sharing_words b) ≡ sharing_calls_at bytes route sources (sharing_words a) c
+  unfolding sharing_calls_at
+  sharing_call sources a c n b h =
+      ap (λ (r : Sharing). answer n r) (sym (returned_is a b c.tenant h.others))
+      ∙ ap (put_back (sharing_words a) c.tenant)
+      (tenant_call (source_for sources c.tenant) c.tenant (other_areas a c.tenant).progress (lent_areas a c.tenant) c.event n
+      (lent_areas b c.tenant) h.gave
+      ∙ ap (λ (l : TenantAreas). call_at_for bytes route (source_for sources c.tenant) c.tenant l
+      (flat_words (other_areas a c.tenant).progress) c.event)
+      (lent_words_lem a c.tenant)
+      ∙ ap (λ (l : List ℕ). call_at_for bytes route (source_for sources c.tenant) c.tenant (lent_to (sharing_words a) c.tenant) l c.event)
+      (other_words a c.tenant))
 
   -- ---- the contracts can be kept
 
-  whole-at : (source : List ℕ) (a : Areas) (h : Moment) (p : ℕ) → Whole (turnCallAt bytes route source h (in_words a) p).after.progress
-  unfolding turnCallAt
-  whole-at source a h p =
-      whole-pick _ _ (in_words a)
-      (length a.progress, length-carry (recipe bytes route) source (in_words a) p _ ∙ length-words a.progress)
-      (length a.progress, length-words a.progress)
+  whole_at : (source : List ℕ) (a : Areas) (h : Moment) (p : ℕ) → Whole (turn_call_at bytes route source h (in_words a) p).after.progress
+  unfolding turn_call_at
+  whole_at source a h p =
+      whole_pick _ _ (in_words a)
+      (length a.progress, length_carry (recipe bytes route) source (in_words a) p _ ∙ length_words a.progress)
+      (length a.progress, length_words a.progress)
 
-  can-event : (source : List ℕ) (a : Areas) (x : Timed) → (n : ℕ) × ((b : Areas) × TimedGave bytes route source a x n b)
-  can-event source a (turnAt h p) = can-answer (turnCallAt bytes route source h (in_words a) p) (whole-at source a h p)
-  can-event source a (mailOf m) = (over-records bytes route source).one.can-event a (deliveryOf m)
+  can_event : (source : List ℕ) (a : Areas) (x : Timed) → (n : ℕ) × ((b : Areas) × TimedGave bytes route source a x n b)
+  can_event source a (turn_at h p) = can_answer (turn_call_at bytes route source h (in_words a) p) (whole_at source a h p)
+  can_event source a (mail_of m) = (over_records bytes route source).one.can_event a (deliveryOf m)
 
   module _ (source : List ℕ) (o : ℕ) (theirs : List Progress) (a : LentAreas) where
-    whole-turn : (h : Moment) (p : ℕ) → Whole (turnCallAtFor bytes route source o h (lentWords a) (flatWords theirs) p).after.own.progress
-    unfolding turnCallAtFor carryOutFor
-    whole-turn h p =
-        whole-lent _ _ (lentWords a)
-        (length a.own.progress, length-carry (recipe bytes route) source (in_words a.own) p _ ∙ length-words a.own.progress)
-        (length a.own.progress, length-words a.own.progress)
+    whole_turn : (h : Moment) (p : ℕ) → Whole (turn_call_at_for bytes route source o h (lent_words a) (flat_words theirs) p).after.own.progress
+    unfolding turn_call_at_for carry_out_for
+    whole_turn h p =
+        whole_lent _ _ (lent_words a)
+        (length a.own.progress, length_carry (recipe bytes route) source (in_words a.own) p _ ∙ length_words a.own.progress)
+        (length a.own.progress, length_words a.own.progress)
 
-    can-tenant-at : (x : Timed) → (n : ℕ) × ((b : LentAreas) × TenantTimedGave bytes route source o theirs a x n b)
-    can-tenant-at (turnAt h p) =
-        let r = turnCallAtFor bytes route source o h (lentWords a) (flatWords theirs) p in
-        let s = in-words r.after.own (whole-turn h p) in (
+    can_tenant_at : (x : Timed) → (n : ℕ) × ((b : LentAreas) × TenantTimedGave bytes route source o theirs a x n b)
+    can_tenant_at (turn_at h p) =
+        let r = turn_call_at_for bytes route source o h (lent_words a) (flat_words theirs) p in
+        let s = in_words_lem r.after.own (whole_turn h p) in (
           r.number,
           (
-            record { own = areasFrom r.after.own; engaged = r.after.engaged },
+            record { own = areas_from r.after.own; engaged = r.after.engaged },
             ap (λ (s : State). answer r.number (record { own = s; engaged = r.after.engaged })) s,
           ),
         )
-    can-tenant-at (mailOf m) = can-tenant bytes route source o theirs a (deliveryOf m)
+    can_tenant_at (mail_of m) = can_tenant bytes route source o theirs a (deliveryOf m)
 
-  can-call : (sources : Sources) (a : SharingAreas) (c : TimedCall) → (n : ℕ) × ((b : SharingAreas) × TimedCallGave bytes route sources a c n b)
-  can-call sources a c = (
+  can_call : (sources : Sources) (a : SharingAreas) (c : TimedCall) → (n : ℕ) × ((b : SharingAreas) × TimedCallGave bytes route sources a c n b)
+  can_call sources a c = (
     r.0,
     (
       among bytes route sources a o r.1.0,
       record {
         gave =
-            subst (TenantTimedGave bytes route (source_for sources o) o (otherAreas a o).progress (lentAreas a o) c.event r.0)
-            (sym (among-own bytes route sources a o r.1.0)) r.1.1;
-        others = among-other bytes route sources a o r.1.0;
+            subst (TenantTimedGave bytes route (source_for sources o) o (other_areas a o).progress (lent_areas a o) c.event r.0)
+            (sym (among_own bytes route sources a o r.1.0)) r.1.1;
+        others = among_other bytes route sources a o r.1.0;
       },
     ),
   )
@@ -125,97 +125,97 @@ module _ (bytes : List ℕ) (route : ℕ) where
       o : ℕ
       o = c.tenant
 
-      r : (n : ℕ) × ((b : LentAreas) × TenantTimedGave bytes route (source_for sources o) o (otherAreas a o).progress (lentAreas a o)
+      r : (n : ℕ) × ((b : LentAreas) × TenantTimedGave bytes route (source_for sources o) o (other_areas a o).progress (lent_areas a o)
           c.event n b)
-      r = can-tenant-at (source_for sources o) o (otherAreas a o).progress (lentAreas a o) c.event
+      r = can_tenant_at (source_for sources o) o (other_areas a o).progress (lent_areas a o) c.event
 
   -- ---- demand 1
 
-  opens-tells : (h : Moment) (b : ℕ) (r : NextOpening) → OpensGave bytes h b r
-      → Tells (λ o. o.number) (opensLines bytes h b) (openingTold (untilOpen h.calendar h.minute b)) (λ n. told n 0 0) r
-  unfolding opens_of opensIf
-  opens-tells h b r e =
-      tells-by (λ (o : NextOpening). o.number) (λ n. opensIf n (untilOpen h.calendar h.minute b)) (openingTold (untilOpen h.calendar h.minute b))
-      (λ n. told n 0 0) refl (λ n. refl) (zero-told (untilOpen h.calendar h.minute b)) (λ n. refl) (opensLines bytes h b) r e
+  opens_tells : (h : Moment) (b : ℕ) (r : NextOpening) → OpensGave bytes h b r
+      → Tells (λ o. o.number) (opens_lines bytes h b) (opening_told (until_open h.calendar h.minute b)) (λ n. told n 0 0) r
+  unfolding opens_of opens_if
+  opens_tells h b r e =
+      tells_by (λ (o : NextOpening). o.number) (λ n. opens_if n (until_open h.calendar h.minute b)) (opening_told (until_open h.calendar h.minute b))
+      (λ n. told n 0 0) refl (λ n. refl) (zero_told (until_open h.calendar h.minute b)) (λ n. refl) (opens_lines bytes h b) r e
 
-  fixed-hours : FixedHours bytes route
-  fixed-hours =
+  fixed_hours : FixedHours bytes route
+  fixed_hours =
       record {
         turn = λ source a b h p n e.
-            let f = (timed-demands.calls bytes route source h p).turn (in_words a) in
-            record { fixed = fixed-as e f; as_before = as_before in_words areas-fixed a b n e f };
-        tenant-turn = λ source o theirs a b h p n e.
-            let f = (timed-demands.calls bytes route source h p).tenant-turn o (lentWords a) (flatWords theirs) in
-            record { fixed = fixed-as e f; as_before = as_before lentWords lent-fixed a b n e f };
-        opens = opens-tells;
-        tells-opening = λ h b r e z. let o = opens-tells h b r e in (o.works (sym o.first ∙ z), tells h.calendar h.minute b);
-        can-event = can-event;
-        can-call = can-call;
-        one-event = λ source a b c x n k g h.
-            one_answer in_words areas-fixed b c n k (event-call source a x n b g) (event-call source a x k c h);
-        one-call = λ sources a b d c n k g h.
-            one_answer sharingWords sharing-fixed b d n k (sharing-call sources a c n b g) (sharing-call sources a c k d h);
+            let f = (timed_demands.calls bytes route source h p).turn (in_words a) in
+            record { fixed = fixed_as e f; as_before = as_before in_words areas_fixed a b n e f };
+        tenant_turn = λ source o theirs a b h p n e.
+            let f = (timed_demands.calls bytes route source h p).tenant_turn o (lent_words a) (flat_words theirs) in
+            record { fixed = fixed_as e f; as_before = as_before lent_words lent_fixed a b n e f };
+        opens = opens_tells;
+        tells_opening = λ h b r e z. let o = opens_tells h b r e in (o.works (sym o.first ∙ z), tells h.calendar h.minute b);
+        can_event = can_event;
+        can_call = can_call;
+        one_event = λ source a b c x n k g h.
+            one_answer in_words areas_fixed b c n k (event_call source a x n b g) (event_call source a x k c h);
+        one_call = λ sources a b d c n k g h.
+            one_answer sharing_words sharing_fixed b d n k (sharing_call sources a c n b g) (sharing_call sources a c k d h);
       }
 
   -- ---- demand 3, one tenant
 
   module _ (source : List ℕ) (a start b : Areas) (events : List Timed) (numbers : List ℕ) (fresh : FreshGave bytes route source a 0 start)
       (gave : Gave (TimedGave bytes route source) start events numbers b) (small : Bytes bytes) where
-    ns : numbers ≡ answersTo (calls_at bytes route source) (in_words start) events
-    ns = run-numbers _ in_words (calls_at bytes route source) (event-call source) gave
+    ns : numbers ≡ answers_to (calls_at bytes route source) (in_words start) events
+    ns = run_numbers _ in_words (calls_at bytes route source) (event_call source) gave
 
-    ws : in_words b ≡ stateAfter (calls_at bytes route source) (in_words start) events
-    ws = run-words _ in_words (calls_at bytes route source) (event-call source) gave
+    ws : in_words b ≡ state_after (calls_at bytes route source) (in_words start) events
+    ws = run_words _ in_words (calls_at bytes route source) (event_call source) gave
 
-    demand : Demand212 (calls_at bytes route source) (in_words start) events (recipe bytes route) source (collectCall bytes route source)
+    demand : Demand212 (calls_at bytes route source) (in_words start) events (recipe bytes route) source (collect_call bytes route source)
     demand =
-        subst (λ (s : State). Demand212 (calls_at bytes route source) s events (recipe bytes route) source (collectCall bytes route source))
-        (sym (after-of fresh)) (timed-demands.runs bytes route source (in_words a) small (sym (number_of fresh)) events)
+        subst (λ (s : State). Demand212 (calls_at bytes route source) s events (recipe bytes route) source (collect_call bytes route source))
+        (sym (after_of fresh)) (timed_demands.runs bytes route source (in_words a) small (sym (number_of fresh)) events)
 
     -- the next call, on the areas `b`
-    next-number : (x : Timed) (n : ℕ) (c : Areas) → TimedGave bytes route source b x n c
-        → n ≡ (calls_at bytes route source (stateAfter (calls_at bytes route source) (in_words start) events) x).number
-    next-number x n c h =
-        number_of (event-call source b x n c h) ∙ ap (λ (s : State). (calls_at bytes route source s x).number) ws
+    next_number : (x : Timed) (n : ℕ) (c : Areas) → TimedGave bytes route source b x n c
+        → n ≡ (calls_at bytes route source (state_after (calls_at bytes route source) (in_words start) events) x).number
+    next_number x n c h =
+        number_of (event_call source b x n c h) ∙ ap (λ (s : State). (calls_at bytes route source s x).number) ws
 
-    gives : (x : Timed) → (calls_at bytes route source (stateAfter (calls_at bytes route source) (in_words start) events) x).number ≡ 0
+    gives : (x : Timed) → (calls_at bytes route source (state_after (calls_at bytes route source) (in_words start) events) x).number ≡ 0
         → Gives (TimedGave bytes route source) b x
-    gives x z n c h = next-number x n c h ∙ z
+    gives x z n c h = next_number x n c h ∙ z
 
-    next-step : (table : List ℕ) → SomeStep (calls_at bytes route source) (in_words start) events table
+    next_step : (table : List ℕ) → SomeStep (calls_at bytes route source) (in_words start) events table
         → NextStep bytes route source start events numbers b table
-    next-step table (SomeStep.by-mail m z) = NextStep.by-mail m (gives (mailOf m) z)
-    next-step table (SomeStep.by_turn p minute low e z) = NextStep.by_turn p minute low e (gives _ z)
+    next_step table (SomeStep.by_mail m z) = NextStep.by_mail m (gives (mail_of m) z)
+    next_step table (SomeStep.by_turn p minute low e z) = NextStep.by_turn p minute low e (gives _ z)
 
-    next-open : (table : List ℕ) → OnlyHours (calls_at bytes route source) (in_words start) events (recipe bytes route) table
+    next_open : (table : List ℕ) → OnlyHours (calls_at bytes route source) (in_words start) events (recipe bytes route) table
         → NextOpen bytes route source start events numbers b table
-    next-open table (OnlyHours.by-mail m z) = NextOpen.by-mail m (gives (mailOf m) z)
-    next-open table (OnlyHours.when-open p low left z) =
-        NextOpen.when-open p low (subst (λ (s : State). tilesLeft (recipe bytes route) s p ≡ true) (sym ws) left)
-        (λ minute in-week e. gives _ (z minute in-week e))
+    next_open table (OnlyHours.by_mail m z) = NextOpen.by_mail m (gives (mail_of m) z)
+    next_open table (OnlyHours.when_open p low left z) =
+        NextOpen.when_open p low (subst (λ (s : State). tiles_left (recipe bytes route) s p ≡ true) (sym ws) left)
+        (λ minute in_week e. gives _ (z minute in_week e))
 
-    collect-is : (old grid : List ℕ) (n : ℕ) → CollectGave bytes route source b old n grid
-        → answer n grid ≡ collectCall bytes route source (stateAfter (calls_at bytes route source) (in_words start) events) old
-    collect-is old grid n h = h ∙ ap (λ (s : State). collectCall bytes route source s old) ws
+    collect_is : (old grid : List ℕ) (n : ℕ) → CollectGave bytes route source b old n grid
+        → answer n grid ≡ collect_call bytes route source (state_after (calls_at bytes route source) (in_words start) events) old
+    collect_is old grid n h = h ∙ ap (λ (s : State). collect_call bytes route source s old) ws
 
-    timed-run : TimedRun bytes route source start events numbers b
-    timed-run =
+    timed_run : TimedRun bytes route source start events numbers b
+    timed_run =
         record {
-          numbers-are = ns;
+          numbers_are = ns;
           words_are = ws;
           demand = demand;
-          goes_on = λ table f opens h. next-step table (demand.goes_on table f (λ p low left.
-              opens p low (subst (λ (s : State). tilesLeft (recipe bytes route) s p ≡ true) (sym ws) left)) (rw ns at h));
-          then-fewer = λ x c h. rw ns (demand.then-fewer x (sym (next-number x 0 c h)));
-          only-hours = λ table f h. next-open table (demand.only-hours table f (rw ns at h));
+          goes_on = λ table f opens h. next_step table (demand.goes_on table f (λ p low left.
+              opens p low (subst (λ (s : State). tiles_left (recipe bytes route) s p ≡ true) (sym ws) left)) (rw ns at h));
+          then_fewer = λ x c h. rw ns (demand.then_fewer x (sym (next_number x 0 c h)));
+          only_hours = λ table f h. next_open table (demand.only_hours table f (rw ns at h));
           collects = λ old grid n l h. (
-            (λ z. rw ns (demand.collecting.then-all old l (sym (number_of (collect-is old grid n h)) ∙ z))),
-            (λ t. number_of (collect-is old grid n h) ∙ demand.collecting.can-collect (rw ns at t) old l),
+            (λ z. rw ns (demand.collecting.then_all old l (sym (number_of (collect_is old grid n h)) ∙ z))),
+            (λ t. number_of (collect_is old grid n h) ∙ demand.collecting.can_collect (rw ns at t) old l),
           );
           grid = λ old grid h.
-              let z = sym (number_of (collect-is old grid 0 h)) in
-              let l = one.collect-length bytes route source _ old z in
-              after-of (collect-is old grid 0 h) ∙ demand.collecting.grid (demand.collecting.then-all old l z) old l;
+              let z = sym (number_of (collect_is old grid 0 h)) in
+              let l = one.collect_length bytes route source _ old z in
+              after_of (collect_is old grid 0 h) ∙ demand.collecting.grid (demand.collecting.then_all old l z) old l;
         }
 
   -- ---- demand 3, two tenants
@@ -223,70 +223,70 @@ module _ (bytes : List ℕ) (route : ℕ) where
   module _ (sources : Sources) (a start b : SharingAreas) (calls : List TimedCall) (numbers : List ℕ)
       (fresh : FreshBothGave bytes route sources a 0 start)
       (gave : Gave (TimedCallGave bytes route sources) start calls numbers b) where
-    sharing-ns : numbers ≡ answersTo (sharingCallsAt bytes route sources) (sharingWords start) calls
-    sharing-ns = run-numbers _ sharingWords (sharingCallsAt bytes route sources) (sharing-call sources) gave
+    sharing_ns : numbers ≡ answers_to (sharing_calls_at bytes route sources) (sharing_words start) calls
+    sharing_ns = run_numbers _ sharing_words (sharing_calls_at bytes route sources) (sharing_call sources) gave
 
-    sharing-ws : sharingWords b ≡ stateAfter (sharingCallsAt bytes route sources) (sharingWords start) calls
-    sharing-ws = run-words _ sharingWords (sharingCallsAt bytes route sources) (sharing-call sources) gave
+    sharing_ws : sharing_words b ≡ state_after (sharing_calls_at bytes route sources) (sharing_words start) calls
+    sharing_ws = run_words _ sharing_words (sharing_calls_at bytes route sources) (sharing_call sources) gave
 
     -- a tenant's areas are those of the sharing after the calls
-    own-ws : (o : ℕ) → in_words (ownAreas b o) ≡ own_of (stateAfter (sharingCallsAt bytes route sources) (sharingWords start) calls) o
-    own-ws o = tenant-words o b.first b.second ∙ ap (λ (r : Sharing). own_of r o) sharing-ws
+    own_ws : (o : ℕ) → in_words (own_areas b o) ≡ own_of (state_after (sharing_calls_at bytes route sources) (sharing_words start) calls) o
+    own_ws o = tenant_words o b.first b.second ∙ ap (λ (r : Sharing). own_of r o) sharing_ws
 
     module _ (small : Bytes bytes) where
-      sharing-demand : Demand212For (sharingCallsAt bytes route sources) (sharingWords start) calls (recipe bytes route) sources
-          (sharingCollects bytes route sources)
-      sharing-demand =
-          subst (λ (r : Sharing). Demand212For (sharingCallsAt bytes route sources) r calls (recipe bytes route) sources
-          (sharingCollects bytes route sources))
-          (sym (after-of fresh)) (timed-demands.tenant-runs bytes route sources (sharingWords a) small (sym (number_of fresh)) calls)
+      sharing_demand : Demand212For (sharing_calls_at bytes route sources) (sharing_words start) calls (recipe bytes route) sources
+          (sharing_collects bytes route sources)
+      sharing_demand =
+          subst (λ (r : Sharing). Demand212For (sharing_calls_at bytes route sources) r calls (recipe bytes route) sources
+          (sharing_collects bytes route sources))
+          (sym (after_of fresh)) (timed_demands.tenant_runs bytes route sources (sharing_words a) small (sym (number_of fresh)) calls)
 
-      sharing-next-number : (c : TimedCall) (n : ℕ) (d : SharingAreas) → TimedCallGave bytes route sources b c n d
-          → n ≡ (sharingCallsAt bytes route sources (stateAfter (sharingCallsAt bytes route sources) (sharingWords start) calls) c).number
-      sharing-next-number c n d h =
-          number_of (sharing-call sources b c n d h) ∙ ap (λ (r : Sharing). (sharingCallsAt bytes route sources r c).number) sharing-ws
+      sharing_next_number : (c : TimedCall) (n : ℕ) (d : SharingAreas) → TimedCallGave bytes route sources b c n d
+          → n ≡ (sharing_calls_at bytes route sources (state_after (sharing_calls_at bytes route sources) (sharing_words start) calls) c).number
+      sharing_next_number c n d h =
+          number_of (sharing_call sources b c n d h) ∙ ap (λ (r : Sharing). (sharing_calls_at bytes route sources r c).number) sharing_ws
 
-      sharing-gives : (c : TimedCall)
-          → (sharingCallsAt bytes route sources (stateAfter (sharingCallsAt bytes route sources) (sharingWords start) calls) c).number ≡ 0
+      sharing_gives : (c : TimedCall)
+          → (sharing_calls_at bytes route sources (state_after (sharing_calls_at bytes route sources) (sharing_words start) calls) c).number ≡ 0
           → Gives (TimedCallGave bytes route sources) b c
-      sharing-gives c z n d h = sharing-next-number c n d h ∙ z
+      sharing_gives c z n d h = sharing_next_number c n d h ∙ z
 
-      next-call : (table : List ℕ) → SomeCall (sharingCallsAt bytes route sources) (sharingWords start) calls table
+      next_call : (table : List ℕ) → SomeCall (sharing_calls_at bytes route sources) (sharing_words start) calls table
           → NextCall bytes route sources start calls numbers b table
-      next-call table (SomeCall.by-mail o m z) = NextCall.by-mail o m (sharing-gives _ z)
-      next-call table (SomeCall.by_turn o p minute low e z) = NextCall.by_turn o p minute low e (sharing-gives _ z)
+      next_call table (SomeCall.by_mail o m z) = NextCall.by_mail o m (sharing_gives _ z)
+      next_call table (SomeCall.by_turn o p minute low e z) = NextCall.by_turn o p minute low e (sharing_gives _ z)
 
-      next-open-for : (table : List ℕ) → OnlyHoursFor (sharingCallsAt bytes route sources) (sharingWords start) calls (recipe bytes route) table
+      next_open_for : (table : List ℕ) → OnlyHoursFor (sharing_calls_at bytes route sources) (sharing_words start) calls (recipe bytes route) table
           → NextOpenFor bytes route sources start calls numbers b table
-      next-open-for table (OnlyHoursFor.by-mail o m z) = NextOpenFor.by-mail o m (sharing-gives _ z)
-      next-open-for table (OnlyHoursFor.when-open o p one low left z) =
-          NextOpenFor.when-open o p one low (subst (λ (s : State). tilesLeft (recipe bytes route) s p ≡ true) (sym (own-ws o)) left)
-          (λ minute in-week e. sharing-gives _ (z minute in-week e))
+      next_open_for table (OnlyHoursFor.by_mail o m z) = NextOpenFor.by_mail o m (sharing_gives _ z)
+      next_open_for table (OnlyHoursFor.when_open o p one low left z) =
+          NextOpenFor.when_open o p one low (subst (λ (s : State). tiles_left (recipe bytes route) s p ≡ true) (sym (own_ws o)) left)
+          (λ minute in_week e. sharing_gives _ (z minute in_week e))
 
-      sharing-collect-is : (o : ℕ) (old grid : List ℕ) (n : ℕ) → CollectGaveFor bytes route sources b o old n grid
-          → answer n grid ≡ sharingCollects bytes route sources (stateAfter (sharingCallsAt bytes route sources) (sharingWords start) calls) o old
-      sharing-collect-is o old grid n h =
-          collect-words bytes route sources b o old grid n h ∙ ap (λ (r : Sharing). sharingCollects bytes route sources r o old) sharing-ws
+      sharing_collect_is : (o : ℕ) (old grid : List ℕ) (n : ℕ) → CollectGaveFor bytes route sources b o old n grid
+          → answer n grid ≡ sharing_collects bytes route sources (state_after (sharing_calls_at bytes route sources) (sharing_words start) calls) o old
+      sharing_collect_is o old grid n h =
+          collect_words bytes route sources b o old grid n h ∙ ap (λ (r : Sharing). sharing_collects bytes route sources r o old) sharing_ws
 
-      timed-sharing-run : TimedSharingRun bytes route sources start calls numbers b
-      timed-sharing-run =
+      timed_sharing_run : TimedSharingRun bytes route sources start calls numbers b
+      timed_sharing_run =
           record {
-            numbers-are = sharing-ns;
-            words_are = sharing-ws;
-            demand = sharing-demand;
-            goes_on = λ table f opens h. next-call table (sharing-demand.goes_on table f (λ o p one low left.
-                opens o p one low (subst (λ (s : State). tilesLeft (recipe bytes route) s p ≡ true) (sym (own-ws o)) left)) (rw sharing-ns at h));
-            then-fewer = λ c d h. rw sharing-ns (sharing-demand.then-fewer c (sym (sharing-next-number c 0 d h)));
-            only-hours = λ table f h. next-open-for table (sharing-demand.only-hours table f (rw sharing-ns at h));
+            numbers_are = sharing_ns;
+            words_are = sharing_ws;
+            demand = sharing_demand;
+            goes_on = λ table f opens h. next_call table (sharing_demand.goes_on table f (λ o p one low left.
+                opens o p one low (subst (λ (s : State). tiles_left (recipe bytes route) s p ≡ true) (sym (own_ws o)) left)) (rw sharing_ns at h));
+            then_fewer = λ c d h. rw sharing_ns (sharing_demand.then_fewer c (sym (sharing_next_number c 0 d h)));
+            only_hours = λ table f h. next_open_for table (sharing_demand.only_hours table f (rw sharing_ns at h));
             collects = λ o low old grid n l h. (
-              (λ z. rw sharing-ns ((sharing-demand.each o low).collecting.then-all old l (sym (number_of (sharing-collect-is o old grid n h)) ∙ z))),
-              (λ t. number_of (sharing-collect-is o old grid n h) ∙ (sharing-demand.each o low).collecting.can-collect (rw sharing-ns at t) old l),
+              (λ z. rw sharing_ns ((sharing_demand.each o low).collecting.then_all old l (sym (number_of (sharing_collect_is o old grid n h)) ∙ z))),
+              (λ t. number_of (sharing_collect_is o old grid n h) ∙ (sharing_demand.each o low).collecting.can_collect (rw sharing_ns at t) old l),
             );
             grid = λ o low old grid h.
-                let z = sym (number_of (sharing-collect-is o old grid 0 h)) in
-                let l = collect-length bytes route _ o _ _ old (sym (number_of h)) in
-                after-of (sharing-collect-is o old grid 0 h)
-                ∙ (sharing-demand.each o low).collecting.grid ((sharing-demand.each o low).collecting.then-all old l z) old l;
+                let z = sym (number_of (sharing_collect_is o old grid 0 h)) in
+                let l = collect_length bytes route _ o _ _ old (sym (number_of h)) in
+                after_of (sharing_collect_is o old grid 0 h)
+                ∙ (sharing_demand.each o low).collecting.grid ((sharing_demand.each o low).collecting.then_all old l z) old l;
           }
 
   -- ---- two runs apart
@@ -296,29 +296,29 @@ module _ (bytes : List ℕ) (route : ℕ) where
       (fresh : FreshBothGave bytes route sources a 0 start) (gave : Gave (TimedCallGave bytes route sources) start calls ks b)
       (fresh' : FreshBothGave bytes route sources' a' 0 start') (gave' : Gave (TimedCallGave bytes route sources') start' calls' ks' b')
       (o : ℕ) (low : o ≤ 1) (same : source_for sources o ≡ source_for sources' o) where
-    isolated : IsolatedAt o (sharingCallsAt bytes route sources) (sharingCallsAt bytes route sources') (sharingWords start) (sharingWords start')
+    isolated : IsolatedAt o (sharing_calls_at bytes route sources) (sharing_calls_at bytes route sources') (sharing_words start) (sharing_words start')
     isolated =
-        rw (after-of fresh, after-of fresh')
-        (timed-demands.apart bytes route sources sources' (sharingWords a) (sharingWords a') small (sym (number_of fresh))
+        rw (after_of fresh, after_of fresh')
+        (timed_demands.apart bytes route sources sources' (sharing_words a) (sharing_words a') small (sym (number_of fresh))
         (sym (number_of fresh')) o low same)
 
-    apart : eventsOf o (map call_of calls) ≡ eventsOf o (map call_of calls')
-        → answersOf o (map call_of calls) ks ≡ answersOf o (map call_of calls') ks' → ownAreas b o ≡ ownAreas b' o
+    apart : events_of o (map call_of calls) ≡ events_of o (map call_of calls')
+        → answers_of o (map call_of calls) ks ≡ answers_of o (map call_of calls') ks' → own_areas b o ≡ own_areas b' o
     apart e n =
-        areas-fixed (ownAreas b o) (ownAreas b' o)
-        (own-ws sources a start b calls ks fresh gave o
-        ∙ isolated.same-words calls calls' e
-        (ap (answersOf o (map call_of calls)) (sym (sharing-ns sources a start b calls ks fresh gave)) ∙ n
-        ∙ ap (answersOf o (map call_of calls')) (sharing-ns sources' a' start' b' calls' ks' fresh' gave'))
-        ∙ sym (own-ws sources' a' start' b' calls' ks' fresh' gave' o))
+        areas_fixed (own_areas b o) (own_areas b' o)
+        (own_ws sources a start b calls ks fresh gave o
+        ∙ isolated.same_words calls calls' e
+        (ap (answers_of o (map call_of calls)) (sym (sharing_ns sources a start b calls ks fresh gave)) ∙ n
+        ∙ ap (answers_of o (map call_of calls')) (sharing_ns sources' a' start' b' calls' ks' fresh' gave'))
+        ∙ sym (own_ws sources' a' start' b' calls' ks' fresh' gave' o))
 
-pub over-hours : (bytes : List ℕ) (route : ℕ) → OverCalendar bytes route
-over-hours bytes route =
+pub over_hours : (bytes : List ℕ) (route : ℕ) → OverCalendar bytes route
+over_hours bytes route =
     record {
-      one = fixed-hours bytes route;
-      three = λ small source a start b events numbers fresh gave. timed-run bytes route source a start b events numbers fresh gave small;
-      tenant-three = λ small sources a start b calls numbers fresh gave.
-          timed-sharing-run bytes route sources a start b calls numbers fresh gave small;
+      one = fixed_hours bytes route;
+      three = λ small source a start b events numbers fresh gave. timed_run bytes route source a start b events numbers fresh gave small;
+      tenant_three = λ small sources a start b calls numbers fresh gave.
+          timed_sharing_run bytes route sources a start b calls numbers fresh gave small;
       apart = λ small sources sources' a start b a' start' b' calls calls' ks ks' f g f' g' o low same.
           apart bytes route small sources sources' a start b a' start' b' calls calls' ks ks' f g f' g' o low same;
     }

@@ -7,248 +7,248 @@ use native.Mathlib.Omega.{arith}
 use lib.ListN.{length}
 use borrow.Author.Tests.{eq-eqb}
 use Rattle.base.specs.Tests.{◌and◌, ◌or◌, not, pick, one, every, some, keep, those, product, sum, tabulate}
-use Rattle.base.specs.Lists.{Bytes, countIf, member, sublist, put, setAll, allAt, unpack, pack, storeAll}
+use Rattle.base.specs.Lists.{Bytes, count_if, member, sublist, put, set_all, all_at, unpack, pack, store_all}
 use Rattle.base.specs.Numbers.{line, first_of}
-use Rattle.base.proofs.Tests.{and-true, not-true}
-use Rattle.base.proofs.Numbers.{first-behind, first-false}
+use Rattle.base.proofs.Tests.{and_true, not-true}
+use Rattle.base.proofs.Numbers.{first_behind, first_false}
 use Rattle.base.proofs.Lists.{small, small_bytes}
 use Rattle.machine.specs.Plan.{Plan, Sound, offset}
-use Rattle.machine.specs.Machine.{State, Answered, answered, setProgress, tilesLeft, fitRecord, fit, unpackAll, afterSends, carryOut, nextAction, actionAt}
-use Rattle.machine.specs.Machine.{waiting, deliver, fresh, sweepTo, sweep}
-use Rattle.machine.specs.Runs.{act, stateAfter, answersTo, total, stepsIn}
+use Rattle.machine.specs.Machine.{State, Answered, answered, set_progress, tiles_left, fit_record, fit, unpack_all, after_sends, carry_out, next_action, action_at}
+use Rattle.machine.specs.Machine.{waiting, deliver, fresh, sweep_to, sweep}
+use Rattle.machine.specs.Runs.{act, state_after, answers_to, total, steps_in}
 use Rattle.machine.proofs.Kept.{Inv}
-use Rattle.machine.proofs.Fresh.{inv-fresh}
-use Rattle.machine.proofs.Along.{next-inv}
-use Rattle.machine.proofs.RunLaws.{number_of, after-of, same_numbers}
-use Rattle.machine.proofs.Guards.{good-after}
-use Rattle.tenants.specs.Tenants.{stageAgrees, fitWord, fitFor, heldByOther, freedAfter, engagedAfter, carryOutFor, turnFor, deliverFor, actFor, actOn}
-use Rattle.tenants.specs.Tenants.{ofTenant, Sharing, source_for, returned, freshSharing}
-use Rattle.tenants.specs.Demand208.{answersOf}
-use Rattle.tenants.proofs.Engaged.{SharingInv, inv-start, inv-next}
-use Rattle.calendar.specs.Windows.{isWindow, isFaulty, covers, faultyBoard, faultyTable, faultyMinute, open_at, faultyFor, closed, tableWords, Timed, turnAt}
-use Rattle.calendar.specs.Windows.{mailOf, eventOf, timedTurn, turnLinesAt, actAt, Moment}
+use Rattle.machine.proofs.Fresh.{inv_fresh}
+use Rattle.machine.proofs.Along.{next_inv}
+use Rattle.machine.proofs.RunLaws.{number_of, after_of, same_numbers}
+use Rattle.machine.proofs.Guards.{good_after}
+use Rattle.tenants.specs.Tenants.{stage_agrees, fit_word, fit_for, held_by_other, freed_after, engaged_after, carry_out_for, turn_for, deliver_for, act_for, act_on}
+use Rattle.tenants.specs.Tenants.{of_tenant, Sharing, source_for, returned, fresh_sharing}
+use Rattle.tenants.specs.Demand208.{answers_of}
+use Rattle.tenants.proofs.Engaged.{SharingInv, inv_start, inv_next}
+use Rattle.calendar.specs.Windows.{is_window, is_faulty, covers, faulty_board, faulty_table, faulty_minute, open_at, faulty_for, closed, table_words, Timed, turn_at}
+use Rattle.calendar.specs.Windows.{mail_of, event_of, timed_turn, turn_lines_at, act_at, Moment}
 use Rattle.calendar.proofs.Allowed.{Allowed, guards}
-use Rattle.nest.specs.Nest.{tileCount, cells, boxTiles, processors}
-use Rattle.nest.specs.Places.{rank, place, cell_at, cellPlace, tileAt, tilePlace, boxTileOf}
-use Rattle.nest.specs.Shape.{level, raised, meets, inShape, exists, existing, tiles}
-use Rattle.nest.specs.Recipes.{rowD}
+use Rattle.nest.specs.Nest.{tile_count, cells, box_tiles, processors}
+use Rattle.nest.specs.Places.{rank, place, cell_at, cell_place, tile_at, tile_place, box_tile_of}
+use Rattle.nest.specs.Shape.{level, raised, meets, in_shape, exists, existing, tiles}
+use Rattle.nest.specs.Recipes.{row_d}
 use Rattle.plan.specs.declared.Route.TheVariants.{Direct}
-use Rattle.plan.specs.Geometry.{processorOf, inside, hasRead, readAt}
-use Rattle.plan.specs.Messages.{directions, ahead, reaches, taker, messagesOf}
-use Rattle.plan.specs.Shaped.{boxTile, reachesShape, shapedParcel, follows, shapedTaker, shapedSlotTaker, shapedHome, shapedSlotParcel, plan_of}
-use Rattle.plan.specs.Shaped.{shapedCells, readsShape, shapedValue}
-use Rattle.conformance.proofs.RowNests.{nestD, isD}
-use Rattle.conformance.proofs.AToH.{numberD}
-use Rattle.layout.specs.RouteWords.{routeOf}
-use Rattle.recipe.specs.Routes.{linesFor}
-use Rattle.recipe.proofs.Laws.{open-direct, numbered-for}
+use Rattle.plan.specs.Geometry.{processor_of, inside, has_read, read_at}
+use Rattle.plan.specs.Messages.{directions, ahead, reaches, taker, messages_of}
+use Rattle.plan.specs.Shaped.{box_tile, reaches_shape, shaped_parcel, follows, shaped_taker, shaped_slot_taker, shaped_home, shaped_slot_parcel, plan_of}
+use Rattle.plan.specs.Shaped.{shaped_cells, reads_shape, shaped_value}
+use Rattle.conformance.proofs.RowNests.{nest_d, is_d}
+use Rattle.conformance.proofs.AToH.{number_d}
+use Rattle.layout.specs.RouteWords.{route_of}
+use Rattle.recipe.specs.Routes.{lines_for}
+use Rattle.recipe.proofs.Laws.{open_direct, numbered_for}
 use Rattle.engine.specs.Calls.{recipe, areas}
-use Rattle.engine.proofs.AsRuns.{inv-areas}
-use Rattle.engine.proofs.AsSteps.{deliver-is}
+use Rattle.engine.proofs.AsRuns.{inv_areas}
+use Rattle.engine.proofs.AsSteps.{deliver_is}
 use Rattle.engine.proofs.Demands.{demands}
-use Rattle.sharing.specs.Calls.{sharingCalls}
-use Rattle.sharing.proofs.AsRuns.{alike, fresh-sources, fresh-is}
-use Rattle.sharing.proofs.Demands.{sound-plan}
-use Rattle.calendar_calls.specs.Calls.{tableLong, turnCallAt, calls_at}
-use Rattle.calls.specs.Gave.{Areas, in_words, SharingAreas, sharingWords, FreshGave, CollectGave, FreshBothGave, TimedGave}
+use Rattle.sharing.specs.Calls.{sharing_calls}
+use Rattle.sharing.proofs.AsRuns.{alike, fresh_sources, fresh_is}
+use Rattle.sharing.proofs.Demands.{sound_plan}
+use Rattle.calendar_calls.specs.Calls.{table_long, turn_call_at, calls_at}
+use Rattle.calls.specs.Gave.{Areas, in_words, SharingAreas, sharing_words, FreshGave, CollectGave, FreshBothGave, TimedGave}
 use Rattle.guarantees.specs.OverRecords.{Gave}
 use Rattle.guarantees.specs.OverSharing.{CallsGave, CollectGaveFor, SharingRun}
 use Rattle.guarantees.specs.OverCalendar.{TimedRun}
-use Rattle.guarantees.specs.RowD.{sourcesD, callsD, numbersD, eventsD, timedNumbersD, RowD}
-use Rattle.guarantees.proofs.OverSharing.{over-sharing}
-use Rattle.guarantees.proofs.OverCalendar.{over-hours}
+use Rattle.guarantees.specs.RowD.{sources_d, calls_d, numbers_d, events_d, timed_numbers_d, RowD}
+use Rattle.guarantees.proofs.OverSharing.{over_sharing}
+use Rattle.guarantees.proofs.OverCalendar.{over_hours}
 
 -- ---- the row's plan
 abbrev pub p : Plan
-p = recipe rowD 0
+p = recipe row_d 0
 
 abbrev pub d : Plan
-d = plan_of Direct nestD
+d = plan_of Direct nest_d
 
-pub plan-D : recipe rowD 0 ≡ plan_of Direct nestD
-unfolding routeOf
-plan-D = ap (plan_of Direct) isD
+pub plan_D : recipe row_d 0 ≡ plan_of Direct nest_d
+unfolding route_of
+plan_D = ap (plan_of Direct) is_d
 
-pub bytes-D : Bytes rowD
+pub bytes_D : Bytes row_d
 unfolding small ◌and◌
-bytes-D = small_bytes rowD refl
+bytes_D = small_bytes row_d refl
 
-pub open-D : first_of (linesFor (routeOf 0) rowD) ≡ 0
-open-D = open-direct rowD numberD
+pub open_D : first_of (lines_for (route_of 0) row_d) ≡ 0
+open_D = open_direct row_d number_d
 
-pub sound-D : Sound p
-sound-D = sound-plan rowD 0 bytes-D open-D
+pub sound_D : Sound p
+sound_D = sound_plan row_d 0 bytes_D open_D
 
-cells-d : 4 ≡ d.cells
+cells_d : 4 ≡ d.cells
 unfolding product cells
-cells-d = refl
+cells_d = refl
 
-pub cells-D : 4 ≡ p.cells
-cells-D = cells-d ∙ sym (ap (λ (q : Plan). q.cells) plan-D)
+pub cells_D : 4 ≡ p.cells
+cells_D = cells_d ∙ sym (ap (λ (q : Plan). q.cells) plan_D)
 
-six-d : total d ≡ 6
-unfolding first_of not member offset sum ◌and◌ ◌or◌ pick every some keep those product tileCount cells boxTiles rank place cell_at cellPlace tileAt tilePlace
-    boxTileOf level raised meets inShape exists existing tiles inside directions ahead reaches taker messagesOf boxTile reachesShape shapedParcel follows
-    shapedTaker shapedSlotTaker shapedHome shapedSlotParcel shapedCells processorOf processors
-six-d = refl
+six_d : total d ≡ 6
+unfolding first_of not member offset sum ◌and◌ ◌or◌ pick every some keep those product tile_count cells box_tiles rank place cell_at cell_place tile_at tile_place
+    box_tile_of level raised meets in_shape exists existing tiles inside directions ahead reaches taker messages_of box_tile reaches_shape shaped_parcel follows
+    shaped_taker shaped_slot_taker shaped_home shaped_slot_parcel shaped_cells processor_of processors
+six_d = refl
 
 six : total p ≡ 6
-six = ap total plan-D ∙ six-d
+six = ap total plan_D ∙ six_d
 
-sweep-first : sweep d sourcesD.first ≡ 4 ∷ 9 ∷ 14 ∷ 20 ∷ []
-unfolding sweepTo shapedValue readsShape hasRead readAt sum ◌and◌ ◌or◌ pick every some keep product rank place cell_at cellPlace tileAt tilePlace boxTileOf
-    tileCount cells boxTiles level raised meets inShape exists existing tiles
-sweep-first = refl
+sweep_first : sweep d sources_d.first ≡ 4 ∷ 9 ∷ 14 ∷ 20 ∷ []
+unfolding sweep_to shaped_value reads_shape has_read read_at sum ◌and◌ ◌or◌ pick every some keep product rank place cell_at cell_place tile_at tile_place box_tile_of
+    tile_count cells box_tiles level raised meets in_shape exists existing tiles
+sweep_first = refl
 
-sweep-second : sweep d sourcesD.second ≡ 1 ∷ 2 ∷ 3 ∷ 4 ∷ []
-unfolding sweepTo shapedValue readsShape hasRead readAt sum ◌and◌ ◌or◌ pick every some keep product rank place cell_at cellPlace tileAt tilePlace boxTileOf
-    tileCount cells boxTiles level raised meets inShape exists existing tiles
-sweep-second = refl
+sweep_second : sweep d sources_d.second ≡ 1 ∷ 2 ∷ 3 ∷ 4 ∷ []
+unfolding sweep_to shaped_value reads_shape has_read read_at sum ◌and◌ ◌or◌ pick every some keep product rank place cell_at cell_place tile_at tile_place box_tile_of
+    tile_count cells box_tiles level raised meets in_shape exists existing tiles
+sweep_second = refl
 
 -- ---- two tenants
-sharing-d : answersTo (actOn d sourcesD) (freshSharing d) callsD ≡ numbersD
-unfolding answersTo stateAfter stageAgrees fitWord fitFor heldByOther freedAfter engagedAfter carryOutFor turnFor deliverFor actFor actOn ofTenant returned
-    freshSharing first_of not one member offset sublist put setAll allAt unpack pack storeAll setProgress tilesLeft fitRecord fit unpackAll afterSends carryOut
-    actionAt waiting fresh shapedValue readsShape hasRead readAt sum ◌and◌ ◌or◌ pick every some keep those product tileCount cells boxTiles rank place cell_at
-    cellPlace tileAt tilePlace boxTileOf level raised meets inShape exists existing tiles inside directions ahead reaches taker messagesOf boxTile
-    reachesShape shapedParcel follows shapedTaker shapedSlotTaker shapedHome shapedSlotParcel shapedCells processorOf processors
-sharing-d = refl
+sharing_d : answers_to (act_on d sources_d) (fresh_sharing d) calls_d ≡ numbers_d
+unfolding answers_to state_after stage_agrees fit_word fit_for held_by_other freed_after engaged_after carry_out_for turn_for deliver_for act_for act_on of_tenant returned
+    fresh_sharing first_of not one member offset sublist put set_all all_at unpack pack store_all set_progress tiles_left fit_record fit unpack_all after_sends carry_out
+    action_at waiting fresh shaped_value reads_shape has_read read_at sum ◌and◌ ◌or◌ pick every some keep those product tile_count cells box_tiles rank place cell_at
+    cell_place tile_at tile_place box_tile_of level raised meets in_shape exists existing tiles inside directions ahead reaches taker messages_of box_tile
+    reaches_shape shaped_parcel follows shaped_taker shaped_slot_taker shaped_home shaped_slot_parcel shaped_cells processor_of processors
+sharing_d = refl
 
-sharing-D : answersTo (actOn p sourcesD) (freshSharing p) callsD ≡ numbersD
-sharing-D = subst (λ (q : Plan). answersTo (actOn q sourcesD) (freshSharing q) callsD ≡ numbersD) (sym plan-D) sharing-d
+sharing_D : answers_to (act_on p sources_d) (fresh_sharing p) calls_d ≡ numbers_d
+sharing_D = subst (λ (q : Plan). answers_to (act_on q sources_d) (fresh_sharing q) calls_d ≡ numbers_d) (sym plan_D) sharing_d
 
-steps_first : stepsIn (answersOf 0 callsD numbersD) ≡ 6
-unfolding answersOf pick countIf one
+steps_first : steps_in (answers_of 0 calls_d numbers_d) ≡ 6
+unfolding answers_of pick count_if one
 steps_first = refl
 
-steps-second : stepsIn (answersOf 1 callsD numbersD) ≡ 6
-unfolding answersOf pick countIf one
-steps-second = refl
+steps_second : steps_in (answers_of 1 calls_d numbers_d) ≡ 6
+unfolding answers_of pick count_if one
+steps_second = refl
 
-module _ (a start b : SharingAreas) (numbers : List ℕ) (f : FreshBothGave rowD 0 sourcesD a 0 start) (g : CallsGave rowD 0 sourcesD start callsD numbers b)
+module _ (a start b : SharingAreas) (numbers : List ℕ) (f : FreshBothGave row_d 0 sources_d a 0 start) (g : CallsGave row_d 0 sources_d start calls_d numbers b)
   where
-    run : SharingRun rowD 0 sourcesD start callsD numbers b
-    run = (over-sharing rowD 0).three bytes-D sourcesD a start b callsD numbers f g
+    run : SharingRun row_d 0 sources_d start calls_d numbers b
+    run = (over_sharing row_d 0).three bytes_D sources_d a start b calls_d numbers f g
 
-    start_is : sharingWords start ≡ freshSharing p
-    start_is = after-of f ∙ fresh-is rowD 0 sourcesD (sharingWords a) (sym (number_of f))
+    start_is : sharing_words start ≡ fresh_sharing p
+    start_is = after_of f ∙ fresh_is row_d 0 sources_d (sharing_words a) (sym (number_of f))
 
-    tenants : numbers ≡ numbersD
+    tenants : numbers ≡ numbers_d
     tenants =
-        run.numbers-are ∙ ap (λ (r : Sharing). answersTo (sharingCalls rowD 0 sourcesD) r callsD) start_is
-        ∙ same_numbers (SharingInv p sourcesD) (sharingCalls rowD 0 sourcesD) (actOn p sourcesD)
-        (alike rowD 0 sourcesD open-D (fresh-sources rowD 0 sourcesD (sharingWords a) (sym (number_of f)))) (inv-next p sound-D sourcesD) callsD (freshSharing p)
-        (inv-start p sourcesD)
-        ∙ sharing-D
+        run.numbers_are ∙ ap (λ (r : Sharing). answers_to (sharing_calls row_d 0 sources_d) r calls_d) start_is
+        ∙ same_numbers (SharingInv p sources_d) (sharing_calls row_d 0 sources_d) (act_on p sources_d)
+        (alike row_d 0 sources_d open_D (fresh_sources row_d 0 sources_d (sharing_words a) (sym (number_of f)))) (inv_next p sound_D sources_d) calls_d (fresh_sharing p)
+        (inv_start p sources_d)
+        ∙ sharing_D
 
-    collected : (o : ℕ) → o ≤ 1 → stepsIn (answersOf o callsD numbersD) ≡ 6 → (l : List ℕ) → sweep d (source_for sourcesD o) ≡ l → (old grid : List ℕ) (n : ℕ)
-        → length old ≡ 4 → CollectGaveFor rowD 0 sourcesD b o old n grid → (n ≡ 0) × (grid ≡ l)
+    collected : (o : ℕ) → o ≤ 1 → steps_in (answers_of o calls_d numbers_d) ≡ 6 → (l : List ℕ) → sweep d (source_for sources_d o) ≡ l → (old grid : List ℕ) (n : ℕ)
+        → length old ≡ 4 → CollectGaveFor row_d 0 sources_d b o old n grid → (n ≡ 0) × (grid ≡ l)
     collected o low six-steps l swept old grid n long h = (
       z,
-      run.grid o low old grid (subst (λ (k : ℕ). CollectGaveFor rowD 0 sourcesD b o old k grid) z h)
-          ∙ ap (λ (q : Plan). sweep q (source_for sourcesD o)) plan-D ∙ swept,
+      run.grid o low old grid (subst (λ (k : ℕ). CollectGaveFor row_d 0 sources_d b o old k grid) z h)
+          ∙ ap (λ (q : Plan). sweep q (source_for sources_d o)) plan_D ∙ swept,
     )
       where
-        all : stepsIn (answersOf o callsD numbers) ≡ total p
-        all = ap (λ (ns : List ℕ). stepsIn (answersOf o callsD ns)) tenants ∙ six-steps ∙ sym six
+        all : steps_in (answers_of o calls_d numbers) ≡ total p
+        all = ap (λ (ns : List ℕ). steps_in (answers_of o calls_d ns)) tenants ∙ six-steps ∙ sym six
 
         z : n ≡ 0
-        z = (run.collects o low old grid n (long ∙ cells-D) h).1 all
+        z = (run.collects o low old grid n (long ∙ cells_D) h).1 all
 
-first-is : sweep d (source_for sourcesD 0) ≡ 4 ∷ 9 ∷ 14 ∷ 20 ∷ []
-unfolding ofTenant pick
-first-is = sweep-first
+first_is : sweep d (source_for sources_d 0) ≡ 4 ∷ 9 ∷ 14 ∷ 20 ∷ []
+unfolding of_tenant pick
+first_is = sweep_first
 
-second_is : sweep d (source_for sourcesD 1) ≡ 1 ∷ 2 ∷ 3 ∷ 4 ∷ []
-unfolding ofTenant pick
-second_is = sweep-second
+second_is : sweep d (source_for sources_d 1) ≡ 1 ∷ 2 ∷ 3 ∷ 4 ∷ []
+unfolding of_tenant pick
+second_is = sweep_second
 
 -- ---- with hours
 abbrev source : List ℕ
-source = sourcesD.first
+source = sources_d.first
 
-hours-d : answersTo (actAt d source) (fresh d) eventsD ≡ timedNumbersD
-unfolding answersTo stateAfter timedTurn actAt isWindow isFaulty covers faultyBoard faultyTable faultyMinute open_at faultyFor closed deliver first_of not one
-    member offset sublist put setAll allAt unpack pack storeAll setProgress tilesLeft fitRecord fit unpackAll afterSends carryOut actionAt waiting fresh
-    shapedValue readsShape hasRead readAt sum ◌and◌ ◌or◌ pick every some keep those product tileCount cells boxTiles rank place cell_at cellPlace tileAt
-    tilePlace boxTileOf level raised meets inShape exists existing tiles inside directions ahead reaches taker messagesOf boxTile reachesShape shapedParcel
-    follows shapedTaker shapedSlotTaker shapedHome shapedSlotParcel shapedCells processorOf processors
-hours-d = refl
+hours_d : answers_to (act_at d source) (fresh d) events_d ≡ timed_numbers_d
+unfolding answers_to state_after timed_turn act_at is_window is_faulty covers faulty_board faulty_table faulty_minute open_at faulty_for closed deliver first_of not one
+    member offset sublist put set_all all_at unpack pack store_all set_progress tiles_left fit_record fit unpack_all after_sends carry_out action_at waiting fresh
+    shaped_value reads_shape has_read read_at sum ◌and◌ ◌or◌ pick every some keep those product tile_count cells box_tiles rank place cell_at cell_place tile_at
+    tile_place box_tile_of level raised meets in_shape exists existing tiles inside directions ahead reaches taker messages_of box_tile reaches_shape shaped_parcel
+    follows shaped_taker shaped_slot_taker shaped_home shaped_slot_parcel shaped_cells processor_of processors
+hours_d = refl
 
-hours-D : answersTo (actAt p source) (fresh p) eventsD ≡ timedNumbersD
-hours-D = subst (λ (q : Plan). answersTo (actAt q source) (fresh q) eventsD ≡ timedNumbersD) (sym plan-D) hours-d
+hours_D : answers_to (act_at p source) (fresh p) events_d ≡ timed_numbers_d
+hours_D = subst (λ (q : Plan). answers_to (act_at q source) (fresh q) events_d ≡ timed_numbers_d) (sym plan_D) hours_d
 
 -- each turn is lent a table of its length
 abbrev Long : List Timed → Type 0
 Long [] = Unit {0}
-Long (turnAt h b ∷ es) = (length h.calendar ≡ tableWords p) × Long es
-Long (mailOf m ∷ es) = Long es
+Long (turn_at h b ∷ es) = (length h.calendar ≡ table_words p) × Long es
+Long (mail_of m ∷ es) = Long es
 
-timed-is : (s : State) → Inv p source s → (h : Moment) (b : ℕ) → length h.calendar ≡ tableWords p → turnCallAt rowD 0 source h s b ≡ timedTurn p source h s b
-unfolding turnCallAt timedTurn
-timed-is s inv h b e =
-    ap (λ (k : ℕ). answered k (carryOut p source s b (nextAction p s b)) s)
-    (first-behind (linesFor (routeOf 0) rowD) (line 9 (not (areas p source s and tableLong p h)) ∷ turnLinesAt p h s b) (numbered-for (routeOf 0) rowD) open-D
-    ∙ first-false 9 (not (areas p source s and tableLong p h)) (turnLinesAt p h s b)
-    (not-true (and-true (inv-areas rowD 0 source open-D sound-D cells-D s inv) (eq-eqb _ _ e))))
+timed_is : (s : State) → Inv p source s → (h : Moment) (b : ℕ) → length h.calendar ≡ table_words p → turn_call_at row_d 0 source h s b ≡ timed_turn p source h s b
+unfolding turn_call_at timed_turn
+timed_is s inv h b e =
+    ap (λ (k : ℕ). answered k (carry_out p source s b (next_action p s b)) s)
+    (first_behind (lines_for (route_of 0) row_d) (line 9 (not (areas p source s and table_long p h)) ∷ turn_lines_at p h s b) (numbered_for (route_of 0) row_d) open_D
+    ∙ first_false 9 (not (areas p source s and table_long p h)) (turn_lines_at p h s b)
+    (not-true (and_true (inv_areas row_d 0 source open_D sound_D cells_D s inv) (eq-eqb _ _ e))))
 
-timed-next : (s : State) → Inv p source s → (x : Timed) → Inv p source (actAt p source s x).after
-timed-next s inv x = good-after (Inv p source) (act p source) (actAt p source) eventOf (Allowed p) (guards p source) (next-inv p sound-D source) s inv x
+timed_next : (s : State) → Inv p source s → (x : Timed) → Inv p source (act_at p source s x).after
+timed_next s inv x = good_after (Inv p source) (act p source) (act_at p source) event_of (Allowed p) (guards p source) (next_inv p sound_D source) s inv x
 
-timed-same : (es : List Timed) (s : State) → Inv p source s → Long es → answersTo (calls_at rowD 0 source) s es ≡ answersTo (actAt p source) s es
-unfolding answersTo calls_at actAt
-timed-same [] s inv l = refl
-timed-same (turnAt h b ∷ es) s inv l =
-    ap (λ (x : Answered State). x.number ∷ answersTo (calls_at rowD 0 source) x.after es) (timed-is s inv h b l.0)
-    ∙ ap (λ (ns : List ℕ). (timedTurn p source h s b).number ∷ ns) (timed-same es _ (timed-next s inv (turnAt h b)) l.1)
-timed-same (mailOf m ∷ es) s inv l =
-    ap (λ (x : Answered State). x.number ∷ answersTo (calls_at rowD 0 source) x.after es)
-    (deliver-is rowD 0 source s open-D (inv-areas rowD 0 source open-D sound-D cells-D s inv) m)
-    ∙ ap (λ (ns : List ℕ). (deliver p s m).number ∷ ns) (timed-same es _ (timed-next s inv (mailOf m)) l)
+timed_same : (es : List Timed) (s : State) → Inv p source s → Long es → answers_to (calls_at row_d 0 source) s es ≡ answers_to (act_at p source) s es
+unfolding answers_to calls_at act_at
+timed_same [] s inv l = refl
+timed_same (turn_at h b ∷ es) s inv l =
+    ap (λ (x : Answered State). x.number ∷ answers_to (calls_at row_d 0 source) x.after es) (timed_is s inv h b l.0)
+    ∙ ap (λ (ns : List ℕ). (timed_turn p source h s b).number ∷ ns) (timed_same es _ (timed_next s inv (turn_at h b)) l.1)
+timed_same (mail_of m ∷ es) s inv l =
+    ap (λ (x : Answered State). x.number ∷ answers_to (calls_at row_d 0 source) x.after es)
+    (deliver_is row_d 0 source s open_D (inv_areas row_d 0 source open_D sound_D cells_D s inv) m)
+    ∙ ap (λ (ns : List ℕ). (deliver p s m).number ∷ ns) (timed_same es _ (timed_next s inv (mail_of m)) l)
 
-words-d : 56 ≡ tableWords d
-unfolding sum ◌and◌ ◌or◌ pick every some keep those product tileCount cells boxTiles processors
-words-d = refl
+words_d : 56 ≡ table_words d
+unfolding sum ◌and◌ ◌or◌ pick every some keep those product tile_count cells box_tiles processors
+words_d = refl
 
-words-D : 56 ≡ tableWords p
-words-D = words-d ∙ sym (ap tableWords plan-D)
+words_D : 56 ≡ table_words p
+words_D = words_d ∙ sym (ap table_words plan_D)
 
-all-long : Long eventsD
-all-long =
-    (words-D, (words-D, (words-D, (words-D, (words-D, (words-D, (words-D, (words-D, (words-D, (words-D, (words-D, (words-D, tt))))))))))))
+all_long : Long events_d
+all_long =
+    (words_D, (words_D, (words_D, (words_D, (words_D, (words_D, (words_D, (words_D, (words_D, (words_D, (words_D, (words_D, tt))))))))))))
 
-steps-hours : stepsIn timedNumbersD ≡ 6
-unfolding countIf one
-steps-hours = refl
+steps_hours : steps_in timed_numbers_d ≡ 6
+unfolding count_if one
+steps_hours = refl
 
-module _ (a start b : Areas) (numbers : List ℕ) (f : FreshGave rowD 0 source a 0 start) (g : Gave (TimedGave rowD 0 source) start eventsD numbers b) where
-  timed-run : TimedRun rowD 0 source start eventsD numbers b
-  timed-run = (over-hours rowD 0).three bytes-D source a start b eventsD numbers f g
+module _ (a start b : Areas) (numbers : List ℕ) (f : FreshGave row_d 0 source a 0 start) (g : Gave (TimedGave row_d 0 source) start events_d numbers b) where
+  timed_run : TimedRun row_d 0 source start events_d numbers b
+  timed_run = (over_hours row_d 0).three bytes_D source a start b events_d numbers f g
 
-  timed-start : in_words start ≡ fresh p
-  timed-start = after-of f ∙ (demands.one rowD 0 source (in_words a)).fresh.works (sym (number_of f))
+  timed_start : in_words start ≡ fresh p
+  timed_start = after_of f ∙ (demands.one row_d 0 source (in_words a)).fresh.works (sym (number_of f))
 
-  hours : numbers ≡ timedNumbersD
+  hours : numbers ≡ timed_numbers_d
   hours =
-      timed-run.numbers-are ∙ ap (λ (s : State). answersTo (calls_at rowD 0 source) s eventsD) timed-start
-      ∙ timed-same eventsD (fresh p) (inv-fresh p source) all-long ∙ hours-D
+      timed_run.numbers_are ∙ ap (λ (s : State). answers_to (calls_at row_d 0 source) s events_d) timed_start
+      ∙ timed_same events_d (fresh p) (inv_fresh p source) all_long ∙ hours_D
 
-  hours-grid : (old grid : List ℕ) (n : ℕ) → length old ≡ 4 → CollectGave rowD 0 source b old n grid → (n ≡ 0) × (grid ≡ 4 ∷ 9 ∷ 14 ∷ 20 ∷ [])
-  hours-grid old grid n long h = (
+  hours_grid : (old grid : List ℕ) (n : ℕ) → length old ≡ 4 → CollectGave row_d 0 source b old n grid → (n ≡ 0) × (grid ≡ 4 ∷ 9 ∷ 14 ∷ 20 ∷ [])
+  hours_grid old grid n long h = (
     z,
-    timed-run.grid old grid (subst (λ (k : ℕ). CollectGave rowD 0 source b old k grid) z h)
-        ∙ ap (λ (q : Plan). sweep q source) plan-D ∙ sweep-first,
+    timed_run.grid old grid (subst (λ (k : ℕ). CollectGave row_d 0 source b old k grid) z h)
+        ∙ ap (λ (q : Plan). sweep q source) plan_D ∙ sweep_first,
   )
     where
       z : n ≡ 0
-      z = (timed-run.collects old grid n (long ∙ cells-D) h).1 (ap stepsIn hours ∙ steps-hours ∙ sym six)
+      z = (timed_run.collects old grid n (long ∙ cells_D) h).1 (ap steps_in hours ∙ steps_hours ∙ sym six)
 
-pub row-D : RowD
-row-D =
+pub row_D : RowD
+row_D =
     record {
       tenants = tenants;
-      first-grid = λ a start b numbers f g. collected a start b numbers f g 0 (omega arith) steps_first _ first-is;
-      second-grid = λ a start b numbers f g. collected a start b numbers f g 1 (omega arith) steps-second _ second_is;
+      first_grid = λ a start b numbers f g. collected a start b numbers f g 0 (omega arith) steps_first _ first_is;
+      second_grid = λ a start b numbers f g. collected a start b numbers f g 1 (omega arith) steps_second _ second_is;
       hours = hours;
-      hours-grid = hours-grid;
+      hours_grid = hours_grid;
     }

@@ -6,12 +6,12 @@ use Rattle.base.specs.Tests.{pick, every}
 use Rattle.base.specs.Lists.{Bytes}
 use Rattle.base.specs.Numbers.{first_of}
 use Rattle.nest.specs.Nest.{component}
-use Rattle.nest.specs.Reader.{kind, nestOf, nestLines, readLines}
+use Rattle.nest.specs.Reader.{kind, nest_of, nest_lines, read_lines}
 use Rattle.nest.specs.Encode.{encode}
 use Rattle.writer.specs.declared.reading.RecipeFields.{RecipeFields}
-use Rattle.writer.specs.Fields.{Fields, agree, nestFrom, fields_of, BoundsWell}
-use Rattle.writer.specs.Writing.{writeLines, writable}
-use Rattle.writer.specs.Told.{toldFields, noFields, taken}
+use Rattle.writer.specs.Fields.{Fields, agree, nest_from, fields_of, BoundsWell}
+use Rattle.writer.specs.Writing.{write_lines, writable}
+use Rattle.writer.specs.Told.{told_fields, no_fields, taken}
 use Rattle.engine.specs.Calls.{answer}
 use Rattle.engine.specs.Demands.{Fixed}
 use Rattle.calls.specs.Tells.{Tells}
@@ -19,7 +19,7 @@ use Rattle.calls.specs.Gave.{ReadGave, WriteGave}
 
 -- the bytes that spell fields
 abbrev pub spelled : Fields → List ℕ
-spelled v = encode (nestFrom v)
+spelled v = encode (nest_from v)
 
 -- the dimensions, distances and bounds that a recipe can have, and its shift
 pub record InRange (v : Fields) : Type 0 where
@@ -30,28 +30,28 @@ pub record InRange (v : Fields) : Type 0 where
 
 -- fields v written into a space that was `old`: the call gave n and left `space`. How wide each number is, the types of the call's arguments say
 pub record WroteFields (v : Fields) (old : List ℕ) (n : ℕ) (space : List ℕ) : Type 0 where
-  pub fixed : Fixed (answer n space) (writeLines (writable v) (spelled v) (length old)) (spelled v) old
+  pub fixed : Fixed (answer n space) (write_lines (writable v) (spelled v) (length old)) (spelled v) old
   -- values whose lists do not agree, which no recipe can hold: 2
   pub two : agree v ≡ false → n ≡ 2
   -- and so where there are too few or too many of something, a bound is none, or the shift is above 31
   pub stray : (InRange v → ⊥) → n ≡ 2
   -- else the reader's number of the bytes that spell them, and these hold the very values
-  pub number : agree v ≡ true → first_of (readLines (spelled v)) ≢ 0 → n ≡ first_of (readLines (spelled v))
-  pub holds : agree v ≡ true → fields_of (nestOf (spelled v)) ≡ v
+  pub number : agree v ≡ true → first_of (read_lines (spelled v)) ≢ 0 → n ≡ first_of (read_lines (spelled v))
+  pub holds : agree v ≡ true → fields_of (nest_of (spelled v)) ≡ v
   -- which is the number of the values alone, and never 18: the bytes are spelled as short as can be
-  pub told : agree v ≡ true → InRange v → first_of (nestLines false (nestFrom v)) ≢ 0 → n ≡ first_of (nestLines false (nestFrom v))
+  pub told : agree v ≡ true → InRange v → first_of (nest_lines false (nest_from v)) ≢ 0 → n ≡ first_of (nest_lines false (nest_from v))
   -- W-207: kind 4 only where kind 2 can't hold the distance
   pub picks : n ≡ 0 → (e : ℕ) → e < length v.weights
-      → kind space (length v.lengths + length v.sides + e) ≡ pick (every (λ j. ltb (component (nestFrom v) e j) 256) 4) 2 4
+      → kind space (length v.lengths + length v.sides + e) ≡ pick (every (λ j. ltb (component (nest_from v) e j) 256) 4) 2 4
   -- then 9, where the space has not exactly their length
-  pub nine : agree v ≡ true → first_of (readLines (spelled v)) ≡ 0 → length old ≢ length (spelled v) → n ≡ 9
+  pub nine : agree v ≡ true → first_of (read_lines (spelled v)) ≡ 0 → length old ≢ length (spelled v) → n ≡ 9
   -- 0: the recipe, which is accepted and reads back to the values given
-  pub produces : agree v ≡ true → first_of (readLines (spelled v)) ≡ 0 → length old ≡ length (spelled v) → (n ≡ 0) × (space ≡ spelled v)
-  pub read_back : n ≡ 0 → (first_of (readLines space) ≡ 0) × (fields_of (nestOf space) ≡ v)
+  pub produces : agree v ≡ true → first_of (read_lines (spelled v)) ≡ 0 → length old ≡ length (spelled v) → (n ≡ 0) × (space ≡ spelled v)
+  pub read_back : n ≡ 0 → (first_of (read_lines space) ≡ 0) × (fields_of (nest_of space) ≡ v)
 
 pub record RecipeCalls : Type 0 where
   pub read : (bytes : List ℕ) (told : RecipeFields) → ReadGave bytes told
-      → Tells (λ t. t.number) (readLines bytes) (toldFields (fields_of (nestOf bytes))) noFields told
+      → Tells (λ t. t.number) (read_lines bytes) (told_fields (fields_of (nest_of bytes))) no_fields told
   pub write : (v : Fields) (old : List ℕ) (n : ℕ) (space : List ℕ) → WriteGave v old n space → WroteFields v old n space
   -- read, then write what was told: the very bytes
   pub rebuilt : (bytes : List ℕ) (told : RecipeFields) (old : List ℕ) (n : ℕ) (space : List ℕ) → Bytes bytes → ReadGave bytes told → told.number ≡ 0

@@ -13,12 +13,12 @@ use lib.Seq.{get_or-set_same, get_or-set_other}
 use lib.Dec.{eqb, leb}
 use borrow.Author.Tests.{le-leb, lt-leb, eq-eqb, ne_eqb, eqb-true, eqb-false}
 use Rattle.base.specs.Tests.{pick, sum, tabulate}
-use Rattle.base.specs.Lists.{storeAll}
-use Rattle.base.proofs.Tests.{sum_same, sum-add, pick_true, pick-false}
+use Rattle.base.specs.Lists.{store_all}
+use Rattle.base.proofs.Tests.{sum_same, sum_add, pick_true, pick_false}
 use Rattle.base.proofs.Lists.{store_length}
 use borrow.Author.Count.{below_none, below_more}
-use Rattle.kernels.specs.Taps.{made, mixed, inLine, waveOf, Fits, Mixes, All, AllOrNone, Rested}
-use Rattle.kernels.proofs.Orders.{store-append, store_same}
+use Rattle.kernels.specs.Taps.{made, mixed, in_line, wave_of, Fits, Mixes, All, AllOrNone, Rested}
+use Rattle.kernels.proofs.Orders.{store_append, store_same}
 
 pub weighs : (k v : ℕ) → k < 65536 → v < 4294967296 → k * v ≤ 281470681677825
 weighs k v a b = omega (arith, mul-le-mul {n₁ = k} {m₁ = v} {n₂ = 65535} {m₂ = 4294967295} (omega arith) (omega arith))
@@ -28,8 +28,8 @@ kept m m' c v e = ap length e ∙ length-set m c v
 
 module _ {n : ℕ} {backs weights : List ℕ} {outside shift c span sources words : ℕ} (f : Fits n backs weights outside shift c span sources words) where
   -- at some of the cells, in a memory of the same length
-  pub fits-at : (c' span' words' : ℕ) → c ≤ c' → c' + span' ≤ c + span → words' ≡ words → Fits n backs weights outside shift c' span' sources words'
-  fits-at c' span' words' l h e =
+  pub fits_at_lem : (c' span' words' : ℕ) → c ≤ c' → c' + span' ≤ c + span → words' ≡ words → Fits n backs weights outside shift c' span' sources words'
+  fits_at_lem c' span' words' l h e =
       record {
         few = f.few;
         back = λ k i. omega (arith, f.back k i);
@@ -42,9 +42,9 @@ module _ {n : ℕ} {backs weights : List ℕ} {outside shift c span sources word
       }
 
   -- what one tap more needs
-  pub tap-needs : (k : ℕ) → k < n → 1 ≤ span → (total : ℕ) → total ≤ 4611686018427387904
+  pub tap_needs : (k : ℕ) → k < n → 1 ≤ span → (total : ℕ) → total ≤ 4611686018427387904
       → (total ≤ 4611686018427387904) × ((get_or weights k 0 < 65536) × ((get_or backs k 0 ≤ c) × ((c < words) × (words ≤ 16384))))
-  tap-needs k h l total t = (t, (f.light k h, (f.back k h, (omega (arith, f.within), f.small))))
+  tap_needs k h l total t = (t, (f.light k h, (f.back k h, (omega (arith, f.within), f.small))))
 
 -- ---- the sum of the first k taps at cell c
 
@@ -54,16 +54,16 @@ pub record Summing (n : ℕ) (backs weights : List ℕ) (outside : ℕ) (source 
   pub is : total ≡ outside + get_or source c 0 + sum (λ i. get_or weights i 0 * get_or memory (c - get_or backs i 0) 0) k
 
 module _ (n : ℕ) (backs weights : List ℕ) (outside shift : ℕ) (source memory : List ℕ) (c : ℕ) where
-  pub summing-none : (v : ℕ) → outside ≤ 2251765453422600 → (v ≡ get_or source c 0) × (v < 4294967296) → Summing n backs weights outside source memory c
+  pub summing_none : (v : ℕ) → outside ≤ 2251765453422600 → (v ≡ get_or source c 0) × (v < 4294967296) → Summing n backs weights outside source memory c
       (outside + v) 0
   unfolding sum
-  summing-none v h q = record { low = omega arith; few = omega arith; is = omega arith }
+  summing_none v h q = record { low = omega arith; few = omega arith; is = omega arith }
 
   module _ (total k : ℕ) (s : Summing n backs weights outside source memory c total k) where
-    pub summing-more : k < n → (r b w : ℕ) → b ≡ get_or backs k 0 → w ≡ get_or weights k 0 → (r ≡ total + w * get_or memory (c - b) 0) × (r ≤ total + 281470681677825)
+    pub summing_more : k < n → (r b w : ℕ) → b ≡ get_or backs k 0 → w ≡ get_or weights k 0 → (r ≡ total + w * get_or memory (c - b) 0) × (r ≤ total + 281470681677825)
         → Summing n backs weights outside source memory c r (k + 1)
     unfolding sum
-    summing-more h r b w eb ew q =
+    summing_more h r b w eb ew q =
         record {
           low = omega arith;
           few = omega (arith, s.few);
@@ -72,9 +72,9 @@ module _ (n : ℕ) (backs weights : List ℕ) (outside shift : ℕ) (source memo
               eb ∙ omega (arith, s.is));
         }
 
-    pub summing-end : n ≤ k → (v : ℕ) → v ≡ total / 2 ^ shift % 4294967296 → v ≡ made n backs weights outside shift source memory c
+    pub summing_end : n ≤ k → (v : ℕ) → v ≡ total / 2 ^ shift % 4294967296 → v ≡ made n backs weights outside shift source memory c
     unfolding made
-    summing-end h v e =
+    summing_end h v e =
         let z : k ≡ n = omega (arith, s.low) in
         e ∙ ap (λ (a : ℕ). a / 2 ^ shift % 4294967296) (rw z at s.is)
 
@@ -92,30 +92,30 @@ pub record Mixing (n : ℕ) (weights : List ℕ) (word : ℕ → ℕ) (v total k
   pub is : total ≡ v + sum (λ i. get_or weights i 0 * word i) k
 
 module _ (n : ℕ) (weights : List ℕ) (word : ℕ → ℕ) (v : ℕ) where
-  pub mixing-none : (r : ℕ) → (r ≡ v) × (r < 4294967296) → Mixing n weights word v r 0
+  pub mixing_none : (r : ℕ) → (r ≡ v) × (r < 4294967296) → Mixing n weights word v r 0
   unfolding sum
-  mixing-none r q = record { low = omega arith; few = omega arith; is = omega arith }
+  mixing_none r q = record { low = omega arith; few = omega arith; is = omega arith }
 
   module _ (total k : ℕ) (s : Mixing n weights word v total k) (h : k < n) (light : get_or weights k 0 < 65536) (w : ℕ) (e : (w ≡ word k) × (w < 4294967296))
     where
-      pub mixing-fits : total + get_or weights k 0 * w ≤ 4294967295 + (k + 1) * 281470681677825
-      mixing-fits = omega (arith, s.few, weighs (get_or weights k 0) w light e.1)
+      pub mixing_fits : total + get_or weights k 0 * w ≤ 4294967295 + (k + 1) * 281470681677825
+      mixing_fits = omega (arith, s.few, weighs (get_or weights k 0) w light e.1)
 
-      pub mixing-more : Mixing n weights word v (total + get_or weights k 0 * w) (k + 1)
+      pub mixing_more : Mixing n weights word v (total + get_or weights k 0 * w) (k + 1)
       unfolding sum
-      mixing-more =
+      mixing_more =
           record {
             low = omega arith;
-            few = mixing-fits;
+            few = mixing_fits;
             is = rw (add-one k) (ap (λ (a : ℕ). total + get_or weights k 0 * a) e.0 ∙ omega (arith, s.is));
           }
 
-pub mixing-end : (n : ℕ) (firsts backs weights : List ℕ) (boundary shift : ℕ) (source memory : List ℕ) (c a total k : ℕ)
+pub mixing_end : (n : ℕ) (firsts backs weights : List ℕ) (boundary shift : ℕ) (source memory : List ℕ) (c a total k : ℕ)
     → Mixing n weights (λ i. pick (leb (get_or firsts i 0) a) (get_or memory (c - get_or backs i 0) 0) boundary) (get_or source c 0) total k → n ≤ k → (r : ℕ) → r
     ≡ total / 2 ^ shift % 4294967296
     → r ≡ mixed n firsts backs weights boundary shift source a memory c
 unfolding mixed
-mixing-end n firsts backs weights boundary shift source memory c a total k s h r e =
+mixing_end n firsts backs weights boundary shift source memory c a total k s h r e =
     let z : k ≡ n = omega (arith, s.low) in
     e ∙ ap (λ (b : ℕ). b / 2 ^ shift % 4294967296) (rw z at s.is)
 
@@ -123,32 +123,32 @@ mixing-end n firsts backs weights boundary shift source memory c a total k s h r
 
 pub record Rowing (f : List ℕ → ℕ → ℕ) (memory₀ memory : List ℕ) (c n y : ℕ) : Type 0 where
   pub low : y ≤ n
-  pub is : memory ≡ storeAll f memory₀ (tabulate (λ i. c + i) y)
+  pub is : memory ≡ store_all f memory₀ (tabulate (λ i. c + i) y)
 
 module _ (f : List ℕ → ℕ → ℕ) (memory₀ : List ℕ) (c n : ℕ) where
-  pub rowing-none : Rowing f memory₀ memory₀ c n 0
-  unfolding storeAll tabulate
-  rowing-none = record { low = omega arith; is = refl }
+  pub rowing_none : Rowing f memory₀ memory₀ c n 0
+  unfolding store_all tabulate
+  rowing_none = record { low = omega arith; is = refl }
 
 module _ {f : List ℕ → ℕ → ℕ} {memory₀ memory : List ℕ} {c n y : ℕ} (p : Rowing f memory₀ memory c n y) where
-  pub rowing-long : length memory ≡ length memory₀
-  rowing-long = ap length p.is ∙ store_length f (tabulate (λ i. c + i) y) memory₀
+  pub rowing_long : length memory ≡ length memory₀
+  rowing_long = ap length p.is ∙ store_length f (tabulate (λ i. c + i) y) memory₀
 
   pub rowing_more : (memory' : List ℕ) → y < n → memory' ≡ set memory (c + y) (f memory (c + y)) → Rowing f memory₀ memory' c n (y + 1)
-  unfolding storeAll tabulate
+  unfolding store_all tabulate
   rowing_more memory' l e =
-      record { low = omega arith; is = rw (add-one y, store-append f memory₀ (tabulate (λ i. c + i) y) ((c + y) ∷ []), ← p.is) e }
+      record { low = omega arith; is = rw (add-one y, store_append f memory₀ (tabulate (λ i. c + i) y) ((c + y) ∷ []), ← p.is) e }
 
-  pub rowing-end : n ≤ y → memory ≡ storeAll f memory₀ (tabulate (λ i. c + i) n)
-  rowing-end h = let z : y ≡ n = omega (arith, p.low) in rw z at p.is
+  pub rowing_end : n ≤ y → memory ≡ store_all f memory₀ (tabulate (λ i. c + i) n)
+  rowing_end h = let z : y ≡ n = omega (arith, p.low) in rw z at p.is
 
 -- ---- a row in two parts: where taps may read the boundary's word, and where all read
 
 module _ {n : ℕ} {firsts backs weights : List ℕ} {boundary shift c a span sources words : ℕ} (p : Mixes n firsts backs weights boundary shift c a span
     sources words) where
   -- at some of the cells, in a memory of the same length
-  pub mixes-at : (y m words' : ℕ) → y + m ≤ span → words' ≡ words → Mixes n firsts backs weights boundary shift (c + y) (a + y) m sources words'
-  mixes-at y m words' h e =
+  pub mixes_at : (y m words' : ℕ) → y + m ≤ span → words' ≡ words → Mixes n firsts backs weights boundary shift (c + y) (a + y) m sources words'
+  mixes_at y m words' h e =
       record {
         few = p.few;
         back = λ k z i l b. omega (arith, p.back k (y + z) i (omega arith) (omega arith));
@@ -161,8 +161,8 @@ module _ {n : ℕ} {firsts backs weights : List ℕ} {boundary shift c a span so
         narrow = omega (arith, p.narrow);
       }
 
-  pub mixes-first : (m : ℕ) → m ≤ span → Mixes n firsts backs weights boundary shift c a m sources words
-  mixes-first m h =
+  pub mixes_first : (m : ℕ) → m ≤ span → Mixes n firsts backs weights boundary shift c a m sources words
+  mixes_first m h =
       record {
         few = p.few;
         back = λ k z i l b. p.back k z i (omega arith) b;
@@ -175,9 +175,9 @@ module _ {n : ℕ} {firsts backs weights : List ℕ} {boundary shift c a span so
         narrow = omega (arith, p.narrow);
       }
 
-  pub mixes-fits : (y from words' : ℕ) → y < span → All n firsts from → from ≤ a + y → words' ≡ words → Fits n backs weights 0 shift (c + y) (span - y)
+  pub mixes_fits : (y from words' : ℕ) → y < span → All n firsts from → from ≤ a + y → words' ≡ words → Fits n backs weights 0 shift (c + y) (span - y)
       sources words'
-  mixes-fits y from words' h all f e =
+  mixes_fits y from words' h all f e =
       record {
         few = p.few;
         back = λ k i. p.back k y i h (omega (arith, all k i));
@@ -189,16 +189,16 @@ module _ {n : ℕ} {firsts backs weights : List ℕ} {boundary shift c a span so
         small = omega (arith, p.small);
       }
 
-pub in-line : (n : ℕ) (firsts backs weights : List ℕ) (boundary shift : ℕ) (source memory : List ℕ) (c a y v : ℕ) → v ≡ mixed n firsts backs weights boundary
+pub in_line_lem : (n : ℕ) (firsts backs weights : List ℕ) (boundary shift : ℕ) (source memory : List ℕ) (c a y v : ℕ) → v ≡ mixed n firsts backs weights boundary
     shift source (a + y) memory (c + y)
     → set memory (c + y) v ≡ set memory (c + y) (mixed n firsts backs weights boundary shift source (a + (c + y - c)) memory (c + y))
-in-line n firsts backs weights boundary shift source memory c a y v e = let z : a + (c + y - c) ≡ a + y = omega arith in rw z (ap (set memory (c + y)) e)
+in_line_lem n firsts backs weights boundary shift source memory c a y v e = let z : a + (c + y - c) ≡ a + y = omega arith in rw z (ap (set memory (c + y)) e)
 
-pub made-mixed : (n : ℕ) (firsts backs weights : List ℕ) (boundary shift : ℕ) (source : List ℕ) (a from : ℕ) → All n firsts from → from ≤ a
+pub made_mixed : (n : ℕ) (firsts backs weights : List ℕ) (boundary shift : ℕ) (source : List ℕ) (a from : ℕ) → All n firsts from → from ≤ a
     → (memory : List ℕ) (c : ℕ)
     → made n backs weights 0 shift source memory c ≡ mixed n firsts backs weights boundary shift source a memory c
 unfolding made mixed
-made-mixed n firsts backs weights boundary shift source a from all f memory c =
+made_mixed n firsts backs weights boundary shift source a from all f memory c =
     let e : sum (λ k. get_or weights k 0 * get_or memory (c - get_or backs k 0) 0) n
     ≡ sum (λ k. get_or weights k 0 * pick (leb (get_or firsts k 0) a) (get_or memory (c - get_or backs k 0) 0) boundary) n =
     sum_same _ _ n (λ k i. ap (λ (b : ℕ). get_or weights k 0 * b)
@@ -208,45 +208,45 @@ made-mixed n firsts backs weights boundary shift source a from all f memory c =
     ap (λ (b : ℕ). b / 2 ^ shift % 4294967296) z
 
 -- so many cells by one rule and the rest by another that gives the same
-pub rows_join : (f g : List ℕ → ℕ → ℕ) (m m' : List ℕ) (c k : ℕ) → m' ≡ storeAll f m (tabulate (λ i. c + i) k) → (n : ℕ)
+pub rows_join : (f g : List ℕ → ℕ → ℕ) (m m' : List ℕ) (c k : ℕ) → m' ≡ store_all f m (tabulate (λ i. c + i) k) → (n : ℕ)
     → ((l : List ℕ) (y : ℕ) → y < n → g l (c + k + y) ≡ f l (c + k + y))
-    → storeAll g m' (tabulate (λ i. c + k + i) n) ≡ storeAll f m (tabulate (λ i. c + i) (k + n))
-unfolding storeAll tabulate
+    → store_all g m' (tabulate (λ i. c + k + i) n) ≡ store_all f m (tabulate (λ i. c + i) (k + n))
+unfolding store_all tabulate
 rows_join f g m m' c k e zero h = rw (add-zero k) e
 rows_join f g m m' c k e (suc n) h =
     let z : c + k + n ≡ c + (k + n) = omega arith in
     let y : k + suc n ≡ suc (k + n) = omega arith in
     rw y
-    (store-append g m' (tabulate (λ i. c + k + i) n) ((c + k + n) ∷ [])
-    ∙ rw (rows_join f g m m' c k e n (λ l y i. h l y (omega arith)), h (storeAll f m (tabulate (λ i. c + i) (k + n))) n (omega arith), z)
-    (sym (store-append f m (tabulate (λ i. c + i) (k + n)) ((c + (k + n)) ∷ []))))
+    (store_append g m' (tabulate (λ i. c + k + i) n) ((c + k + n) ∷ [])
+    ∙ rw (rows_join f g m m' c k e n (λ l y i. h l y (omega arith)), h (store_all f m (tabulate (λ i. c + i) (k + n))) n (omega arith), z)
+    (sym (store_append f m (tabulate (λ i. c + i) (k + n)) ((c + (k + n)) ∷ []))))
 
-pub line-stored : (f g : List ℕ → ℕ → ℕ) (m m₁ m₂ : List ℕ) (c k width : ℕ) → k < width → m₁ ≡ storeAll f m (tabulate (λ i. c + i) k) → m₂ ≡ storeAll g m₁
+pub line_stored : (f g : List ℕ → ℕ → ℕ) (m m₁ m₂ : List ℕ) (c k width : ℕ) → k < width → m₁ ≡ store_all f m (tabulate (λ i. c + i) k) → m₂ ≡ store_all g m₁
     (tabulate (λ i. c + k + i) (width - k))
-    → ((l : List ℕ) (y : ℕ) → y < width - k → g l (c + k + y) ≡ f l (c + k + y)) → m₂ ≡ storeAll f m (tabulate (λ i. c + i) width)
-line-stored f g m m₁ m₂ c k width l e₁ e₂ h =
+    → ((l : List ℕ) (y : ℕ) → y < width - k → g l (c + k + y) ≡ f l (c + k + y)) → m₂ ≡ store_all f m (tabulate (λ i. c + i) width)
+line_stored f g m m₁ m₂ c k width l e₁ e₂ h =
     let z : k + (width - k) ≡ width = omega arith in
     rw z at (e₂ ∙ rows_join f g m m₁ c k e₁ (width - k) h)
 
-pub made-line : (n : ℕ) (firsts backs weights : List ℕ) (boundary shift : ℕ) (source : List ℕ) (c a from : ℕ) → All n firsts from → (k : ℕ) → from ≤ a + k
+pub made_line : (n : ℕ) (firsts backs weights : List ℕ) (boundary shift : ℕ) (source : List ℕ) (c a from : ℕ) → All n firsts from → (k : ℕ) → from ≤ a + k
     → (l : List ℕ) (y : ℕ)
-    → made n backs weights 0 shift source l (c + k + y) ≡ inLine n firsts backs weights boundary shift source c a l (c + k + y)
-made-line n firsts backs weights boundary shift source c a from all k f l y =
-    made-mixed n firsts backs weights boundary shift source (a + (c + k + y - c)) from all (omega arith) l (c + k + y)
+    → made n backs weights 0 shift source l (c + k + y) ≡ in_line n firsts backs weights boundary shift source c a l (c + k + y)
+made_line n firsts backs weights boundary shift source c a from all k f l y =
+    made_mixed n firsts backs weights boundary shift source (a + (c + k + y - c)) from all (omega arith) l (c + k + y)
 
 -- ---- the taps that are left where some read nowhere
 
 pub record Resting (n : ℕ) (firsts backs weights : List ℕ) (boundary : ℕ) (leftBacks leftWeights : List ℕ) (outside k : ℕ) : Type 0 where
   pub low : k ≤ n
-  pub long-backs : length leftBacks ≡ 8
-  pub long-weights : length leftWeights ≡ 8
-  pub no-backs : (i : ℕ) → k ≤ i → get_or leftBacks i 0 ≡ 0
-  pub no-weights : (i : ℕ) → k ≤ i → get_or leftWeights i 0 ≡ 0
+  pub long_backs : length leftBacks ≡ 8
+  pub long_weights : length leftWeights ≡ 8
+  pub no_backs : (i : ℕ) → k ≤ i → get_or leftBacks i 0 ≡ 0
+  pub no_weights : (i : ℕ) → k ≤ i → get_or leftWeights i 0 ≡ 0
   pub so : Rested k firsts backs weights boundary leftBacks leftWeights outside
 
 -- one place more of a list is as it should be
-next-is : (g : ℕ → ℕ) (l : List ℕ) (k : ℕ) → get_or l k 0 ≡ g k → ((i : ℕ) → i < k → get_or l i 0 ≡ g i) → (i : ℕ) → i < k + 1 → get_or l i 0 ≡ g i
-next-is g l k e s i b = go (ℕ_discrete i k)
+next_is : (g : ℕ → ℕ) (l : List ℕ) (k : ℕ) → get_or l k 0 ≡ g k → ((i : ℕ) → i < k → get_or l i 0 ≡ g i) → (i : ℕ) → i < k + 1 → get_or l i 0 ≡ g i
+next_is g l k e s i b = go (ℕ_discrete i k)
   where
     go : Dec (i ≡ k) → get_or l i 0 ≡ g i
     go (yes z) = rw z e
@@ -258,90 +258,90 @@ zeros zero (suc n) = refl
 zeros (suc i) (suc n) = zeros i n
 
 module _ (n : ℕ) (firsts backs weights : List ℕ) (boundary : ℕ) where
-  pub resting-none : Resting n firsts backs weights boundary (replicate 8 0) (replicate 8 0) 0 0
+  pub resting_none : Resting n firsts backs weights boundary (replicate 8 0) (replicate 8 0) 0 0
   unfolding sum
-  resting-none =
+  resting_none =
       record {
         low = omega arith;
-        long-backs = refl;
-        long-weights = refl;
-        no-backs = λ i h. zeros i 8;
-        no-weights = λ i h. zeros i 8;
+        long_backs = refl;
+        long_weights = refl;
+        no_backs = λ i h. zeros i 8;
+        no_weights = λ i h. zeros i 8;
         so = record { back = λ k h. absurd (omega arith); weight = λ k h. absurd (omega arith); few = omega arith; is = refl };
       }
 
   module _ (leftBacks leftWeights : List ℕ) (outside k : ℕ) (s : Resting n firsts backs weights boundary leftBacks leftWeights outside k) (low : n ≤ 8)
       (h : k < n) where
-    pub resting-fits : get_or weights k 0 < 65536 → boundary < 4294967296 → outside + get_or weights k 0 * boundary ≤ (k + 1) * 281470681677825
-    resting-fits light beyond = omega (arith, s.so.few, weighs (get_or weights k 0) boundary light beyond)
+    pub resting_fits : get_or weights k 0 < 65536 → boundary < 4294967296 → outside + get_or weights k 0 * boundary ≤ (k + 1) * 281470681677825
+    resting_fits light beyond = omega (arith, s.so.few, weighs (get_or weights k 0) boundary light beyond)
 
-    pub resting-skip : get_or firsts k 0 ≡ 1024 → get_or weights k 0 < 65536 → boundary < 4294967296
+    pub resting_skip : get_or firsts k 0 ≡ 1024 → get_or weights k 0 < 65536 → boundary < 4294967296
         → Resting n firsts backs weights boundary leftBacks leftWeights (outside + get_or weights k 0 * boundary) (k + 1)
     unfolding sum
-    resting-skip e light beyond =
+    resting_skip e light beyond =
         let t = eq-eqb (get_or firsts k 0) 1024 e in
         let z : get_or weights k 0 - pick (eqb (get_or firsts k 0) 1024) 0 (get_or weights k 0) ≡ get_or weights k 0 = rw
         (pick_true (eqb (get_or firsts k 0) 1024) 0 (get_or weights k 0) t) (omega arith) in
         record {
           low = omega arith;
-          long-backs = s.long-backs;
-          long-weights = s.long-weights;
-          no-backs = λ i q. s.no-backs i (omega arith);
-          no-weights = λ i q. s.no-weights i (omega arith);
+          long_backs = s.long_backs;
+          long_weights = s.long_weights;
+          no_backs = λ i q. s.no_backs i (omega arith);
+          no_weights = λ i q. s.no_weights i (omega arith);
           so = record {
             back =
-                next-is (λ i. pick (eqb (get_or firsts i 0) 1024) 0 (get_or backs i 0)) leftBacks k (s.no-backs k (omega arith)
+                next_is (λ i. pick (eqb (get_or firsts i 0) 1024) 0 (get_or backs i 0)) leftBacks k (s.no_backs k (omega arith)
                 ∙ sym (pick_true (eqb (get_or firsts k 0) 1024) 0 (get_or backs k 0) t)) s.so.back;
             weight =
-                next-is (λ i. pick (eqb (get_or firsts i 0) 1024) 0 (get_or weights i 0)) leftWeights k (s.no-weights k (omega arith)
+                next_is (λ i. pick (eqb (get_or firsts i 0) 1024) 0 (get_or weights i 0)) leftWeights k (s.no_weights k (omega arith)
                 ∙ sym (pick_true (eqb (get_or firsts k 0) 1024) 0 (get_or weights k 0) t)) s.so.weight;
-            few = resting-fits light beyond;
+            few = resting_fits light beyond;
             is = rw (add-one k) (ap (λ (a : ℕ). outside + a * boundary) (sym z) ∙ omega (arith, s.so.is));
           };
         }
 
-    pub resting-take : get_or firsts k 0 ≢ 1024 → Resting n firsts backs weights boundary (set leftBacks k (get_or backs k 0))
+    pub resting_take : get_or firsts k 0 ≢ 1024 → Resting n firsts backs weights boundary (set leftBacks k (get_or backs k 0))
         (set leftWeights k (get_or weights k 0)) outside (k + 1)
     unfolding sum
-    resting-take ne =
+    resting_take ne =
         let t = ne_eqb (get_or firsts k 0) 1024 ne in
         let z : get_or weights k 0 - pick (eqb (get_or firsts k 0) 1024) 0 (get_or weights k 0)
-        ≡ 0 = rw (pick-false (eqb (get_or firsts k 0) 1024) 0 (get_or weights k 0) t) (omega arith) in
+        ≡ 0 = rw (pick_false (eqb (get_or firsts k 0) 1024) 0 (get_or weights k 0) t) (omega arith) in
         let y : (get_or weights k 0 - pick (eqb (get_or firsts k 0) 1024) 0 (get_or weights k 0)) * boundary ≡ 0 = ap (λ (a : ℕ). a * boundary) z
         ∙ zero-mul boundary in
         record {
           low = omega arith;
-          long-backs = length-set leftBacks k (get_or backs k 0) ∙ s.long-backs;
-          long-weights = length-set leftWeights k (get_or weights k 0) ∙ s.long-weights;
-          no-backs = λ i q. get_or-set_other leftBacks k i (get_or backs k 0) 0 (λ e. omega arith) ∙ s.no-backs i (omega arith);
-          no-weights = λ i q. get_or-set_other leftWeights k i (get_or weights k 0) 0 (λ e. omega arith) ∙ s.no-weights i (omega arith);
+          long_backs = length-set leftBacks k (get_or backs k 0) ∙ s.long_backs;
+          long_weights = length-set leftWeights k (get_or weights k 0) ∙ s.long_weights;
+          no_backs = λ i q. get_or-set_other leftBacks k i (get_or backs k 0) 0 (λ e. omega arith) ∙ s.no_backs i (omega arith);
+          no_weights = λ i q. get_or-set_other leftWeights k i (get_or weights k 0) 0 (λ e. omega arith) ∙ s.no_weights i (omega arith);
           so = record {
-            back = next-is (λ i. pick (eqb (get_or firsts i 0) 1024) 0 (get_or backs i 0)) (set leftBacks k (get_or backs k 0)) k
-                (get_or-set_same leftBacks k (get_or backs k 0) 0 (omega (arith, s.long-backs))
-                ∙ sym (pick-false (eqb (get_or firsts k 0) 1024) 0 (get_or backs k 0) t))
+            back = next_is (λ i. pick (eqb (get_or firsts i 0) 1024) 0 (get_or backs i 0)) (set leftBacks k (get_or backs k 0)) k
+                (get_or-set_same leftBacks k (get_or backs k 0) 0 (omega (arith, s.long_backs))
+                ∙ sym (pick_false (eqb (get_or firsts k 0) 1024) 0 (get_or backs k 0) t))
                 (λ i q. get_or-set_other leftBacks k i (get_or backs k 0) 0 (λ e. omega arith) ∙ s.so.back i q);
-            weight = next-is (λ i. pick (eqb (get_or firsts i 0) 1024) 0 (get_or weights i 0)) (set leftWeights k (get_or weights k 0)) k
-                (get_or-set_same leftWeights k (get_or weights k 0) 0 (omega (arith, s.long-weights))
-                ∙ sym (pick-false (eqb (get_or firsts k 0) 1024) 0 (get_or weights k 0) t))
+            weight = next_is (λ i. pick (eqb (get_or firsts i 0) 1024) 0 (get_or weights i 0)) (set leftWeights k (get_or weights k 0)) k
+                (get_or-set_same leftWeights k (get_or weights k 0) 0 (omega (arith, s.long_weights))
+                ∙ sym (pick_false (eqb (get_or firsts k 0) 1024) 0 (get_or weights k 0) t))
                 (λ i q. get_or-set_other leftWeights k i (get_or weights k 0) 0 (λ e. omega arith) ∙ s.so.weight i q);
             few = omega (arith, s.so.few);
             is = rw (add-one k) (omega (arith, s.so.is, y));
           };
         }
 
-  pub resting-end : (leftBacks leftWeights : List ℕ) (outside k : ℕ) → Resting n firsts backs weights boundary leftBacks leftWeights outside k → n ≤ k
+  pub resting_end : (leftBacks leftWeights : List ℕ) (outside k : ℕ) → Resting n firsts backs weights boundary leftBacks leftWeights outside k → n ≤ k
       → Rested n firsts backs weights boundary leftBacks leftWeights outside
-  resting-end leftBacks leftWeights outside k s h = let z : k ≡ n = omega (arith, s.low) in rw z at s.so
+  resting_end leftBacks leftWeights outside k s h = let z : k ≡ n = omega (arith, s.low) in rw z at s.so
 
 -- what tap gives, in the two parts
-tap-split : (t : Bool) (f w b a boundary c : ℕ) (m : List ℕ) → eqb f 1024 ≡ t → a < 1024 → (f ≢ 1024 → f ≤ a)
+tap_split : (t : Bool) (f w b a boundary c : ℕ) (m : List ℕ) → eqb f 1024 ≡ t → a < 1024 → (f ≢ 1024 → f ≤ a)
     → (w - pick t 0 w) * boundary + pick t 0 w * get_or m (c - pick t 0 b) 0 ≡ w * pick (leb f a) (get_or m (c - b) 0) boundary
 unfolding pick
-tap-split true f w b a boundary c m e h l =
+tap_split true f w b a boundary c m e h l =
     let z : f ≡ 1024 = eqb-true f 1024 e in
     let y : w - 0 ≡ w = omega arith in
-    rw (pick-false (leb f a) (get_or m (c - b) 0) boundary (rw z (lt-leb 1024 a h)), y, zero-mul) (omega arith)
-tap-split false f w b a boundary c m e h l =
+    rw (pick_false (leb f a) (get_or m (c - b) 0) boundary (rw z (lt-leb 1024 a h)), y, zero-mul) (omega arith)
+tap_split false f w b a boundary c m e h l =
     let z : f ≢ 1024 = eqb-false f 1024 e in
     let y : w - w ≡ 0 = omega arith in
     rw (pick_true (leb f a) (get_or m (c - b) 0) boundary (le-leb f a (l z)), y, zero-mul) (omega arith)
@@ -349,17 +349,17 @@ tap-split false f w b a boundary c m e h l =
 module _ (n : ℕ) (firsts backs weights : List ℕ) (boundary shift : ℕ) (source leftBacks leftWeights : List ℕ) (outside : ℕ)
     (r : Rested n firsts backs weights boundary leftBacks leftWeights outside)
     (from : ℕ) (all : AllOrNone n firsts from) where
-  reads-there : (a k : ℕ) → from ≤ a → k < n → get_or firsts k 0 ≢ 1024 → get_or firsts k 0 ≤ a
-  reads-there a k h l ne = go (all k l)
+  reads_there : (a k : ℕ) → from ≤ a → k < n → get_or firsts k 0 ≢ 1024 → get_or firsts k 0 ≤ a
+  reads_there a k h l ne = go (all k l)
     where
       go : (get_or firsts k 0 ≤ from) ⊎ (get_or firsts k 0 ≡ 1024) → get_or firsts k 0 ≤ a
       go (inl q) = omega arith
       go (inr q) = absurd (ne q)
 
-  rest-mixed : (a : ℕ) → from ≤ a → a < 1024 → (m : List ℕ) (c : ℕ) → made n leftBacks leftWeights outside shift source m c ≡ mixed n firsts backs weights
+  rest_mixed : (a : ℕ) → from ≤ a → a < 1024 → (m : List ℕ) (c : ℕ) → made n leftBacks leftWeights outside shift source m c ≡ mixed n firsts backs weights
       boundary shift source a m c
   unfolding made mixed
-  rest-mixed a h l m c = ap (λ (b : ℕ). b / 2 ^ shift % 4294967296) total
+  rest_mixed a h l m c = ap (λ (b : ℕ). b / 2 ^ shift % 4294967296) total
     where
       left : sum (λ k. get_or leftWeights k 0 * get_or m (c - get_or leftBacks k 0) 0) n
           ≡ sum (λ k. pick (eqb (get_or firsts k 0) 1024) 0 (get_or weights k 0) * get_or m (c - pick (eqb (get_or firsts k 0) 1024) 0 (get_or backs k 0)) 0) n
@@ -371,8 +371,8 @@ module _ (n : ℕ) (firsts backs weights : List ℕ) (boundary shift : ℕ) (sou
           + pick (eqb (get_or firsts k 0) 1024) 0 (get_or weights k 0) * get_or m (c - pick (eqb (get_or firsts k 0) 1024) 0 (get_or backs k 0)) 0) n
           ≡ sum (λ k. get_or weights k 0 * pick (leb (get_or firsts k 0) a) (get_or m (c - get_or backs k 0) 0) boundary) n
       each =
-          sum_same _ _ n (λ k i. tap-split (eqb (get_or firsts k 0) 1024) (get_or firsts k 0) (get_or weights k 0) (get_or backs k 0) a boundary c m refl l
-          (reads-there a k h i))
+          sum_same _ _ n (λ k i. tap_split (eqb (get_or firsts k 0) 1024) (get_or firsts k 0) (get_or weights k 0) (get_or backs k 0) a boundary c m refl l
+          (reads_there a k h i))
 
       total : outside + get_or source c 0 + sum (λ k. get_or leftWeights k 0 * get_or m (c - get_or leftBacks k 0) 0) n
           ≡ get_or source c 0 + sum (λ k. get_or weights k 0 * pick (leb (get_or firsts k 0) a) (get_or m (c - get_or backs k 0) 0) boundary) n
@@ -381,18 +381,18 @@ module _ (n : ℕ) (firsts backs weights : List ℕ) (boundary shift : ℕ) (sou
         r.is,
         left,
         each,
-        sum-add (λ k. (get_or weights k 0 - pick (eqb (get_or firsts k 0) 1024) 0 (get_or weights k 0)) * boundary)
+        sum_add (λ k. (get_or weights k 0 - pick (eqb (get_or firsts k 0) 1024) 0 (get_or weights k 0)) * boundary)
             (λ k. pick (eqb (get_or firsts k 0) 1024) 0 (get_or weights k 0) * get_or m (c - pick (eqb (get_or firsts k 0) 1024) 0 (get_or backs k 0)) 0) n,
       )
 
-  pub rest-line : (c a width : ℕ) → a + width ≤ 1024 → (k : ℕ) → from ≤ a + k → (l : List ℕ) (y : ℕ) → y < width - k
-      → made n leftBacks leftWeights outside shift source l (c + k + y) ≡ inLine n firsts backs weights boundary shift source c a l (c + k + y)
-  rest-line c a width w k f l y i = rest-mixed (a + (c + k + y - c)) (omega arith) (omega arith) l (c + k + y)
+  pub rest_line : (c a width : ℕ) → a + width ≤ 1024 → (k : ℕ) → from ≤ a + k → (l : List ℕ) (y : ℕ) → y < width - k
+      → made n leftBacks leftWeights outside shift source l (c + k + y) ≡ in_line n firsts backs weights boundary shift source c a l (c + k + y)
+  rest_line c a width w k f l y i = rest_mixed (a + (c + k + y - c)) (omega arith) (omega arith) l (c + k + y)
 
-  pub rest-fits : (c a span sources words : ℕ) → Mixes n firsts backs weights boundary shift c a span sources words → (y words' : ℕ) → y < span
+  pub rest_fits : (c a span sources words : ℕ) → Mixes n firsts backs weights boundary shift c a span sources words → (y words' : ℕ) → y < span
       → from ≤ a + y → words' ≡ words
       → Fits n leftBacks leftWeights outside shift (c + y) (span - y) sources words'
-  rest-fits c a span sources words p y words' h f e =
+  rest_fits c a span sources words p y words' h f e =
       record {
         few = p.few;
         back = λ k i. rw (r.back k i) (back k i (eqb (get_or firsts k 0) 1024) refl);
@@ -406,37 +406,37 @@ module _ (n : ℕ) (firsts backs weights : List ℕ) (boundary shift : ℕ) (sou
     where
       back : (k : ℕ) → k < n → (t : Bool) → eqb (get_or firsts k 0) 1024 ≡ t → pick t 0 (get_or backs k 0) ≤ c + y
       back k i true g = rw (pick_true true 0 (get_or backs k 0) refl) (omega arith)
-      back k i false g = rw (pick-false false 0 (get_or backs k 0) refl) (p.back k y i h (reads-there (a + y) k f i (eqb-false (get_or firsts k 0) 1024 g)))
+      back k i false g = rw (pick_false false 0 (get_or backs k 0) refl) (p.back k y i h (reads_there (a + y) k f i (eqb-false (get_or firsts k 0) 1024 g)))
 
       light : (k : ℕ) → k < n → (t : Bool) → pick t 0 (get_or weights k 0) < 65536
       light k i true = rw (pick_true true 0 (get_or weights k 0) refl) (omega arith)
-      light k i false = rw (pick-false false 0 (get_or weights k 0) refl) (p.light k i)
+      light k i false = rw (pick_false false 0 (get_or weights k 0) refl) (p.light k i)
 
 -- ---- the first y cells of four rows side by side
 
 pub record Waving (f : List ℕ → ℕ → ℕ) (memory₀ memory : List ℕ) (a t n y : ℕ) : Type 0 where
   pub low : y ≤ n
-  pub is : memory ≡ storeAll f memory₀ (waveOf a t y)
+  pub is : memory ≡ store_all f memory₀ (wave_of a t y)
 
 module _ (f : List ℕ → ℕ → ℕ) (memory₀ : List ℕ) (a t n : ℕ) where
-  pub waving-none : Waving f memory₀ memory₀ a t n 0
-  unfolding storeAll waveOf
-  waving-none = record { low = omega arith; is = refl }
+  pub waving_none : Waving f memory₀ memory₀ a t n 0
+  unfolding store_all wave_of
+  waving_none = record { low = omega arith; is = refl }
 
 module _ {f : List ℕ → ℕ → ℕ} {memory₀ memory : List ℕ} {a t n y : ℕ} (p : Waving f memory₀ memory a t n y) where
-  pub waving-long : length memory ≡ length memory₀
-  waving-long = ap length p.is ∙ store_length f (waveOf a t y) memory₀
+  pub waving_long : length memory ≡ length memory₀
+  waving_long = ap length p.is ∙ store_length f (wave_of a t y) memory₀
 
-  pub waving-more : (m₁ m₂ m₃ m₄ : List ℕ) → y < n → m₁ ≡ set memory (a + y) (f memory (a + y)) → m₂ ≡ set m₁ (a + y + t) (f m₁ (a + y + t))
+  pub waving_more : (m₁ m₂ m₃ m₄ : List ℕ) → y < n → m₁ ≡ set memory (a + y) (f memory (a + y)) → m₂ ≡ set m₁ (a + y + t) (f m₁ (a + y + t))
       → m₃ ≡ set m₂ (a + y + t + t) (f m₂ (a + y + t + t)) → m₄ ≡ set m₃ (a + y + t + t + t) (f m₃ (a + y + t + t + t)) → Waving f memory₀ m₄ a t n (y + 1)
-  unfolding storeAll waveOf
-  waving-more m₁ m₂ m₃ m₄ l e₁ e₂ e₃ e₄ =
+  unfolding store_all wave_of
+  waving_more m₁ m₂ m₃ m₄ l e₁ e₂ e₃ e₄ =
       record {
         low = omega arith;
         is =
             rw (
               add-one y,
-              store-append f memory₀ (waveOf a t y) ((a + y) ∷ (a + y + t) ∷ (a + y + t + t) ∷ (a + y + t + t + t) ∷ []),
+              store_append f memory₀ (wave_of a t y) ((a + y) ∷ (a + y + t) ∷ (a + y + t + t) ∷ (a + y + t + t + t) ∷ []),
               ← p.is,
               ← e₁,
               ← e₂,
@@ -444,17 +444,17 @@ module _ {f : List ℕ → ℕ → ℕ} {memory₀ memory : List ℕ} {a t n y :
             ) e₄;
       }
 
-  pub waving-end : n ≤ y → memory ≡ storeAll f memory₀ (waveOf a t n)
-  waving-end h = let z : y ≡ n = omega (arith, p.low) in rw z at p.is
+  pub waving_end : n ≤ y → memory ≡ store_all f memory₀ (wave_of a t n)
+  waving_end h = let z : y ≡ n = omega (arith, p.low) in rw z at p.is
 
   -- the column whose cells a turn of the loop stores: their numbers are small, and the word of each can be made in a memory of the same length
   module _ {m : ℕ} {backs weights : List ℕ} {outside shift sources : ℕ} (g : Fits m backs weights outside shift a (3 * t + n) sources (length memory₀))
       (l : y < n) where
-    pub column-small : a + y + t + t + t < 16384
-    column-small = omega (arith, g.within, g.small)
+    pub column_small : a + y + t + t + t < 16384
+    column_small = omega (arith, g.within, g.small)
 
     pub column_fits : (c words : ℕ) → a ≤ c → c ≤ a + y + t + t + t → words ≡ length memory → Fits m backs weights outside shift c 1 sources words
-    column_fits c words h k e = fits-at g c 1 words h (omega arith) (e ∙ waving-long)
+    column_fits c words h k e = fits_at_lem g c 1 words h (omega arith) (e ∙ waving_long)
 
 -- ---- the same taps, one by one and in arrays
 
@@ -464,9 +464,9 @@ pub record Same (n n' : ℕ) (backs weights backs' weights' : List ℕ) : Type 0
   pub weight : (k : ℕ) → k < n → get_or weights k 0 ≡ get_or weights' k 0
 
 module _ {n n' : ℕ} {backs weights backs' weights' : List ℕ} (s : Same n n' backs weights backs' weights') where
-  pub fits-same : {outside shift c span sources words : ℕ} → Fits n' backs' weights' outside shift c span sources words → Fits n backs weights outside shift
+  pub fits_same : {outside shift c span sources words : ℕ} → Fits n' backs' weights' outside shift c span sources words → Fits n backs weights outside shift
       c span sources words
-  fits-same f =
+  fits_same f =
       record {
         few = omega (arith, f.few, s.many);
         back = λ k h. omega (arith, s.back k h, f.back k (omega (arith, s.many)));
@@ -478,8 +478,8 @@ module _ {n n' : ℕ} {backs weights backs' weights' : List ℕ} (s : Same n n' 
         small = f.small;
       }
 
-  pub stores_same : (outside shift : ℕ) (source memory cells : List ℕ) → storeAll (made n backs weights outside shift source) memory cells
-      ≡ storeAll (made n' backs' weights' outside shift source) memory cells
+  pub stores_same : (outside shift : ℕ) (source memory cells : List ℕ) → store_all (made n backs weights outside shift source) memory cells
+      ≡ store_all (made n' backs' weights' outside shift source) memory cells
   unfolding made
   stores_same outside shift source memory cells = store_same _ _ cells memory (λ m c i. words m c)
     where
@@ -494,11 +494,11 @@ abbrev Tapped : List ℕ → List ℕ → ℕ → ℕ → ℕ → Type 0
 Tapped backs weights k b w = (b ≡ get_or backs k 0) × (get_or weights k 0 < 65536 → w ≡ get_or weights k 0)
 
 module _ (backs weights : List ℕ) {n : ℕ} (light : (k : ℕ) → k < n → get_or weights k 0 < 65536) where
-  pub same-one : n ≡ 1 → {b₀ w₀ : ℕ} → Tapped backs weights 0 b₀ w₀ → Same 1 n (b₀ ∷ []) (w₀ ∷ []) backs weights
-  same-one e p = record { many = sym e; back = below_more _ 0 (below_none _) p.0; weight = below_more _ 0 (below_none _) (p.1 (light 0 (omega arith))) }
+  pub same_one : n ≡ 1 → {b₀ w₀ : ℕ} → Tapped backs weights 0 b₀ w₀ → Same 1 n (b₀ ∷ []) (w₀ ∷ []) backs weights
+  same_one e p = record { many = sym e; back = below_more _ 0 (below_none _) p.0; weight = below_more _ 0 (below_none _) (p.1 (light 0 (omega arith))) }
 
-  pub same-two : n ≡ 2 → {b₀ w₀ b₁ w₁ : ℕ} → Tapped backs weights 0 b₀ w₀ → Tapped backs weights 1 b₁ w₁ → Same 2 n (b₀ ∷ b₁ ∷ []) (w₀ ∷ w₁ ∷ []) backs weights
-  same-two e p q =
+  pub same_two : n ≡ 2 → {b₀ w₀ b₁ w₁ : ℕ} → Tapped backs weights 0 b₀ w₀ → Tapped backs weights 1 b₁ w₁ → Same 2 n (b₀ ∷ b₁ ∷ []) (w₀ ∷ w₁ ∷ []) backs weights
+  same_two e p q =
       record {
         many = sym e;
         back = below_more _ 1 (below_more _ 0 (below_none _) p.0) q.0;
@@ -506,9 +506,9 @@ module _ (backs weights : List ℕ) {n : ℕ} (light : (k : ℕ) → k < n → g
             (below_more _ 0 (below_none _) (p.1 (light 0 (omega arith)))) (q.1 (light 1 (omega arith)));
       }
 
-  pub same-three : n ≡ 3 → {b₀ w₀ b₁ w₁ b₂ w₂ : ℕ} → Tapped backs weights 0 b₀ w₀ → Tapped backs weights 1 b₁ w₁ → Tapped backs weights 2 b₂ w₂
+  pub same_three : n ≡ 3 → {b₀ w₀ b₁ w₁ b₂ w₂ : ℕ} → Tapped backs weights 0 b₀ w₀ → Tapped backs weights 1 b₁ w₁ → Tapped backs weights 2 b₂ w₂
       → Same 3 n (b₀ ∷ b₁ ∷ b₂ ∷ []) (w₀ ∷ w₁ ∷ w₂ ∷ []) backs weights
-  same-three e p q r =
+  same_three e p q r =
       record {
         many = sym e;
         back = below_more _ 2 (below_more _ 1 (below_more _ 0 (below_none _) p.0) q.0) r.0;
@@ -517,10 +517,10 @@ module _ (backs weights : List ℕ) {n : ℕ} (light : (k : ℕ) → k < n → g
             (r.1 (light 2 (omega arith)));
       }
 
-  pub same-four : n ≡ 4 → {b₀ w₀ b₁ w₁ b₂ w₂ b₃ w₃ : ℕ} → Tapped backs weights 0 b₀ w₀ → Tapped backs weights 1 b₁ w₁ → Tapped backs weights 2 b₂ w₂
+  pub same_four : n ≡ 4 → {b₀ w₀ b₁ w₁ b₂ w₂ b₃ w₃ : ℕ} → Tapped backs weights 0 b₀ w₀ → Tapped backs weights 1 b₁ w₁ → Tapped backs weights 2 b₂ w₂
       → Tapped backs weights 3 b₃ w₃
       → Same 4 n (b₀ ∷ b₁ ∷ b₂ ∷ b₃ ∷ []) (w₀ ∷ w₁ ∷ w₂ ∷ w₃ ∷ []) backs weights
-  same-four e p q r s =
+  same_four e p q r s =
       record {
         many = sym e;
         back = below_more _ 3 (below_more _ 2 (below_more _ 1 (below_more _ 0 (below_none _) p.0) q.0) r.0) s.0;

@@ -18,13 +18,13 @@ mixed n firsts backs weights boundary shift source a memory c =
     (get_or source c 0 + sum (λ k. get_or weights k 0 * pick (leb (get_or firsts k 0) a) (get_or memory (c - get_or backs k 0) 0) boundary) n) / 2 ^ shift % 4294967296
 
 -- the same along a row, whose cell c₀ has component a
-abbrev pub inLine : ℕ → List ℕ → List ℕ → List ℕ → ℕ → ℕ → List ℕ → ℕ → ℕ → List ℕ → ℕ → ℕ
-inLine n firsts backs weights boundary shift source c₀ a memory c = mixed n firsts backs weights boundary shift source (a + (c - c₀)) memory c
+abbrev pub in_line : ℕ → List ℕ → List ℕ → List ℕ → ℕ → ℕ → List ℕ → ℕ → ℕ → List ℕ → ℕ → ℕ
+in_line n firsts backs weights boundary shift source c₀ a memory c = mixed n firsts backs weights boundary shift source (a + (c - c₀)) memory c
 
 -- the cells of four rows side by side, n of each; those of a row stand t after those of the row before
-unfoldable pub waveOf : ℕ → ℕ → ℕ → List ℕ
-waveOf a t zero = []
-waveOf a t (suc n) = waveOf a t n ++ ((a + n) ∷ (a + n + t) ∷ (a + n + t + t) ∷ (a + n + t + t + t) ∷ [])
+unfoldable pub wave_of : ℕ → ℕ → ℕ → List ℕ
+wave_of a t zero = []
+wave_of a t (suc n) = wave_of a t n ++ ((a + n) ∷ (a + n + t) ∷ (a + n + t + t) ∷ (a + n + t + t + t) ∷ [])
 
 -- the words of the cells from c on, `span` of them, can be made of n taps: each tap reads there, and no sum is too large
 pub record Fits (n : ℕ) (backs weights : List ℕ) (outside shift c span sources words : ℕ) : Type 0 where
@@ -68,31 +68,31 @@ pub record Rested (n : ℕ) (firsts backs weights : List ℕ) (boundary : ℕ) (
   pub is : outside ≡ sum (λ k. (get_or weights k 0 - pick (eqb (get_or firsts k 0) 1024) 0 (get_or weights k 0)) * boundary) n
 
 -- the same of taps one by one
-abbrev pub backsOf : List Tap → List ℕ
-backsOf [] = []
-backsOf (t ∷ ts) = t.back ∷ backsOf ts
+abbrev pub backs_of : List Tap → List ℕ
+backs_of [] = []
+backs_of (t ∷ ts) = t.back ∷ backs_of ts
 
-abbrev pub weightsOf : List Tap → List ℕ
-weightsOf [] = []
-weightsOf (t ∷ ts) = t.weight ∷ weightsOf ts
+abbrev pub weights_of : List Tap → List ℕ
+weights_of [] = []
+weights_of (t ∷ ts) = t.weight ∷ weights_of ts
 
 abbrev pub count_of : List Tap → ℕ
 count_of [] = 0
 count_of (t ∷ ts) = suc (count_of ts)
 
-abbrev pub madeBy : Rule → List Tap → List ℕ → List ℕ → ℕ → ℕ
-madeBy r ts source memory c = made (count_of ts) (backsOf ts) (weightsOf ts) r.outside r.shift source memory c
+abbrev pub made_by : Rule → List Tap → List ℕ → List ℕ → ℕ → ℕ
+made_by r ts source memory c = made (count_of ts) (backs_of ts) (weights_of ts) r.outside r.shift source memory c
 
 abbrev pub FitsBy : Rule → List Tap → ℕ → ℕ → List ℕ → List ℕ → Type 0
-FitsBy r ts c span source memory = Fits (count_of ts) (backsOf ts) (weightsOf ts) r.outside r.shift c span (length source) (length memory)
+FitsBy r ts c span source memory = Fits (count_of ts) (backs_of ts) (weights_of ts) r.outside r.shift c span (length source) (length memory)
 
 -- v is word c of a memory
 abbrev pub Word : List ℕ → ℕ → ℕ → Type 0
 Word memory c v = (v ≡ get_or memory c 0) × (v < 4294967296)
 
 -- the cells of a column of four rows side by side
-abbrev pub columnOf : ℕ → ℕ → List ℕ
-columnOf c t = c ∷ (c + t) ∷ (c + t + t) ∷ (c + t + t + t) ∷ []
+abbrev pub column_of : ℕ → ℕ → List ℕ
+column_of c t = c ∷ (c + t) ∷ (c + t + t) ∷ (c + t + t + t) ∷ []
 
 -- and their words
 pub record Stands (memory : List ℕ) (c t : ℕ) (k : Column) : Type 0 where

@@ -3,8 +3,8 @@
 // taps are summed without a loop, so that the words of a column wait for each other no longer than they must.
 ghost use Rattle.std.specs.Prelude.{◌≡◌, [], ◌∷◌, ◌+◌, ◌*◌, ◌-◌, ◌/◌, ◌%◌, ◌^◌, ◌≤◌, ◌<◌, length, get_or, set};
 ghost use Rattle.base.specs.Tests.{tabulate};
-ghost use Rattle.base.specs.Lists.{storeAll};
-ghost use Rattle.kernels.specs.Taps.{made, madeBy, waveOf, Fits, FitsBy, Word, columnOf, Stands};
+ghost use Rattle.base.specs.Lists.{store_all};
+ghost use Rattle.kernels.specs.Taps.{made, made_by, wave_of, Fits, FitsBy, Word, column_of, Stands};
 
 // How far back, and its weight.
 #[derive(Drop)]
@@ -50,7 +50,7 @@ pub fn closed(total: u64, shift: u64) -> u32
 fn store_one(source: &[u32], memory: &mut [u32], rule: Rule, p: Tap, c: usize)
     requires { FitsBy rule (p ∷ []) c 1 source.now memory.old }
     ensures { memory.new ≡ set memory.old c
-        (madeBy rule (p ∷ []) source.now memory.old c) }
+        (made_by rule (p ∷ []) source.now memory.old c) }
 {
     let t = rule.outside + word_of(source, c);
     let tp = with_tap(t, p, memory, c);
@@ -61,7 +61,7 @@ fn store_one(source: &[u32], memory: &mut [u32], rule: Rule, p: Tap, c: usize)
 fn store_after(source: &[u32], memory: &mut [u32], rule: Rule, p: Tap, v: u64, c: usize) -> u64
     requires { FitsBy rule (p ∷ []) c 1 source.now memory.old × Word memory.old (c - p.back) v }
     ensures { (memory.new ≡ set memory.old c
-        (madeBy rule (p ∷ []) source.now memory.old c)) × Word memory.new c result }
+        (made_by rule (p ∷ []) source.now memory.old c)) × Word memory.new c result }
 {
     let t = rule.outside + word_of(source, c);
     let word = closed(t + p.weight * v, rule.shift);
@@ -73,7 +73,7 @@ fn store_after(source: &[u32], memory: &mut [u32], rule: Rule, p: Tap, v: u64, c
 fn store_two(source: &[u32], memory: &mut [u32], rule: Rule, p: Tap, q: Tap, c: usize)
     requires { FitsBy rule (p ∷ q ∷ []) c 1 source.now memory.old }
     ensures { memory.new ≡ set memory.old c
-        (madeBy rule (p ∷ q ∷ []) source.now memory.old c) }
+        (made_by rule (p ∷ q ∷ []) source.now memory.old c) }
 {
     let t = rule.outside + word_of(source, c);
     let tp = with_tap(t, p, memory, c);
@@ -85,7 +85,7 @@ fn store_two(source: &[u32], memory: &mut [u32], rule: Rule, p: Tap, q: Tap, c: 
 fn store_three(source: &[u32], memory: &mut [u32], rule: Rule, p: Tap, q: Tap, r: Tap, c: usize)
     requires { FitsBy rule (p ∷ q ∷ r ∷ []) c 1 source.now memory.old }
     ensures { memory.new ≡ set memory.old c
-        (madeBy rule (p ∷ q ∷ r ∷ []) source.now memory.old c) }
+        (made_by rule (p ∷ q ∷ r ∷ []) source.now memory.old c) }
 {
     let t = rule.outside + word_of(source, c);
     let tp = with_tap(t, p, memory, c);
@@ -107,7 +107,7 @@ fn store_four(
 )
     requires { FitsBy rule (p ∷ q ∷ r ∷ s ∷ []) c 1 source.now memory.old }
     ensures { memory.new ≡ set memory.old c
-        (madeBy rule (p ∷ q ∷ r ∷ s ∷ []) source.now memory.old c) }
+        (made_by rule (p ∷ q ∷ r ∷ s ∷ []) source.now memory.old c) }
 {
     let t = rule.outside + word_of(source, c);
     let tp = with_tap(t, p, memory, c);
@@ -142,7 +142,7 @@ fn store_many(
 // The words of a row: `width` cells from one on.
 fn row_tap(source: &[u32], memory: &mut [u32], rule: Rule, p: Tap, cell: usize, width: usize)
     requires { FitsBy rule (p ∷ []) cell width source.now memory.old }
-    ensures { memory.new ≡ storeAll (madeBy rule (p ∷ []) source.now) memory.old
+    ensures { memory.new ≡ store_all (made_by rule (p ∷ []) source.now) memory.old
         (tabulate (λ y. cell + y) width) }
 {
     for y in 0..width {
@@ -153,7 +153,7 @@ fn row_tap(source: &[u32], memory: &mut [u32], rule: Rule, p: Tap, cell: usize, 
 // The same where mostly nothing is added besides: saying so lets the compiler leave the addition out.
 fn row_one(source: &[u32], memory: &mut [u32], rule: Rule, p: Tap, cell: usize, width: usize)
     requires { FitsBy rule (p ∷ []) cell width source.now memory.old }
-    ensures { memory.new ≡ storeAll (madeBy rule (p ∷ []) source.now) memory.old
+    ensures { memory.new ≡ store_all (made_by rule (p ∷ []) source.now) memory.old
         (tabulate (λ y. cell + y) width) }
 {
     if rule.outside == 0 {
@@ -177,7 +177,7 @@ fn row_two(
     width: usize,
 )
     requires { FitsBy rule (p ∷ q ∷ []) cell width source.now memory.old }
-    ensures { memory.new ≡ storeAll (madeBy rule (p ∷ q ∷ []) source.now) memory.old
+    ensures { memory.new ≡ store_all (made_by rule (p ∷ q ∷ []) source.now) memory.old
         (tabulate (λ y. cell + y) width) }
 {
     for y in 0..width {
@@ -196,7 +196,7 @@ fn row_three(
     width: usize,
 )
     requires { FitsBy rule (p ∷ q ∷ r ∷ []) cell width source.now memory.old }
-    ensures { memory.new ≡ storeAll (madeBy rule (p ∷ q ∷ r ∷ []) source.now) memory.old
+    ensures { memory.new ≡ store_all (made_by rule (p ∷ q ∷ r ∷ []) source.now) memory.old
         (tabulate (λ y. cell + y) width) }
 {
     for y in 0..width {
@@ -216,7 +216,7 @@ fn row_four(
     width: usize,
 )
     requires { FitsBy rule (p ∷ q ∷ r ∷ s ∷ []) cell width source.now memory.old }
-    ensures { memory.new ≡ storeAll (madeBy rule (p ∷ q ∷ r ∷ s ∷ []) source.now) memory.old
+    ensures { memory.new ≡ store_all (made_by rule (p ∷ q ∷ r ∷ s ∷ []) source.now) memory.old
         (tabulate (λ y. cell + y) width) }
 {
     for y in 0..width {
@@ -235,7 +235,7 @@ fn row_many(
     width: usize,
 )
     requires { Fits n backs.now weights.now rule.outside rule.shift cell width (length source.now) (length memory.old) }
-    ensures { memory.new ≡ storeAll (made n backs.now weights.now rule.outside rule.shift
+    ensures { memory.new ≡ store_all (made n backs.now weights.now rule.outside rule.shift
         source.now) memory.old (tabulate (λ y. cell + y) width) }
 {
     for y in 0..width {
@@ -254,7 +254,7 @@ fn wave_tap(
     width: usize,
 )
     requires { FitsBy rule (p ∷ []) a (3 * t + width) source.now memory.old }
-    ensures { memory.new ≡ storeAll (madeBy rule (p ∷ []) source.now) memory.old (waveOf a t width) }
+    ensures { memory.new ≡ store_all (made_by rule (p ∷ []) source.now) memory.old (wave_of a t width) }
 {
     for y in 0..width {
         let b = a + y + t;
@@ -302,7 +302,7 @@ fn store_column(
     t: usize,
 ) -> Column
     requires { FitsBy rule (p ∷ []) c (3 * t + 1) source.now memory.old × ((p.back ≡ 1) × ((2 ≤ t) × Stands memory.old (c - 1) t last)) }
-    ensures { (memory.new ≡ storeAll (madeBy rule (p ∷ []) source.now) memory.old (columnOf c t))
+    ensures { (memory.new ≡ store_all (made_by rule (p ∷ []) source.now) memory.old (column_of c t))
         × Stands memory.new c t result }
 {
     let b = c + t;
@@ -330,7 +330,7 @@ fn wave_after(
     width: usize,
 )
     requires { FitsBy rule (p ∷ []) a (3 * t + width) source.now memory.old × ((p.back ≡ 1) × (2 ≤ t)) }
-    ensures { memory.new ≡ storeAll (madeBy rule (p ∷ []) source.now) memory.old (waveOf a t width) }
+    ensures { memory.new ≡ store_all (made_by rule (p ∷ []) source.now) memory.old (wave_of a t width) }
 {
     let mut last = column_at(memory, a - 1, t);
     for y in 0..width {
@@ -348,7 +348,7 @@ fn wave_one(
     width: usize,
 )
     requires { FitsBy rule (p ∷ []) a (3 * t + width) source.now memory.old }
-    ensures { memory.new ≡ storeAll (madeBy rule (p ∷ []) source.now) memory.old (waveOf a t width) }
+    ensures { memory.new ≡ store_all (made_by rule (p ∷ []) source.now) memory.old (wave_of a t width) }
 {
     if p.back == 1 && 1 < t {
         wave_after(source, memory, rule, p, a, t, width);
@@ -368,8 +368,8 @@ fn wave_two(
     width: usize,
 )
     requires { FitsBy rule (p ∷ q ∷ []) a (3 * t + width) source.now memory.old }
-    ensures { memory.new ≡ storeAll (madeBy rule (p ∷ q ∷ []) source.now) memory.old
-        (waveOf a t width) }
+    ensures { memory.new ≡ store_all (made_by rule (p ∷ q ∷ []) source.now) memory.old
+        (wave_of a t width) }
 {
     for y in 0..width {
         let b = a + y + t;
@@ -394,8 +394,8 @@ fn wave_three(
     width: usize,
 )
     requires { FitsBy rule (p ∷ q ∷ r ∷ []) a (3 * t + width) source.now memory.old }
-    ensures { memory.new ≡ storeAll (madeBy rule (p ∷ q ∷ r ∷ []) source.now) memory.old
-        (waveOf a t width) }
+    ensures { memory.new ≡ store_all (made_by rule (p ∷ q ∷ r ∷ []) source.now) memory.old
+        (wave_of a t width) }
 {
     for y in 0..width {
         let b = a + y + t;
@@ -421,8 +421,8 @@ fn wave_four(
     width: usize,
 )
     requires { FitsBy rule (p ∷ q ∷ r ∷ s ∷ []) a (3 * t + width) source.now memory.old }
-    ensures { memory.new ≡ storeAll (madeBy rule (p ∷ q ∷ r ∷ s ∷ []) source.now) memory.old
-        (waveOf a t width) }
+    ensures { memory.new ≡ store_all (made_by rule (p ∷ q ∷ r ∷ s ∷ []) source.now) memory.old
+        (wave_of a t width) }
 {
     for y in 0..width {
         let b = a + y + t;
@@ -448,8 +448,8 @@ fn wave_many(
 )
     requires { Fits n backs.now weights.now rule.outside rule.shift a (3 * t + width) (length source.now)
         (length memory.old) }
-    ensures { memory.new ≡ storeAll (made n backs.now weights.now rule.outside rule.shift
-        source.now) memory.old (waveOf a t width) }
+    ensures { memory.new ≡ store_all (made n backs.now weights.now rule.outside rule.shift
+        source.now) memory.old (wave_of a t width) }
 {
     for y in 0..width {
         let b = a + y + t;
@@ -486,7 +486,7 @@ pub fn row(
     width: usize,
 )
     requires { Fits n backs.now weights.now rule.outside rule.shift cell width (length source.now) (length memory.old) }
-    ensures { memory.new ≡ storeAll (made n backs.now weights.now rule.outside rule.shift
+    ensures { memory.new ≡ store_all (made n backs.now weights.now rule.outside rule.shift
         source.now) memory.old (tabulate (λ y. cell + y) width) }
 {
     let p = tap_at(backs, weights, 0);
@@ -526,8 +526,8 @@ pub fn wave(
 )
     requires { Fits n backs.now weights.now 0 shift a (3 * t + width) (length source.now)
         (length memory.old) }
-    ensures { memory.new ≡ storeAll (made n backs.now weights.now 0 shift
-        source.now) memory.old (waveOf a t width) }
+    ensures { memory.new ≡ store_all (made n backs.now weights.now 0 shift
+        source.now) memory.old (wave_of a t width) }
 {
     let rule = Rule {
         outside: 0,

@@ -4,9 +4,9 @@
 use Rattle.std.specs.Prelude.{ℕ, ◌+◌, ◌*◌, ◌-◌, ◌/◌, ◌%◌, ◌≤◌, ◌<◌, ◌≡◌, List, get_or}
 use Rattle.base.specs.Tests.{product}
 use Rattle.nest.specs.declared.Nest.{Nest}
-use Rattle.nest.specs.Nest.{tileLength, cells, boxTiles}
-use Rattle.nest.specs.Places.{place, cellPlace, tilePlace}
-use Rattle.plan.specs.Box.{boxLength, boxSize}
+use Rattle.nest.specs.Nest.{tile_length, cells, box_tiles}
+use Rattle.nest.specs.Places.{place, cell_place, tile_place}
+use Rattle.plan.specs.Box.{box_length, box_size}
 use Rattle.layout.specs.declared.Cell.{Cell}
 use Rattle.layout.specs.declared.Bounds.{Bounds}
 use Rattle.layout.specs.declared.Share.{Share}
@@ -49,7 +49,7 @@ pub record Follows (N from : List ℕ) (left : ℕ) (at r : List ℕ) : Type 0 w
 -- a processor's share of the tiles along a dimension, as the report's DO loop has it, and its number over the dimensions before
 pub record Shared (across stride processor : ℕ) (r : Share) : Type 0 where
   pub first : r.first ≡ processor % stride
-  pub stride-is : r.stride ≡ stride
+  pub stride_is : r.stride ≡ stride
   pub tiles : r.tiles ≡ (across - 1 + stride - processor % stride) / stride
   pub rest : r.rest ≡ processor / stride
 
@@ -57,11 +57,11 @@ pub record Shared (across stride processor : ℕ) (r : Share) : Type 0 where
 pub record Located (x : Nest) (c : ℕ) (r : Cell) : Type 0 where
   pub low : c < cells x
   pub number : r.number ≡ c
-  pub place : Has r.place (cellPlace x c) x.dimensions
+  pub place : Has r.place (cell_place x c) x.dimensions
 
 -- the box of a tile's cells
 pub record Bounded (x : Nest) (b : Bounds) : Type 0 where
-  pub low : b.tile < boxTiles x
-  pub corner : Has b.corner (λ j. tilePlace x b.tile j * tileLength x j) x.dimensions
-  pub lengths : Has b.lengths (boxLength x b.tile) x.dimensions
-  pub size : b.size ≡ boxSize x b.tile
+  pub low : b.tile < box_tiles x
+  pub corner : Has b.corner (λ j. tile_place x b.tile j * tile_length x j) x.dimensions
+  pub lengths : Has b.lengths (box_length x b.tile) x.dimensions
+  pub size : b.size ≡ box_size x b.tile

@@ -5,24 +5,24 @@ use Rattle.std.specs.Prelude.{ℕ, suc, zero, ◌+◌, ◌%◌, ◌<◌, ◌≡�
 use Rattle.base.specs.Tests.{one}
 use Rattle.nest.specs.declared.Nest.{Nest}
 use Rattle.nest.specs.Accepted.{Accepted}
-use Rattle.nest.specs.Nest.{tileCount, cells, processors, boxTiles}
+use Rattle.nest.specs.Nest.{tile_count, cells, processors, box_tiles}
 use Rattle.plan.specs.declared.Route.{Route}
 use Rattle.plan.specs.declared.Route.TheVariants.{Direct, Indirect}
-use Rattle.plan.specs.Messages.{ahead, ways, slots, slotTile, slotTaker}
+use Rattle.plan.specs.Messages.{ahead, ways, slots, slot_tile, slot_taker}
 use Rattle.layout.specs.declared.Sizes.{Sizes}
 
 pub record Sized (x : Nest) (z : Sizes) : Type 0 where
   pub accepted : Accepted x
   pub cells : z.cells ≡ cells x
-  pub tiles : z.tiles ≡ boxTiles x
+  pub tiles : z.tiles ≡ box_tiles x
   pub processors : z.processors ≡ processors x
   pub ways : z.ways ≡ ways z.route x
-  pub across : (j : ℕ) → j < x.dimensions → get_or z.across j 0 ≡ tileCount x j
+  pub across : (j : ℕ) → j < x.dimensions → get_or z.across j 0 ≡ tile_count x j
 
 -- the tile at an end of a slot: 0 the sender, else the taker
 unfoldable pub end_at : Route → Nest → ℕ → ℕ → ℕ
-end_at r x zero s = slotTile r x s
-end_at r x (suc i) s = slotTaker r x s
+end_at r x zero s = slot_tile r x s
+end_at r x (suc i) s = slot_taker r x s
 
 -- how a way moves a tile's place: by a direction's components, or by one in a spread dimension
 unfoldable pub along : Route → Nest → ℕ → ℕ → ℕ
@@ -31,4 +31,4 @@ along Indirect x w j = one (eqb j w)
 
 -- how far that end is from the sender: it depends on the slot's way alone
 pub record Stepped (r : Route) (x : Nest) (side : ℕ) (steps : List ℕ) : Type 0 where
-  pub each : (s : ℕ) → s < slots r x → end_at r x side s ≡ slotTile r x s + get_or steps (s % ways r x) 0
+  pub each : (s : ℕ) → s < slots r x → end_at r x side s ≡ slot_tile r x s + get_or steps (s % ways r x) 0

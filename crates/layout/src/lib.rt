@@ -1,15 +1,15 @@
 // Cells and tiles in code: numbers and places, the tile of a cell, the processor of a tile, a tile's box, the ends of a slot.
 ghost use Rattle.std.specs.Prelude.{◌≡◌, ℕ, ◌+◌, ◌*◌, ◌-◌, ◌/◌, ◌%◌, ◌≤◌, ◌<◌, length, get_or, true};
 ghost use Rattle.base.specs.Tests.{pick, product};
-ghost use Rattle.machine.specs.Plan.{tilesOf};
+ghost use Rattle.machine.specs.Plan.{tiles_of};
 ghost use Rattle.nest.specs.Accepted.{Accepted};
-ghost use Rattle.nest.specs.Nest.{tileCount, tileLength, cells, processors, boxTiles};
-ghost use Rattle.nest.specs.Places.{rank, tileAt, boxTileOf, tilePlace};
-ghost use Rattle.plan.specs.Geometry.{processorOf};
-ghost use Rattle.plan.specs.Messages.{ways, slots, boxPlan};
-ghost use Rattle.plan.specs.Box.{boxCell};
+ghost use Rattle.nest.specs.Nest.{tile_count, tile_length, cells, processors, box_tiles};
+ghost use Rattle.nest.specs.Places.{rank, tile_at, box_tile_of, tile_place};
+ghost use Rattle.plan.specs.Geometry.{processor_of};
+ghost use Rattle.plan.specs.Messages.{ways, slots, box_plan};
+ghost use Rattle.plan.specs.Box.{box_cell};
 ghost use Rattle.layout.specs.Sizes.{Sized, along, end_at, Stepped};
-ghost use Rattle.layout.specs.RouteWords.{routeOf};
+ghost use Rattle.layout.specs.RouteWords.{route_of};
 ghost use Rattle.layout.specs.Places.{nth, Has, Countable, Ranked, Places, Placed, Shared, Located, Bounded};
 
 use base::least;
@@ -122,7 +122,7 @@ pub fn product(counts: [usize; 4], left: usize) -> usize
 // Tiles along each dimension: up to the one that holds the last cell.
 fn across_of(nest: Nest) -> [usize; 4]
     requires { Accepted nest }
-    ensures { Has result (tileCount nest) nest.dimensions }
+    ensures { Has result (tile_count nest) nest.dimensions }
 {
     let mut across = [0; 4];
     let n = nest.dimensions;
@@ -134,7 +134,7 @@ fn across_of(nest: Nest) -> [usize; 4]
 
 // The route that a word names: 0 direct, any other indirect.
 pub fn route_of(word: u32) -> Route
-    ensures { result ≡ routeOf word }
+    ensures { result ≡ route_of word }
 {
     if word == 0 {
         Route::Direct
@@ -190,7 +190,7 @@ pub fn cell_of(nest: Nest, cell: usize) -> Cell
 // Puts a tile's place into `at`.
 pub fn put_tile(nest: Nest, sizes: Sizes, tile: usize, at: &mut [usize; 4])
     requires { Sized nest sizes }
-    ensures { (length at.new ≡ 4) × Has at.new (tilePlace nest tile) nest.dimensions }
+    ensures { (length at.new ≡ 4) × Has at.new (tile_place nest tile) nest.dimensions }
 {
     let across = sizes.across;
     *at = [0; 4];
@@ -199,7 +199,7 @@ pub fn put_tile(nest: Nest, sizes: Sizes, tile: usize, at: &mut [usize; 4])
 
 pub fn place_of_tile(nest: Nest, sizes: Sizes, tile: usize) -> [usize; 4]
     requires { Sized nest sizes }
-    ensures { Has result (tilePlace nest tile) nest.dimensions }
+    ensures { Has result (tile_place nest tile) nest.dimensions }
 {
     let mut at = [0; 4];
     put_tile(nest, sizes, tile, &mut at);
@@ -209,7 +209,7 @@ pub fn place_of_tile(nest: Nest, sizes: Sizes, tile: usize) -> [usize; 4]
 // The tile's place of a cell's: the quotient in each dimension.
 fn quotients(nest: Nest, at: [usize; 4]) -> [usize; 4]
     requires { Accepted nest × ((j : ℕ) → j < nest.dimensions → get_or at j 0 < 1024) }
-    ensures { Has result (λ j. get_or at j 0 / tileLength nest j) nest.dimensions }
+    ensures { Has result (λ j. get_or at j 0 / tile_length nest j) nest.dimensions }
 {
     let mut tile = at;
     let n = nest.dimensions;
@@ -221,7 +221,7 @@ fn quotients(nest: Nest, at: [usize; 4]) -> [usize; 4]
 
 pub fn tile_of(nest: Nest, sizes: Sizes, cell: usize) -> usize
     requires { Sized nest sizes × (cell < cells nest) }
-    ensures { (result ≡ boxTileOf nest cell) × (result < boxTiles nest) }
+    ensures { (result ≡ box_tile_of nest cell) × (result < box_tiles nest) }
 {
     let c = cell_of(nest, cell);
     let at = c.place;
@@ -243,8 +243,8 @@ fn remainders(nest: Nest, at: &mut [usize; 4])
 }
 
 pub fn processor_of(nest: Nest, sizes: Sizes, tile: usize) -> usize
-    requires { Sized nest sizes × (tile < boxTiles nest) }
-    ensures { (result ≡ processorOf nest tile) × (result < processors nest) }
+    requires { Sized nest sizes × (tile < box_tiles nest) }
+    ensures { (result ≡ processor_of nest tile) × (result < processors nest) }
 {
     let mut at = [0; 4];
     put_tile(nest, sizes, tile, &mut at);
@@ -278,7 +278,7 @@ fn share_of(across: usize, count: usize, processor: usize, spread: bool) -> Shar
 // How many tiles a processor has: the product of its shares.
 pub fn tile_count(nest: Nest, sizes: Sizes, processor: usize) -> usize
     requires { Sized nest sizes }
-    ensures { (result ≡ length (tilesOf (boxPlan sizes.route nest) processor)) × (result ≤ 16384) }
+    ensures { (result ≡ length (tiles_of (box_plan sizes.route nest) processor)) × (result ≤ 16384) }
 {
     if processor >= sizes.processors {
         return 0;
@@ -301,8 +301,8 @@ pub fn tile_count(nest: Nest, sizes: Sizes, processor: usize) -> usize
 
 // Its tile after so many finished ones: in each dimension the place among its share, from the last dimension on.
 pub fn tile_at(nest: Nest, sizes: Sizes, processor: usize, finished: usize) -> usize
-    requires { Sized nest sizes × (finished < length (tilesOf (boxPlan sizes.route nest) processor)) }
-    ensures { (result ≡ get_or (tilesOf (boxPlan sizes.route nest) processor) finished 0) × (result < boxTiles nest) }
+    requires { Sized nest sizes × (finished < length (tiles_of (box_plan sizes.route nest) processor)) }
+    ensures { (result ≡ get_or (tiles_of (box_plan sizes.route nest) processor) finished 0) × (result < box_tiles nest) }
 {
     let counts = nest.counts;
     let across = sizes.across;
@@ -326,7 +326,7 @@ pub fn tile_at(nest: Nest, sizes: Sizes, processor: usize, finished: usize) -> u
 
 // The box of a tile's cells; an edge tile ends where the nest does.
 pub fn bounds_of(nest: Nest, sizes: Sizes, tile: usize) -> Bounds
-    requires { Sized nest sizes × (tile < boxTiles nest) }
+    requires { Sized nest sizes × (tile < box_tiles nest) }
     ensures { Bounded nest result × (result.tile ≡ tile) }
 {
     let ends = nest.lengths;
@@ -353,7 +353,7 @@ pub fn bounds_of(nest: Nest, sizes: Sizes, tile: usize) -> Bounds
 // The q-th cell of the box.
 pub fn cell_in(nest: Nest, bounds: Bounds, q: usize) -> Cell
     requires { Accepted nest × (Bounded nest bounds × (q < bounds.size)) }
-    ensures { Located nest (boxCell nest bounds.tile q) result }
+    ensures { Located nest (box_cell nest bounds.tile q) result }
 {
     let inner = bounds.lengths;
     let lengths = nest.lengths;
@@ -385,7 +385,7 @@ pub fn along_of(nest: Nest, sizes: Sizes, way: usize) -> [usize; 4]
 // How far the taker is from the sender along a way: the same from every tile.
 fn step_of(nest: Nest, sizes: Sizes, way: usize) -> usize
     requires { Sized nest sizes × (way < ways sizes.route nest) }
-    ensures { (result ≡ tileAt nest (along sizes.route nest way)) × (result ≤ 65536) }
+    ensures { (result ≡ tile_at nest (along sizes.route nest way)) × (result ≤ 65536) }
 {
     let at = along_of(nest, sizes, way);
     let across = sizes.across;

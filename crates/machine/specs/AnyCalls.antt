@@ -4,10 +4,10 @@
 use Rattle.std.specs.Prelude.{ℕ, ◌<◌, ◌≡◌, ◌⊎◌, Bool, true, List, [], ◌∷◌, ◌++◌, length, get_or}
 use Rattle.std.proofs.Common.{inl, inr}
 use Rattle.base.specs.Tests.{pick}
-use Rattle.machine.specs.Plan.{Plan, count, takerOf, heldBy}
+use Rattle.machine.specs.Plan.{Plan, count, taker_of, held_by}
 use Rattle.machine.specs.Machine.{State, Answered, Action, gather, send}
-use Rattle.machine.specs.Runs.{Event, turn_of, stateAfter, answersTo, total, program, turnsOf, stepsIn, Once, Collects, CarriedOut}
-use Rattle.machine.specs.Words.{word_at, mailAt, cell_of, Does}
+use Rattle.machine.specs.Runs.{Event, turn_of, state_after, answers_to, total, program, turns_of, steps_in, Once, Collects, CarriedOut}
+use Rattle.machine.specs.Words.{word_at, mail_at, cell_of, Does}
 use Rattle.machine.specs.StatusTells.{StatusTells}
 
 -- ---- what the machine sees of a call. S: all that the calls are lent. X: the calls
@@ -17,14 +17,14 @@ pub record View (S X : Type 0) : Type 0 where
   pub event : X → Event  -- the call without what the machine does not read, as its hours
 
 -- the events that are ours among the calls, and the numbers that they got
-unfoldable pub eventsIn : {S X : Type 0} → View S X → List X → List Event
-eventsIn v [] = []
-eventsIn v (x ∷ xs) = pick (v.ours x) (v.event x ∷ eventsIn v xs) (eventsIn v xs)
+unfoldable pub events_in : {S X : Type 0} → View S X → List X → List Event
+events_in v [] = []
+events_in v (x ∷ xs) = pick (v.ours x) (v.event x ∷ events_in v xs) (events_in v xs)
 
-unfoldable pub numbersIn : {S X : Type 0} → View S X → List X → List ℕ → List ℕ
-numbersIn v [] ns = []
-numbersIn v (x ∷ xs) [] = []
-numbersIn v (x ∷ xs) (n ∷ ns) = pick (v.ours x) (n ∷ numbersIn v xs ns) (numbersIn v xs ns)
+unfoldable pub numbers_in : {S X : Type 0} → View S X → List X → List ℕ → List ℕ
+numbers_in v [] ns = []
+numbers_in v (x ∷ xs) [] = []
+numbers_in v (x ∷ xs) (n ∷ ns) = pick (v.ours x) (n ∷ numbers_in v xs ns) (numbers_in v xs ns)
 
 -- all calls are ours
 abbrev pub whole : {X : Type 0} → (X → Event) → View State X
@@ -42,28 +42,28 @@ either f g (inr y) = g y
 -- ---- the claims, about calls from `start`, by the answers that `acts` gives
 
 module _ {S X : Type 0} (v : View S X) (acts : S → X → Answered S) (start : S) where
-  abbrev pub numbersOf : List X → List ℕ
-  numbersOf calls = numbersIn v calls (answersTo acts start calls)
+  abbrev pub numbers_of : List X → List ℕ
+  numbers_of calls = numbers_in v calls (answers_to acts start calls)
 
   -- a step is a call of ours that gave 0
   abbrev pub steps_of : List X → ℕ
-  steps_of calls = stepsIn (numbersOf calls)
+  steps_of calls = steps_in (numbers_of calls)
 
   abbrev pub ownAfter : List X → State
-  ownAfter calls = v.own (stateAfter acts start calls)
+  ownAfter calls = v.own (state_after acts start calls)
 
   -- and the areas after one call more
   abbrev pub ownThen : List X → X → State
-  ownThen calls x = v.own (acts (stateAfter acts start calls) x).after
+  ownThen calls x = v.own (acts (state_after acts start calls) x).after
 
   abbrev pub turnsIn : List X → ℕ → ℕ
-  turnsIn calls b = turnsOf b (eventsIn v calls) (numbersOf calls)
+  turnsIn calls b = turns_of b (events_in v calls) (numbers_of calls)
 
   -- after the calls `before`, x is a turn of processor b for these areas and gives 0
   pub record TurnIn (before : List X) (x : X) (b : ℕ) : Type 0 where
     pub ours : v.ours x ≡ true
     pub turn : v.event x ≡ turn_of b
-    pub gave : (acts (stateAfter acts start before) x).number ≡ 0
+    pub gave : (acts (state_after acts start before) x).number ≡ 0
 
   -- and the action is the one that b's program names next
   pub record DidIn (p : Plan) (before : List X) (x : X) (b : ℕ) (a : Action) : Type 0 where
@@ -72,18 +72,18 @@ module _ {S X : Type 0} (v : View S X) (acts : S → X → Answered S) (start : 
 
   -- demand 3, but for progress, which is a matter of what else the calls refuse
   pub record Demand3In (p : Plan) (source : List ℕ) (collects : S → List ℕ → Answered (List ℕ)) (calls : List X) : Type 0 where
-    pub once : Once p (eventsIn v calls) (numbersOf calls)
-    pub then-fewer : (x : X) → v.ours x ≡ true → (acts (stateAfter acts start calls) x).number ≡ 0 → steps_of calls < total p
-    pub collecting : Collects p source (steps_of calls ≡ total p) (collects (stateAfter acts start calls))
-    pub carried-out : (before after : List X) (x : X) (b : ℕ) → calls ≡ before ++ (x ∷ after) → TurnIn before x b
+    pub once : Once p (events_in v calls) (numbers_of calls)
+    pub then_fewer : (x : X) → v.ours x ≡ true → (acts (state_after acts start calls) x).number ≡ 0 → steps_of calls < total p
+    pub collecting : Collects p source (steps_of calls ≡ total p) (collects (state_after acts start calls))
+    pub carried_out : (before after : List X) (x : X) (b : ℕ) → calls ≡ before ++ (x ∷ after) → TurnIn before x b
         → CarriedOut p source (ownAfter before) (ownThen before x) b (turnsIn before b)
 
   -- processor b sends message m by the call x after the calls `before`; whatever calls come then. Field by field as in Words
   pub record PostedIn (p : Plan) (before : List X) (x : X) (b m : ℕ) : Type 0 where
-    pub stays : (then : List X) (q : ℕ) → q < length (heldBy p m)
-        → mailAt p (ownAfter (before ++ (x ∷ then))) m q ≡ word_at p (ownAfter before) b (cell_of p m q)
-    pub arrives : (then : List X) (y : X) (c q : ℕ) → q < length (heldBy p m)
-        → DidIn p (before ++ (x ∷ then)) y c (gather (takerOf p m))
+    pub stays : (then : List X) (q : ℕ) → q < length (held_by p m)
+        → mail_at p (ownAfter (before ++ (x ∷ then))) m q ≡ word_at p (ownAfter before) b (cell_of p m q)
+    pub arrives : (then : List X) (y : X) (c q : ℕ) → q < length (held_by p m)
+        → DidIn p (before ++ (x ∷ then)) y c (gather (taker_of p m))
         → word_at p (ownThen (before ++ (x ∷ then)) y) c (cell_of p m q) ≡ word_at p (ownAfter before) b (cell_of p m q)
 
   -- demand 2's words, and the marks
@@ -91,12 +91,12 @@ module _ {S X : Type 0} (v : View S X) (acts : S → X → Answered S) (start : 
     -- each turn that gives 0 writes and leaves what its action does
     pub does : (before : List X) (x : X) (b : ℕ) (a : Action) → DidIn p before x b a → Does p source (ownAfter before) (ownThen before x) b a
     pub posted : (before : List X) (x : X) (b m : ℕ) → DidIn p before x b (send m) → PostedIn p before x b m
-    pub marks : (calls : List X) → StatusTells p (ownAfter calls) (eventsIn v calls) (numbersOf calls)
+    pub marks : (calls : List X) → StatusTells p (ownAfter calls) (events_in v calls) (numbers_of calls)
 
 -- two runs, of whatever calls, that agree on their events and the numbers they got leave the same words in these areas: a tenant's own, whatever the other
 -- tenant did; and those of one tenant alone
 pub record Alone {S X S' X' : Type 0} (v : View S X) (acts : S → X → Answered S) (start : S) (v' : View S' X') (acts' : S' → X' → Answered S') (start' : S')
     : Type 0 where
-  pub same-words : (calls : List X) (calls' : List X') → eventsIn v calls ≡ eventsIn v' calls'
-      → numbersOf v acts start calls ≡ numbersOf v' acts' start' calls'
+  pub same_words : (calls : List X) (calls' : List X') → events_in v calls ≡ events_in v' calls'
+      → numbers_of v acts start calls ≡ numbers_of v' acts' start' calls'
       → ownAfter v acts start calls ≡ ownAfter v' acts' start' calls'

@@ -8,104 +8,104 @@ use native.Mathlib.Omega.{arith}
 use lib.ListN.{length}
 use borrow.Author.Tests.{eq-eqb}
 use Rattle.base.specs.Tests.{every, some, keep, tabulate, product}
-use Rattle.base.proofs.Tests.{and-true, some_one, length-tabulate}
-pub use Rattle.base.proofs.Tests.{every-same}
-use Rattle.base.proofs.Select.{keep-hit, keep-few}
+use Rattle.base.proofs.Tests.{and_true, some_one, length_tabulate}
+pub use Rattle.base.proofs.Tests.{every_same}
+use Rattle.base.proofs.Select.{keep_hit, keep_few}
 use Rattle.nest.specs.declared.Nest.{Nest}
-use Rattle.nest.specs.Nest.{length_of, tileLength, tileCount, cells, boxTiles}
-use Rattle.nest.specs.Places.{rank, place, cell_at, cellPlace, tileAt, tilePlace, boxTileOf}
-use Rattle.nest.specs.Shape.{inShape, exists, existing, tiles}
+use Rattle.nest.specs.Nest.{length_of, tile_length, tile_count, cells, box_tiles}
+use Rattle.nest.specs.Places.{rank, place, cell_at, cell_place, tile_at, tile_place, box_tile_of}
+use Rattle.nest.specs.Shape.{in_shape, exists, existing, tiles}
 use Rattle.nest.specs.Spans.{Tiled, holds}
-use Rattle.nest.proofs.Rank.{Within, Positive, place-low, rank-low, rank_same, place-rank, rank-place, div-le}
+use Rattle.nest.proofs.Rank.{Within, Positive, place_low, rank_low, rank_same, place_rank, rank_place, div_le}
 
-pub all-kept : (f : ℕ → Bool) (n : ℕ) → ((u : ℕ) → u < n → f u ≡ true) → keep f n ≡ tabulate (λ u. u) n
+pub all_kept : (f : ℕ → Bool) (n : ℕ) → ((u : ℕ) → u < n → f u ≡ true) → keep f n ≡ tabulate (λ u. u) n
 unfolding keep tabulate
-all-kept f zero h = refl
-all-kept f (suc n) h = keep-hit f n (h n (omega arith)) ∙ ap (λ (l : List ℕ). l ++ (n ∷ [])) (all-kept f n (λ u k. h u (omega arith)))
+all_kept f zero h = refl
+all_kept f (suc n) h = keep_hit f n (h n (omega arith)) ∙ ap (λ (l : List ℕ). l ++ (n ∷ [])) (all_kept f n (λ u k. h u (omega arith)))
 
-pub product-least : (f : ℕ → ℕ) (n : ℕ) → Positive f n → 1 ≤ product f n
+pub product_least : (f : ℕ → ℕ) (n : ℕ) → Positive f n → 1 ≤ product f n
 unfolding product
-product-least f zero h = omega arith
-product-least f (suc n) h = omega (arith, mul-le-mul {n₁ = 1} {m₁ = 1} (product-least f n (λ j l. h j (omega arith))) (h n (omega arith)))
+product_least f zero h = omega arith
+product_least f (suc n) h = omega (arith, mul-le-mul {n₁ = 1} {m₁ = 1} (product_least f n (λ j l. h j (omega arith))) (h n (omega arith)))
 
-pub product-most : (f g : ℕ → ℕ) (n : ℕ) → ((j : ℕ) → j < n → f j ≤ g j) → product f n ≤ product g n
+pub product_most : (f g : ℕ → ℕ) (n : ℕ) → ((j : ℕ) → j < n → f j ≤ g j) → product f n ≤ product g n
 unfolding product
-product-most f g zero h = omega arith
-product-most f g (suc n) h = mul-le-mul (product-most f g n (λ j l. h j (omega arith))) (h n (omega arith))
+product_most f g zero h = omega arith
+product_most f g (suc n) h = mul-le-mul (product_most f g n (λ j l. h j (omega arith))) (h n (omega arith))
 
 module _ (x : Nest) (long : Positive (length_of x) x.dimensions) where
-  pub cells-least : 1 ≤ cells x
+  pub cells_least : 1 ≤ cells x
   unfolding cells
-  cells-least = product-least (length_of x) x.dimensions long
+  cells_least = product_least (length_of x) x.dimensions long
 
-  pub unbounded-in : x.bounds ≡ 0 → (c : ℕ) → inShape x c ≡ true
-  unfolding inShape every
-  unbounded-in z c = rw z
+  pub unbounded_in : x.bounds ≡ 0 → (c : ℕ) → in_shape x c ≡ true
+  unfolding in_shape every
+  unbounded_in z c = rw z
 
-  pub unbounded-some : x.bounds ≡ 0 → some (inShape x) (cells x) ≡ true
-  unbounded-some z = some_one (inShape x) (cells x) 0 cells-least (unbounded-in z 0)
+  pub unbounded_some : x.bounds ≡ 0 → some (in_shape x) (cells x) ≡ true
+  unbounded_some z = some_one (in_shape x) (cells x) 0 cells_least (unbounded_in z 0)
 
   module _ (tiled : Tiled x) where
-    pub counts-least : Positive (tileCount x) x.dimensions
-    unfolding tileCount
-    counts-least j h = omega arith
+    pub counts_least : Positive (tile_count x) x.dimensions
+    unfolding tile_count
+    counts_least j h = omega arith
 
-    pub quotients-low : (i : ℕ → ℕ) → Within (length_of x) i x.dimensions → Within (tileCount x) (λ j. i j / tileLength x j) x.dimensions
-    unfolding tileCount
-    quotients-low i w j h = omega (arith, div-le (tileLength x j) (i j) (length_of x j - 1) (tiled j h) (omega (arith, w j h)))
+    pub quotients_low : (i : ℕ → ℕ) → Within (length_of x) i x.dimensions → Within (tile_count x) (λ j. i j / tile_length x j) x.dimensions
+    unfolding tile_count
+    quotients_low i w j h = omega (arith, div_le (tile_length x j) (i j) (length_of x j - 1) (tiled j h) (omega (arith, w j h)))
 
-    places-low : (c : ℕ) → Within (length_of x) (cellPlace x c) x.dimensions
-    unfolding cellPlace
-    places-low c = place-low (length_of x) x.dimensions c long
+    places_low : (c : ℕ) → Within (length_of x) (cell_place x c) x.dimensions
+    unfolding cell_place
+    places_low c = place_low (length_of x) x.dimensions c long
 
-    pub boxTileOf-low : (c : ℕ) → boxTileOf x c < boxTiles x
-    unfolding boxTileOf tileAt boxTiles
-    boxTileOf-low c = rank-low (tileCount x) (λ j. cellPlace x c j / tileLength x j) x.dimensions (quotients-low (cellPlace x c) (places-low c))
+    pub box_tile_of_low : (c : ℕ) → box_tile_of x c < box_tiles x
+    unfolding box_tile_of tile_at box_tiles
+    box_tile_of_low c = rank_low (tile_count x) (λ j. cell_place x c j / tile_length x j) x.dimensions (quotients_low (cell_place x c) (places_low c))
 
     -- the first cell of tile u
     abbrev corner : ℕ → ℕ → ℕ
-    corner u j = tilePlace x u j * tileLength x j
+    corner u j = tile_place x u j * tile_length x j
 
-    tilePlaces-low : (u : ℕ) → Within (tileCount x) (tilePlace x u) x.dimensions
-    unfolding tilePlace
-    tilePlaces-low u = place-low (tileCount x) x.dimensions u counts-least
+    tile_places_low : (u : ℕ) → Within (tile_count x) (tile_place x u) x.dimensions
+    unfolding tile_place
+    tile_places_low u = place_low (tile_count x) x.dimensions u counts_least
 
-    corner-low : (u : ℕ) → Within (length_of x) (corner u) x.dimensions
-    unfolding tileCount
-    corner-low u j h =
-        let t : tilePlace x u j ≤ (length_of x j - 1) / tileLength x j = let k = tilePlaces-low u j h in omega arith in
-        omega (arith, mul-le-mul_right (tileLength x j) t, div-mul-le_self (length_of x j - 1) (tileLength x j), long j h)
+    corner_low : (u : ℕ) → Within (length_of x) (corner u) x.dimensions
+    unfolding tile_count
+    corner_low u j h =
+        let t : tile_place x u j ≤ (length_of x j - 1) / tile_length x j = let k = tile_places_low u j h in omega arith in
+        omega (arith, mul-le-mul_right (tile_length x j) t, div-mul-le_self (length_of x j - 1) (tile_length x j), long j h)
 
-    pub corner-tile : (u : ℕ) → u < boxTiles x → (cell_at x (corner u) < cells x) × (boxTileOf x (cell_at x (corner u)) ≡ u)
-    unfolding boxTileOf tileAt boxTiles cell_at cellPlace cells tilePlace
-    corner-tile u l = (
-      rank-low (length_of x) (corner u) x.dimensions (corner-low u),
-      rank_same (tileCount x) (λ j. place (length_of x) x.dimensions (rank (length_of x) (corner u) x.dimensions) j / tileLength x j)
-          (place (tileCount x) x.dimensions u) x.dimensions
-          (λ j h. ap (λ (a : ℕ). a / tileLength x j) (place-rank (length_of x) (corner u) x.dimensions (corner-low u) j h) ∙ mul-div_cancel
-          (place (tileCount x) x.dimensions u j) (tiled j h))
-          ∙ rank-place (tileCount x) x.dimensions u counts-least l,
+    pub corner_tile : (u : ℕ) → u < box_tiles x → (cell_at x (corner u) < cells x) × (box_tile_of x (cell_at x (corner u)) ≡ u)
+    unfolding box_tile_of tile_at box_tiles cell_at cell_place cells tile_place
+    corner_tile u l = (
+      rank_low (length_of x) (corner u) x.dimensions (corner_low u),
+      rank_same (tile_count x) (λ j. place (length_of x) x.dimensions (rank (length_of x) (corner u) x.dimensions) j / tile_length x j)
+          (place (tile_count x) x.dimensions u) x.dimensions
+          (λ j h. ap (λ (a : ℕ). a / tile_length x j) (place_rank (length_of x) (corner u) x.dimensions (corner_low u) j h) ∙ mul-div_cancel
+          (place (tile_count x) x.dimensions u j) (tiled j h))
+          ∙ rank_place (tile_count x) x.dimensions u counts_least l,
     )
 
     -- without bounds every tile of the box holds a cell
-    pub unbounded-exists : x.bounds ≡ 0 → (u : ℕ) → u < boxTiles x → exists x u ≡ true
+    pub unbounded_exists : x.bounds ≡ 0 → (u : ℕ) → u < box_tiles x → exists x u ≡ true
     unfolding exists
-    unbounded-exists z u l =
-        let k = corner-tile u l in
-        some_one (holds x u) (cells x) (cell_at x (corner u)) k.0 (and-true (unbounded-in z (cell_at x (corner u))) (eq-eqb _ u k.1))
+    unbounded_exists z u l =
+        let k = corner_tile u l in
+        some_one (holds x u) (cells x) (cell_at x (corner u)) k.0 (and_true (unbounded_in z (cell_at x (corner u))) (eq-eqb _ u k.1))
 
-    pub unbounded-existing : x.bounds ≡ 0 → existing x ≡ tabulate (λ u. u) (boxTiles x)
+    pub unbounded_existing : x.bounds ≡ 0 → existing x ≡ tabulate (λ u. u) (box_tiles x)
     unfolding existing
-    unbounded-existing z = all-kept (exists x) (boxTiles x) (unbounded-exists z)
+    unbounded_existing z = all_kept (exists x) (box_tiles x) (unbounded_exists z)
 
-    pub unbounded-tiles : x.bounds ≡ 0 → tiles x ≡ boxTiles x
+    pub unbounded_tiles : x.bounds ≡ 0 → tiles x ≡ box_tiles x
     unfolding tiles
-    unbounded-tiles z = ap length (unbounded-existing z) ∙ length-tabulate (λ u. u) (boxTiles x)
+    unbounded_tiles z = ap length (unbounded_existing z) ∙ length_tabulate (λ u. u) (box_tiles x)
 
-    pub box-few : boxTiles x ≤ cells x
-    unfolding boxTiles cells tileCount
-    box-few = product-most (tileCount x) (length_of x) x.dimensions (λ j h. omega (arith, div-le_self (length_of x j - 1) (tileLength x j), long j h))
+    pub box_few : box_tiles x ≤ cells x
+    unfolding box_tiles cells tile_count
+    box_few = product_most (tile_count x) (length_of x) x.dimensions (λ j h. omega (arith, div-le_self (length_of x j - 1) (tile_length x j), long j h))
 
-pub tiles-few : (x : Nest) → tiles x ≤ boxTiles x
+pub tiles_few : (x : Nest) → tiles x ≤ box_tiles x
 unfolding tiles existing
-tiles-few x = keep-few (exists x) (boxTiles x)
+tiles_few x = keep_few (exists x) (box_tiles x)

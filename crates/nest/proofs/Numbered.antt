@@ -4,10 +4,10 @@ use mathlib.Core.Logic.{◌≢◌}
 use mathlib.Core.List.{List}
 use native.Mathlib.Omega.{arith}
 use Rattle.base.proofs.Numbers.{Numbered}
-use Rattle.nest.specs.Reader.{nestLines, readLines}
+use Rattle.nest.specs.Reader.{nest_lines, read_lines}
 
-pub numbered : (bytes : List ℕ) → Numbered (readLines bytes)
-unfolding readLines nestLines
+pub numbered : (bytes : List ℕ) → Numbered (read_lines bytes)
+unfolding read_lines nest_lines
 numbered bytes = (ne, (ne, (ne, (ne, (ne, (ne, (ne, (ne, (ne, (ne, (ne, (ne, tt))))))))))))
   where
     ne : {n : ℕ} → suc n ≢ 0

@@ -9,80 +9,80 @@ use lib.Dec.{eqb, leb}
 use borrow.Author.Tests.{eqb-true, leb-true, leb-false}
 use Rattle.base.specs.Tests.{not, pick, some}
 use Rattle.base.specs.Numbers.{Line, line, first_of}
-use Rattle.base.proofs.Tests.{not-true, pick_true, pick-false}
-use Rattle.base.proofs.Numbers.{first-true, first-false}
+use Rattle.base.proofs.Tests.{not-true, pick_true, pick_false}
+use Rattle.base.proofs.Numbers.{first_true, first_false}
 use Rattle.nest.specs.declared.Nest.{Nest}
-use Rattle.nest.specs.Nest.{boxTiles}
-use Rattle.nest.specs.Reader.{needlesslyWide, nestOf, ragged, strayRecord, badLength, tooLarge, noCell, badDistance, badTile, badSpread, lastSpread}
-use Rattle.nest.specs.Reader.{badProcessors, tooManyTiles, nestLines, readLines}
-use Rattle.nest.proofs.Boxes.{unbounded-some}
-use Rattle.nest.proofs.Shapes.{few-in-box, many-in-box}
-use Rattle.nest.proofs.Facts.{length-in, tile-in}
+use Rattle.nest.specs.Nest.{box_tiles}
+use Rattle.nest.specs.Reader.{needlessly_wide, nest_of, ragged, stray_record, bad_length, too_large, no_cell, bad_distance, bad_tile, bad_spread, last_spread}
+use Rattle.nest.specs.Reader.{bad_processors, too_many_tiles, nest_lines, read_lines}
+use Rattle.nest.proofs.Boxes.{unbounded_some}
+use Rattle.nest.proofs.Shapes.{few_in_box, many_in_box}
+use Rattle.nest.proofs.Facts.{length_in, tile_in}
 
-abbrev pub quickCell : Nest → Bool
-quickCell x = pick (eqb x.bounds 0) false (noCell x)
+abbrev pub quick_cell : Nest → Bool
+quick_cell x = pick (eqb x.bounds 0) false (no_cell x)
 
-abbrev pub quickTiles : Nest → Bool
-quickTiles x = pick (leb (boxTiles x) 1024) false (pick (eqb x.bounds 0) true (tooManyTiles x))
+abbrev pub quick_tiles : Nest → Bool
+quick_tiles x = pick (leb (box_tiles x) 1024) false (pick (eqb x.bounds 0) true (too_many_tiles x))
 
-abbrev pub quickLines : Bool → Nest → List Line
-quickLines needless x =
-    line 3 (badLength x) ∷ line 4 (tooLarge x) ∷ line 18 needless ∷ line 20 (quickCell x) ∷ line 5 (badDistance x)
-    ∷ line 6 (badTile x) ∷ line 16 (badSpread x) ∷ line 17 (lastSpread x) ∷ line 7 (badProcessors x) ∷ line 8 (quickTiles x) ∷ []
+abbrev pub quick_lines : Bool → Nest → List Line
+quick_lines needless x =
+    line 3 (bad_length x) ∷ line 4 (too_large x) ∷ line 18 needless ∷ line 20 (quick_cell x) ∷ line 5 (bad_distance x)
+    ∷ line 6 (bad_tile x) ∷ line 16 (bad_spread x) ∷ line 17 (last_spread x) ∷ line 7 (bad_processors x) ∷ line 8 (quick_tiles x) ∷ []
 
-abbrev pub quickNumber : List ℕ → ℕ
-quickNumber bytes = first_of (line 1 (ragged bytes) ∷ line 2 (strayRecord bytes) ∷ quickLines (needlesslyWide bytes) (nestOf bytes))
+abbrev pub quick_number : List ℕ → ℕ
+quick_number bytes = first_of (line 1 (ragged bytes) ∷ line 2 (stray_record bytes) ∷ quick_lines (needlessly_wide bytes) (nest_of bytes))
 
 -- the lines behind one count only where that one is false
 behind : (n : ℕ) (t : Bool) (ls ms : List Line) → (t ≡ false → first_of ls ≡ first_of ms) → first_of (line n t ∷ ls) ≡ first_of (line n t ∷ ms)
-behind n true ls ms h = first-true n true ls refl ∙ sym (first-true n true ms refl)
-behind n false ls ms h = first-false n false ls refl ∙ (h refl ∙ sym (first-false n false ms refl))
+behind n true ls ms h = first_true n true ls refl ∙ sym (first_true n true ms refl)
+behind n false ls ms h = first_false n false ls refl ∙ (h refl ∙ sym (first_false n false ms refl))
 
-module _ (x : Nest) (h3 : badLength x ≡ false) where
-  cell_same : noCell x ≡ quickCell x
-  unfolding noCell
+module _ (x : Nest) (h3 : bad_length x ≡ false) where
+  cell_same : no_cell x ≡ quick_cell x
+  unfolding no_cell
   cell_same = go (eqb x.bounds 0) refl
     where
-      go : (t : Bool) → eqb x.bounds 0 ≡ t → noCell x ≡ quickCell x
-      go true e = not-true (unbounded-some x (λ j l. (length-in x h3 j l).0) (eqb-true x.bounds 0 e)) ∙ sym (pick_true (eqb x.bounds 0) false (noCell x) e)
-      go false e = sym (pick-false (eqb x.bounds 0) false (noCell x) e)
+      go : (t : Bool) → eqb x.bounds 0 ≡ t → no_cell x ≡ quick_cell x
+      go true e = not-true (unbounded_some x (λ j l. (length_in x h3 j l).0) (eqb-true x.bounds 0 e)) ∙ sym (pick_true (eqb x.bounds 0) false (no_cell x) e)
+      go false e = sym (pick_false (eqb x.bounds 0) false (no_cell x) e)
 
-  tiles-same : badTile x ≡ false → tooManyTiles x ≡ quickTiles x
-  tiles-same h6 = go (leb (boxTiles x) 1024) refl (eqb x.bounds 0) refl
+  tiles_same : bad_tile x ≡ false → too_many_tiles x ≡ quick_tiles x
+  tiles_same h6 = go (leb (box_tiles x) 1024) refl (eqb x.bounds 0) refl
     where
       rest : Bool
-      rest = pick (eqb x.bounds 0) true (tooManyTiles x)
+      rest = pick (eqb x.bounds 0) true (too_many_tiles x)
 
-      go : (s : Bool) → leb (boxTiles x) 1024 ≡ s → (t : Bool) → eqb x.bounds 0 ≡ t → tooManyTiles x ≡ quickTiles x
-      go true e t f = few-in-box x (boxTiles x) refl (leb-true (boxTiles x) 1024 e) ∙ sym (pick_true (leb (boxTiles x) 1024) false _ e)
+      go : (s : Bool) → leb (box_tiles x) 1024 ≡ s → (t : Bool) → eqb x.bounds 0 ≡ t → too_many_tiles x ≡ quick_tiles x
+      go true e t f = few_in_box x (box_tiles x) refl (leb-true (box_tiles x) 1024 e) ∙ sym (pick_true (leb (box_tiles x) 1024) false _ e)
       go false e true f =
-          many-in-box x (λ j l. (length-in x h3 j l).0) (λ j l. (tile-in x h6 j l).0) (boxTiles x) refl (leb-false (boxTiles x) 1024 e) (eqb-true x.bounds 0 f)
-          ∙ sym (pick-false (leb (boxTiles x) 1024) false _ e ∙ pick_true (eqb x.bounds 0) true (tooManyTiles x) f)
-      go false e false f = sym (pick-false (leb (boxTiles x) 1024) false _ e ∙ pick-false (eqb x.bounds 0) true (tooManyTiles x) f)
+          many_in_box x (λ j l. (length_in x h3 j l).0) (λ j l. (tile_in x h6 j l).0) (box_tiles x) refl (leb-false (box_tiles x) 1024 e) (eqb-true x.bounds 0 f)
+          ∙ sym (pick_false (leb (box_tiles x) 1024) false _ e ∙ pick_true (eqb x.bounds 0) true (too_many_tiles x) f)
+      go false e false f = sym (pick_false (leb (box_tiles x) 1024) false _ e ∙ pick_false (eqb x.bounds 0) true (too_many_tiles x) f)
 
-quick-nest : (needless : Bool) (x : Nest) → first_of (nestLines needless x) ≡ first_of (quickLines needless x)
-unfolding nestLines
-quick-nest needless x =
-    behind 3 (badLength x) _ _ (λ h3.
-    behind 4 (tooLarge x) _ _ (λ h4.
+quick_nest : (needless : Bool) (x : Nest) → first_of (nest_lines needless x) ≡ first_of (quick_lines needless x)
+unfolding nest_lines
+quick_nest needless x =
+    behind 3 (bad_length x) _ _ (λ h3.
+    behind 4 (too_large x) _ _ (λ h4.
     behind 18 needless _ _ (λ h18.
-    ap (λ (t : Bool). first_of (line 20 t ∷ line 5 (badDistance x) ∷ line 6 (badTile x) ∷ line 16 (badSpread x) ∷ line 17 (lastSpread x)
-    ∷ line 7 (badProcessors x) ∷ line 8 (tooManyTiles x) ∷ [])) (cell_same x h3)
-    ∙ behind 20 (quickCell x) _ _ (λ h20.
-    behind 5 (badDistance x) _ _ (λ h5.
-    behind 6 (badTile x) _ _ (λ h6.
-    ap (λ (t : Bool). first_of (line 16 (badSpread x) ∷ line 17 (lastSpread x) ∷ line 7 (badProcessors x) ∷ line 8 t ∷ [])) (tiles-same x h3 h6)))))))
+    ap (λ (t : Bool). first_of (line 20 t ∷ line 5 (bad_distance x) ∷ line 6 (bad_tile x) ∷ line 16 (bad_spread x) ∷ line 17 (last_spread x)
+    ∷ line 7 (bad_processors x) ∷ line 8 (too_many_tiles x) ∷ [])) (cell_same x h3)
+    ∙ behind 20 (quick_cell x) _ _ (λ h20.
+    behind 5 (bad_distance x) _ _ (λ h5.
+    behind 6 (bad_tile x) _ _ (λ h6.
+    ap (λ (t : Bool). first_of (line 16 (bad_spread x) ∷ line 17 (last_spread x) ∷ line 7 (bad_processors x) ∷ line 8 t ∷ [])) (tiles_same x h3 h6)))))))
 
-pub quick : (bytes : List ℕ) → first_of (readLines bytes) ≡ quickNumber bytes
-unfolding readLines
+pub quick : (bytes : List ℕ) → first_of (read_lines bytes) ≡ quick_number bytes
+unfolding read_lines
 quick bytes =
-    behind 1 (ragged bytes) _ _ (λ h1. behind 2 (strayRecord bytes) _ _ (λ h2. quick-nest (needlesslyWide bytes) (nestOf bytes)))
+    behind 1 (ragged bytes) _ _ (λ h1. behind 2 (stray_record bytes) _ _ (λ h2. quick_nest (needlessly_wide bytes) (nest_of bytes)))
 
 -- the numbers that reading gives for these recipes
 unfoldable pub told : List (List ℕ) → List ℕ
-told rows = map (λ (b : List ℕ). first_of (readLines b)) rows
+told rows = map (λ (b : List ℕ). first_of (read_lines b)) rows
 
-pub quick-all : (rows : List (List ℕ)) → told rows ≡ map quickNumber rows
+pub quick_all : (rows : List (List ℕ)) → told rows ≡ map quick_number rows
 unfolding told
-quick-all [] = refl
-quick-all (b ∷ rows) = rw (quick b, quick-all rows)
+quick_all [] = refl
+quick_all (b ∷ rows) = rw (quick b, quick_all rows)

@@ -4,7 +4,7 @@
 use Rattle.std.specs.Prelude.{ℕ, zero, suc, ◌+◌, ◌/◌, ◌%◌, Bool, List, [], ◌∷◌, ◌++◌, replicate, ltb}
 use Rattle.base.specs.Tests.{pick, every}
 use Rattle.nest.specs.declared.Nest.{Nest}
-use Rattle.nest.specs.Nest.{length_of, tileLength, processorCount, component, weight, side, bounded, earlier, slope, boundOffset}
+use Rattle.nest.specs.Nest.{length_of, tile_length, processor_count, component, weight, side, bounded, earlier, slope, bound_offset}
 
 -- numbers of one, two and four bytes, little-endian; of a wider number only these are written
 abbrev pub low : ℕ → ℕ
@@ -13,38 +13,38 @@ low v = v % 256
 abbrev pub high : ℕ → ℕ
 high v = v / 256 % 256
 
-abbrev pub halfBytes : ℕ → List ℕ
-halfBytes v = low v ∷ high v ∷ []
+abbrev pub half_bytes : ℕ → List ℕ
+half_bytes v = low v ∷ high v ∷ []
 
 abbrev pub word_bytes : ℕ → List ℕ
-word_bytes v = halfBytes v ++ halfBytes (v / 65536)
+word_bytes v = half_bytes v ++ half_bytes (v / 65536)
 
 -- the records, 16 bytes each
-unfoldable pub dimensionRecord : ℕ → ℕ → ℕ → List ℕ
-dimensionRecord length tile count = 1 ∷ 0 ∷ halfBytes length ++ halfBytes tile ++ halfBytes count ++ replicate 8 0
+unfoldable pub dimension_record : ℕ → ℕ → ℕ → List ℕ
+dimension_record length tile count = 1 ∷ 0 ∷ half_bytes length ++ half_bytes tile ++ half_bytes count ++ replicate 8 0
 
 -- a distance of kind 2, a byte a component; of kind 4, two bytes a component
-unfoldable pub narrowRecord : ℕ → ℕ → ℕ → ℕ → ℕ → List ℕ
-narrowRecord d1 d2 d3 d4 weight = 2 ∷ 0 ∷ low d1 ∷ low d2 ∷ low d3 ∷ low d4 ∷ halfBytes weight ++ replicate 8 0
+unfoldable pub narrow_record : ℕ → ℕ → ℕ → ℕ → ℕ → List ℕ
+narrow_record d1 d2 d3 d4 weight = 2 ∷ 0 ∷ low d1 ∷ low d2 ∷ low d3 ∷ low d4 ∷ half_bytes weight ++ replicate 8 0
 
-unfoldable pub wideRecord : ℕ → ℕ → ℕ → ℕ → ℕ → List ℕ
-wideRecord d1 d2 d3 d4 weight = 4 ∷ 0 ∷ halfBytes d1 ++ halfBytes d2 ++ halfBytes d3 ++ halfBytes d4 ++ halfBytes weight ++ replicate 4 0
+unfoldable pub wide_record : ℕ → ℕ → ℕ → ℕ → ℕ → List ℕ
+wide_record d1 d2 d3 d4 weight = 4 ∷ 0 ∷ half_bytes d1 ++ half_bytes d2 ++ half_bytes d3 ++ half_bytes d4 ++ half_bytes weight ++ replicate 4 0
 
 -- a bound; slope and offset are given as slope + 1 and offset + 32,768
-unfoldable pub boundRecord : ℕ → ℕ → ℕ → ℕ → ℕ → List ℕ
-boundRecord side dimension earlier slope boundOffset =
-    5 ∷ low side ∷ low dimension ∷ low earlier ∷ low (slope + 255) ∷ 0 ∷ halfBytes (boundOffset + 32768) ++ replicate 8 0
+unfoldable pub bound_record : ℕ → ℕ → ℕ → ℕ → ℕ → List ℕ
+bound_record side dimension earlier slope bound_offset =
+    5 ∷ low side ∷ low dimension ∷ low earlier ∷ low (slope + 255) ∷ 0 ∷ half_bytes (bound_offset + 32768) ++ replicate 8 0
 
-unfoldable pub closeRecord : ℕ → ℕ → List ℕ
-closeRecord shift boundary = 3 ∷ low shift ∷ 0 ∷ 0 ∷ word_bytes boundary ++ replicate 8 0
+unfoldable pub close_record : ℕ → ℕ → List ℕ
+close_record shift boundary = 3 ∷ low shift ∷ 0 ∷ 0 ∷ word_bytes boundary ++ replicate 8 0
 
 -- of dimension j
-unfoldable pub dimensionOf : Nest → ℕ → List ℕ
-dimensionOf x j = dimensionRecord (length_of x j) (tileLength x j) (processorCount x j)
+unfoldable pub dimension_of : Nest → ℕ → List ℕ
+dimension_of x j = dimension_record (length_of x j) (tile_length x j) (processor_count x j)
 
 -- of bound k
-unfoldable pub boundOf : Nest → ℕ → List ℕ
-boundOf x k = boundRecord (side x k) (bounded x k) (earlier x k) (slope x k) (boundOffset x k)
+unfoldable pub bound_of : Nest → ℕ → List ℕ
+bound_of x k = bound_record (side x k) (bounded x k) (earlier x k) (slope x k) (bound_offset x k)
 
 -- each component of distance e fits a byte
 unfoldable pub narrow : Nest → ℕ → Bool
@@ -53,8 +53,8 @@ narrow x e = every (λ j. ltb (component x e j) 256) 4
 -- of distance e: kind 4 only where kind 2 can't hold it
 unfoldable pub distance_of : Nest → ℕ → List ℕ
 distance_of x e =
-    pick (narrow x e) (narrowRecord (component x e 0) (component x e 1) (component x e 2) (component x e 3) (weight x e))
-    (wideRecord (component x e 0) (component x e 1) (component x e 2) (component x e 3) (weight x e))
+    pick (narrow x e) (narrow_record (component x e 0) (component x e 1) (component x e 2) (component x e 3) (weight x e))
+    (wide_record (component x e 0) (component x e 1) (component x e 2) (component x e 3) (weight x e))
 
 -- f 0, then f 1, .. , n of them
 unfoldable pub joined : (ℕ → List ℕ) → ℕ → List ℕ
@@ -64,5 +64,5 @@ joined f (suc n) = joined f n ++ f n
 -- the dimensions, the bounds, the distances, the close
 unfoldable pub encode : Nest → List ℕ
 encode x =
-    joined (dimensionOf x) x.dimensions
-    ++ (joined (boundOf x) x.bounds ++ (joined (distance_of x) x.distances ++ closeRecord x.shift x.boundary))
+    joined (dimension_of x) x.dimensions
+    ++ (joined (bound_of x) x.bounds ++ (joined (distance_of x) x.distances ++ close_record x.shift x.boundary))

@@ -9,11 +9,11 @@ use Rattle.nest.specs.declared.Nest.{Nest}
 abbrev pub length_of : Nest → ℕ → ℕ
 length_of x j = get_or x.lengths j 0
 
-abbrev pub tileLength : Nest → ℕ → ℕ
-tileLength x j = get_or x.tiling j 0
+abbrev pub tile_length : Nest → ℕ → ℕ
+tile_length x j = get_or x.tiling j 0
 
-abbrev pub processorCount : Nest → ℕ → ℕ
-processorCount x j = get_or x.counts j 0
+abbrev pub processor_count : Nest → ℕ → ℕ
+processor_count x j = get_or x.counts j 0
 
 -- component j of distance e, and its weight
 abbrev pub component : Nest → ℕ → ℕ → ℕ
@@ -36,19 +36,19 @@ earlier x k = get_or x.earlier k 0
 abbrev pub slope : Nest → ℕ → ℕ
 slope x k = get_or x.slopes k 0
 
-abbrev pub boundOffset : Nest → ℕ → ℕ
-boundOffset x k = get_or x.offsets k 0
+abbrev pub bound_offset : Nest → ℕ → ℕ
+bound_offset x k = get_or x.offsets k 0
 
 -- tiles of the box along dimension j: up to the one that holds the last cell
-unfoldable pub tileCount : Nest → ℕ → ℕ
-tileCount x j = (length_of x j - 1) / tileLength x j + 1
+unfoldable pub tile_count : Nest → ℕ → ℕ
+tile_count x j = (length_of x j - 1) / tile_length x j + 1
 
 -- cells, tiles and processors of the box
 unfoldable pub cells : Nest → ℕ
 cells x = product (length_of x) x.dimensions
 
-unfoldable pub boxTiles : Nest → ℕ
-boxTiles x = product (tileCount x) x.dimensions
+unfoldable pub box_tiles : Nest → ℕ
+box_tiles x = product (tile_count x) x.dimensions
 
 unfoldable pub processors : Nest → ℕ
-processors x = product (processorCount x) x.spread
+processors x = product (processor_count x) x.spread

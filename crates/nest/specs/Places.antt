@@ -4,7 +4,7 @@
 use Rattle.std.specs.Prelude.{ℕ, zero, suc, ◌+◌, ◌*◌, ◌/◌, ◌%◌, eqb}
 use Rattle.base.specs.Tests.{pick}
 use Rattle.nest.specs.declared.Nest.{Nest}
-use Rattle.nest.specs.Nest.{length_of, tileLength, tileCount}
+use Rattle.nest.specs.Nest.{length_of, tile_length, tile_count}
 
 -- the place's number in index order, built one dimension at a time; N has each dimension's length
 unfoldable pub rank : (ℕ → ℕ) → (ℕ → ℕ) → ℕ → ℕ
@@ -19,16 +19,16 @@ place N (suc l) c j = pick (eqb j l) (c % N l) (place N l (c / N l) j)
 unfoldable pub cell_at : Nest → (ℕ → ℕ) → ℕ
 cell_at x i = rank (length_of x) i x.dimensions
 
-unfoldable pub cellPlace : Nest → ℕ → ℕ → ℕ
-cellPlace x c = place (length_of x) x.dimensions c
+unfoldable pub cell_place : Nest → ℕ → ℕ → ℕ
+cell_place x c = place (length_of x) x.dimensions c
 
 -- tile numbers of the box
-unfoldable pub tileAt : Nest → (ℕ → ℕ) → ℕ
-tileAt x u = rank (tileCount x) u x.dimensions
+unfoldable pub tile_at : Nest → (ℕ → ℕ) → ℕ
+tile_at x u = rank (tile_count x) u x.dimensions
 
-unfoldable pub tilePlace : Nest → ℕ → ℕ → ℕ
-tilePlace x t = place (tileCount x) x.dimensions t
+unfoldable pub tile_place : Nest → ℕ → ℕ → ℕ
+tile_place x t = place (tile_count x) x.dimensions t
 
 -- in each dimension the quotient by the tile length
-unfoldable pub boxTileOf : Nest → ℕ → ℕ
-boxTileOf x c = tileAt x (λ j. cellPlace x c j / tileLength x j)
+unfoldable pub box_tile_of : Nest → ℕ → ℕ
+box_tile_of x c = tile_at x (λ j. cell_place x c j / tile_length x j)

@@ -17,30 +17,30 @@ distance d1 d2 d3 = 2 ∷ 0 ∷ d1 ∷ d2 ∷ d3 ∷ 0 ∷ 1 ∷ replicate 9 0
 abbrev pub close : List ℕ
 close = 3 ∷ replicate 15 0
 
-abbrev pub rowA : List ℕ
-rowA = dimension 8 2 2 ++ dimension 8 2 0 ++ distance 1 0 0 ++ distance 0 1 0 ++ distance 1 1 0 ++ close
+abbrev pub row_a : List ℕ
+row_a = dimension 8 2 2 ++ dimension 8 2 0 ++ distance 1 0 0 ++ distance 0 1 0 ++ distance 1 1 0 ++ close
 
-abbrev pub rowB : List ℕ
-rowB = dimension 8 4 2 ++ dimension 8 4 0 ++ distance 2 1 0 ++ close
+abbrev pub row_b : List ℕ
+row_b = dimension 8 4 2 ++ dimension 8 4 0 ++ distance 2 1 0 ++ close
 
-abbrev pub rowC : List ℕ
-rowC = dimension 8 4 2 ++ dimension 8 4 2 ++ dimension 8 4 0 ++ distance 2 1 0 ++ close
+abbrev pub row_c : List ℕ
+row_c = dimension 8 4 2 ++ dimension 8 4 2 ++ dimension 8 4 0 ++ distance 2 1 0 ++ close
 
-abbrev pub rowD : List ℕ
-rowD = dimension 4 2 2 ++ dimension 1 1 0 ++ distance 1 0 0 ++ close
+abbrev pub row_d : List ℕ
+row_d = dimension 4 2 2 ++ dimension 1 1 0 ++ distance 1 0 0 ++ close
 
-abbrev pub rowE : List ℕ
-rowE = dimension 5 2 2 ++ dimension 1 1 0 ++ distance 1 0 0 ++ close
+abbrev pub row_e : List ℕ
+row_e = dimension 5 2 2 ++ dimension 1 1 0 ++ distance 1 0 0 ++ close
 
-abbrev pub rowF : List ℕ
-rowF = dimension 1 2 2 ++ dimension 2 1 0 ++ distance 1 0 0 ++ close
+abbrev pub row_f : List ℕ
+row_f = dimension 1 2 2 ++ dimension 2 1 0 ++ distance 1 0 0 ++ close
 
-abbrev pub rowG : List ℕ
-rowG = dimension 4 1 2 ++ dimension 1 1 0 ++ distance 1 0 0 ++ close
+abbrev pub row_g : List ℕ
+row_g = dimension 4 1 2 ++ dimension 1 1 0 ++ distance 1 0 0 ++ close
 
-abbrev pub rowH : List ℕ
-rowH = dimension 4 2 1 ++ dimension 1 1 0 ++ distance 1 0 0 ++ close
+abbrev pub row_h : List ℕ
+row_h = dimension 4 2 1 ++ dimension 1 1 0 ++ distance 1 0 0 ++ close
 
 -- a tile as long as the reach: its one message is read one tile later in the chain
-abbrev pub rowLater : List ℕ
-rowLater = dimension 4 2 2 ++ dimension 4 2 0 ++ distance 1 2 0 ++ close
+abbrev pub row_later : List ℕ
+row_later = dimension 4 2 2 ++ dimension 4 2 0 ++ distance 1 2 0 ++ close

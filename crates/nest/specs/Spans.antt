@@ -5,56 +5,56 @@ use Rattle.std.specs.Prelude.{ℕ, ◌+◌, ◌*◌, ◌-◌, ◌/◌, ◌≤◌
 use Rattle.base.specs.Tests.{◌and◌, ◌or◌, pick, every, some}
 use Rattle.nest.specs.declared.Nest.{Nest}
 use Rattle.nest.specs.declared.Interval.{Interval}
-use Rattle.nest.specs.Nest.{length_of, tileLength, processorCount, bounded, earlier, slope, boundOffset}
-use Rattle.nest.specs.Places.{place, cellPlace, boxTileOf}
-use Rattle.nest.specs.Shape.{meets, inShape}
+use Rattle.nest.specs.Nest.{length_of, tile_length, processor_count, bounded, earlier, slope, bound_offset}
+use Rattle.nest.specs.Places.{place, cell_place, box_tile_of}
+use Rattle.nest.specs.Shape.{meets, in_shape}
 
 -- what lines 1 to 3 leave of the numbers that a row's span is made of
 pub record Framed (x : Nest) : Type 0 where
-  pub dimensions-least : 1 ≤ x.dimensions
-  pub dimensions-most : x.dimensions ≤ 4
-  pub bounds-most : x.bounds ≤ 4
+  pub dimensions_least : 1 ≤ x.dimensions
+  pub dimensions_most : x.dimensions ≤ 4
+  pub bounds_most : x.bounds ≤ 4
   pub long : (j : ℕ) → j < x.dimensions → 1 ≤ length_of x j
   pub length_most : (j : ℕ) → j < x.dimensions → length_of x j ≤ 1024
-  pub length-wide : (j : ℕ) → length_of x j < 65536
-  pub tile-wide : (j : ℕ) → tileLength x j < 65536
-  pub bounded-low : (k : ℕ) → k < x.bounds → bounded x k < x.dimensions
-  pub earlier-low : (k : ℕ) → k < x.bounds → earlier x k < bounded x k
-  pub slope-most : (k : ℕ) → slope x k ≤ 2
-  pub offset-most : (k : ℕ) → boundOffset x k < 65536
+  pub length_wide : (j : ℕ) → length_of x j < 65536
+  pub tile_wide : (j : ℕ) → tile_length x j < 65536
+  pub bounded_low : (k : ℕ) → k < x.bounds → bounded x k < x.dimensions
+  pub earlier_low : (k : ℕ) → k < x.bounds → earlier x k < bounded x k
+  pub slope_most : (k : ℕ) → slope x k ≤ 2
+  pub offset_most : (k : ℕ) → bound_offset x k < 65536
 
 -- what line 6 leaves of the tile lengths
 abbrev pub Tiled : Nest → Type 0
-Tiled x = (j : ℕ) → j < x.dimensions → 1 ≤ tileLength x j
+Tiled x = (j : ℕ) → j < x.dimensions → 1 ≤ tile_length x j
 
 -- what line 2 leaves of all numbers that lines 3 to 8 are tested on
 pub record InRange (x : Nest) : Type 0 where
-  pub dimensions-least : 1 ≤ x.dimensions
-  pub dimensions-most : x.dimensions ≤ 4
-  pub spread-most : x.spread ≤ 4
-  pub distances-most : x.distances ≤ 8
-  pub bounds-most : x.bounds ≤ 4
-  pub length-wide : (j : ℕ) → length_of x j < 65536
-  pub tile-wide : (j : ℕ) → tileLength x j < 65536
-  pub count-wide : (j : ℕ) → processorCount x j < 65536
-  pub bounded-low : (k : ℕ) → k < x.bounds → bounded x k < x.dimensions
-  pub earlier-low : (k : ℕ) → k < x.bounds → earlier x k < bounded x k
-  pub slope-most : (k : ℕ) → slope x k ≤ 2
-  pub offset-most : (k : ℕ) → boundOffset x k < 65536
+  pub dimensions_least : 1 ≤ x.dimensions
+  pub dimensions_most : x.dimensions ≤ 4
+  pub spread_most : x.spread ≤ 4
+  pub distances_most : x.distances ≤ 8
+  pub bounds_most : x.bounds ≤ 4
+  pub length_wide : (j : ℕ) → length_of x j < 65536
+  pub tile_wide : (j : ℕ) → tile_length x j < 65536
+  pub count_wide : (j : ℕ) → processor_count x j < 65536
+  pub bounded_low : (k : ℕ) → k < x.bounds → bounded x k < x.dimensions
+  pub earlier_low : (k : ℕ) → k < x.bounds → earlier x k < bounded x k
+  pub slope_most : (k : ℕ) → slope x k ≤ 2
+  pub offset_most : (k : ℕ) → bound_offset x k < 65536
 
 abbrev pub last : Nest → ℕ
 last x = x.dimensions - 1
 
 -- the place with component a in the last dimension
-unfoldable pub rowPlace : Nest → (ℕ → ℕ) → ℕ → ℕ → ℕ
-rowPlace x i a j = pick (eqb j (last x)) a (i j)
+unfoldable pub row_place : Nest → (ℕ → ℕ) → ℕ → ℕ → ℕ
+row_place x i a j = pick (eqb j (last x)) a (i j)
 
 -- it meets the first n bounds; all of them
-unfoldable pub meetsFirst : Nest → (ℕ → ℕ) → ℕ → ℕ → Bool
-meetsFirst x i n a = every (meets x (rowPlace x i a)) n
+unfoldable pub meets_first : Nest → (ℕ → ℕ) → ℕ → ℕ → Bool
+meets_first x i n a = every (meets x (row_place x i a)) n
 
 abbrev pub in_row : Nest → (ℕ → ℕ) → ℕ → Bool
-in_row x i a = meetsFirst x i x.bounds a
+in_row x i a = meets_first x i x.bounds a
 
 abbrev pub within : Interval → ℕ → Bool
 within s a = leb s.from a and ltb a s.to
@@ -82,24 +82,24 @@ pub record PlaceWritten (N before : List ℕ) (n left : ℕ) (after : List ℕ) 
   pub others : (j : ℕ) → left ≤ j → get_or after j 0 ≡ get_or before j 0
 
 -- tiles along dimension j, and the tile of a component there
-abbrev pub tilesAlong : List ℕ → List ℕ → ℕ → ℕ
-tilesAlong N k j = (get_or N j 0 - 1) / get_or k j 0 + 1
+abbrev pub tiles_along : List ℕ → List ℕ → ℕ → ℕ
+tiles_along N k j = (get_or N j 0 - 1) / get_or k j 0 + 1
 
-abbrev pub tileOn : List ℕ → List ℕ → ℕ → ℕ
-tileOn k at j = spot at j / get_or k j 0
+abbrev pub tile_on : List ℕ → List ℕ → ℕ → ℕ
+tile_on k at j = spot at j / get_or k j 0
 
 -- a place of a cell, in the first dimensions
 pub record Tileable (N k at : List ℕ) (left : ℕ) : Type 0 where
   pub low : left ≤ 4
   pub length_most : (j : ℕ) → j < left → get_or N j 0 ≤ 1024
   pub tiled : (j : ℕ) → j < left → 1 ≤ get_or k j 0
-  pub tile-wide : (j : ℕ) → j < left → get_or k j 0 < 65536
+  pub tile_wide : (j : ℕ) → j < left → get_or k j 0 < 65536
   pub inside : (j : ℕ) → j < left → spot at j < get_or N j 0
 
 -- of the first span's cells the second has those that meet bound k
 pub record Cuts (x : Nest) (at : List ℕ) (k : ℕ) (s r : Interval) : Type 0 where
   pub most : r.to ≤ s.to
-  pub has : (a : ℕ) → within r a ≡ (within s a and meets x (rowPlace x (spot at) a) k)
+  pub has : (a : ℕ) → within r a ≡ (within s a and meets x (row_place x (spot at) a) k)
 
 -- the span has the cells of the row through `at` that are in the shape
 pub record Spans (x : Nest) (at : List ℕ) (s : Interval) : Type 0 where
@@ -108,7 +108,7 @@ pub record Spans (x : Nest) (at : List ℕ) (s : Interval) : Type 0 where
 
 -- the place of the first cell of row q
 pub record Row (x : Nest) (q : ℕ) (at : List ℕ) : Type 0 where
-  pub first : (j : ℕ) → j < x.dimensions → spot at j ≡ cellPlace x (q * length_of x (last x)) j
+  pub first : (j : ℕ) → j < x.dimensions → spot at j ≡ cell_place x (q * length_of x (last x)) j
   pub narrow : Narrow x at
 
 -- the places from one up to another are marked, the others as before
@@ -119,7 +119,7 @@ pub record Marked (before : List ℕ) (low high : ℕ) (after : List ℕ) : Type
 
 -- cell c is in the shape and in tile u of the box
 abbrev pub holds : Nest → ℕ → ℕ → Bool
-holds x u c = inShape x c and eqb (boxTileOf x c) u
+holds x u c = in_shape x c and eqb (box_tile_of x c) u
 
 -- the tiles that hold a cell of row q are marked, the others as before
 pub record RowMarked (x : Nest) (q : ℕ) (before after : List ℕ) : Type 0 where

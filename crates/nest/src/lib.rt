@@ -1,10 +1,10 @@
 // A nest by value and what reading gives; and a nest's rows: the cells of each that are in the shape, and the tiles that hold one.
 ghost use Rattle.std.specs.Prelude.{◌≡◌, ℕ, ◌+◌, ◌*◌, ◌/◌, ◌<◌, ◌≤◌, length, get_or, replicate, leb};
 ghost use Rattle.base.specs.Tests.{◌and◌, pick, product};
-ghost use Rattle.nest.specs.Nest.{length_of, tileLength, cells, boxTiles};
-ghost use Rattle.nest.specs.Places.{rank, tileAt};
+ghost use Rattle.nest.specs.Nest.{length_of, tile_length, cells, box_tiles};
+ghost use Rattle.nest.specs.Places.{rank, tile_at};
 ghost use Rattle.nest.specs.Spans.{Framed, Tiled, Narrow, InBox, Spans, Cuts, Row, Marked, RowMarked, last, spot, within};
-ghost use Rattle.nest.specs.Spans.{HasLengths, PlaceWritten, Tileable, tilesAlong, tileOn};
+ghost use Rattle.nest.specs.Spans.{HasLengths, PlaceWritten, Tileable, tiles_along, tile_on};
 
 use crate::division::{tile_along, tiles_along};
 
@@ -227,7 +227,7 @@ pub fn row_count(nest: Nest) -> usize
 // The number, among those of the first `left` dimensions, of the tile that holds a place of a cell.
 fn tile_rank(lengths: &[usize; 4], tiling: &[usize; 4], at: &[usize; 4], left: usize) -> usize
     requires { Tileable lengths.now tiling.now at.now left }
-    ensures { result ≡ rank (tilesAlong lengths.now tiling.now) (tileOn tiling.now at.now) left }
+    ensures { result ≡ rank (tiles_along lengths.now tiling.now) (tile_on tiling.now at.now) left }
 {
     if left == 0 {
         return 0;
@@ -241,7 +241,7 @@ fn tile_rank(lengths: &[usize; 4], tiling: &[usize; 4], at: &[usize; 4], left: u
 // The box's number of the tile at a place of a cell.
 fn tile_at(nest: Nest, at: &[usize; 4]) -> usize
     requires { (Framed nest × Tiled nest) × InBox nest at.now }
-    ensures { result ≡ tileAt nest (λ j. spot at.now j / tileLength nest j) }
+    ensures { result ≡ tile_at nest (λ j. spot at.now j / tile_length nest j) }
 {
     let lengths = nest.lengths;
     let tiling = nest.tiling;
@@ -260,7 +260,7 @@ pub fn mark(marks: &mut [u8], from: usize, to: usize)
 
 // Marks the tiles that hold a cell of row q and of the shape.
 pub fn mark_row(nest: Nest, q: usize, marks: &mut [u8])
-    requires { (Framed nest × Tiled nest) × ((q * length_of nest (last nest) < cells nest) × (boxTiles nest ≤ length marks.old)) }
+    requires { (Framed nest × Tiled nest) × ((q * length_of nest (last nest) < cells nest) × (box_tiles nest ≤ length marks.old)) }
     ensures { RowMarked nest q marks.old marks.new }
 {
     let mut at = [0usize; 4];

@@ -9,8 +9,8 @@ use lib.ListN.{length}
 use lib.Dec.{ltb}
 use borrow.Author.Tests.{lt-ltb, le-ltb}
 use Rattle.base.specs.Tests.{keep, pick}
-use Rattle.base.proofs.Tests.{pick_true, pick-false}
-use Rattle.base.proofs.Select.{keep-step, keep-more}
+use Rattle.base.proofs.Tests.{pick_true, pick_false}
+use Rattle.base.proofs.Select.{keep_step, keep_more}
 
 -- is v among f 0, f 1, .., n of them
 found : (f : ℕ → ℕ) (n v : ℕ) → ((i : ℕ) × (i < n) × (f i ≡ v)) ⊎ ((i : ℕ) → i < n → f i ≢ v)
@@ -37,24 +37,24 @@ past_is i k = go (dec_lt k i)
   where
     go : Dec (k < i) → ((k < i) × (pick (ltb k i) k (suc k) ≡ k)) ⊎ ((i ≤ k) × (pick (ltb k i) k (suc k) ≡ suc k))
     go (yes h) = inl (h, pick_true _ _ _ (lt-ltb k i h))
-    go (no h) = inr (omega arith, pick-false _ _ _ (le-ltb k i (omega arith)))
+    go (no h) = inr (omega arith, pick_false _ _ _ (le-ltb k i (omega arith)))
 
-past-low : (i k n : ℕ) → i < suc n → k < n → past i k < suc n
-past-low i k n h l = go (past_is i k)
+past_low : (i k n : ℕ) → i < suc n → k < n → past i k < suc n
+past_low i k n h l = go (past_is i k)
   where
     go : ((k < i) × (past i k ≡ k)) ⊎ ((i ≤ k) × (past i k ≡ suc k)) → past i k < suc n
     go (inl e) = omega (arith, e.1)
     go (inr e) = omega (arith, e.1)
 
-past-other : (i k : ℕ) → past i k ≢ i
-past-other i k z = go (past_is i k)
+past_other : (i k : ℕ) → past i k ≢ i
+past_other i k z = go (past_is i k)
   where
     go : ((k < i) × (past i k ≡ k)) ⊎ ((i ≤ k) × (past i k ≡ suc k)) → ⊥
     go (inl e) = omega (arith, e.0, e.1)
     go (inr e) = omega (arith, e.0, e.1)
 
-past-once : (i j k : ℕ) → past i j ≡ past i k → j ≡ k
-past-once i j k z = go (past_is i j) (past_is i k)
+past_once : (i j k : ℕ) → past i j ≡ past i k → j ≡ k
+past_once i j k z = go (past_is i j) (past_is i k)
   where
     go : ((j < i) × (past i j ≡ j)) ⊎ ((i ≤ j) × (past i j ≡ suc j)) → ((k < i) × (past i k ≡ k)) ⊎ ((i ≤ k) × (past i k ≡ suc k)) → j ≡ k
     go (inl a) (inl b) = omega (arith, a.1, b.1)
@@ -72,12 +72,12 @@ at_most g (suc N) (suc n) f low is once =
     (λ none. at_most g N (suc n) f (λ i h. omega (arith, low i h, none i h)) is once)
     (λ i h e.
     at_most g N n (λ k. f (past i k))
-    (λ k l. omega (arith, low (past i k) (past-low i k n h l), elsewhere i k h l e))
-    (λ k l. is (past i k) (past-low i k n h l))
-    (λ j k a b q. past-once i j k (once (past i j) (past i k) (past-low i j n h a) (past-low i k n h b) q)))
+    (λ k l. omega (arith, low (past i k) (past_low i k n h l), elsewhere i k h l e))
+    (λ k l. is (past i k) (past_low i k n h l))
+    (λ j k a b q. past_once i j k (once (past i j) (past i k) (past_low i j n h a) (past_low i k n h b) q)))
   where
     elsewhere : (i k : ℕ) → i < suc n → k < n → f i ≡ N → f (past i k) ≢ N
-    elsewhere i k h l e z = past-other i k (once (past i k) i (past-low i k n h l) h (z ∙ sym e))
+    elsewhere i k h l e z = past_other i k (once (past i k) i (past_low i k n h l) h (z ∙ sym e))
 
     go : ((i : ℕ) × (i < suc n) × (f i ≡ N)) ⊎ ((i : ℕ) → i < suc n → f i ≢ N)
         → (((i : ℕ) → i < suc n → f i ≢ N) → suc n ≤ length (keep g N))
@@ -85,5 +85,5 @@ at_most g (suc N) (suc n) f low is once =
         → suc n ≤ length (keep g (suc N))
     go (inl k) less without =
         let a = without k.0 k.1 k.2 in
-        omega (arith, keep-more g N (ap g (sym k.2) ∙ is k.0 k.1))
-    go (inr k) less without = let a = less k in omega (arith, keep-step g N)
+        omega (arith, keep_more g N (ap g (sym k.2) ∙ is k.0 k.1))
+    go (inr k) less without = let a = less k in omega (arith, keep_step g N)

@@ -7,11 +7,11 @@ use mathlib.Core.List.{List, [], ◌∷◌}
 use native.Mathlib.Omega.{arith}
 use lib.ListN.{get_or, set}
 use Rattle.base.specs.Tests.{◌and◌, ◌or◌, not, pick, one, every, some, keep, those}
-use Rattle.base.specs.Lists.{In, sublist, put, setAll, storeAll, allAt, unpack, pack, countIf}
+use Rattle.base.specs.Lists.{In, sublist, put, set_all, store_all, all_at, unpack, pack, count_if}
 use Rattle.base.specs.Numbers.{first_of}
-use Rattle.machine.specs.Plan.{Plan, sendsOf, dues_of, offset}
-use Rattle.machine.specs.Machine.{State, state_of, setProgress, tilesLeft, fitRecord, fit, unpackAll, afterSends, carryOut, actionAt, waiting}
-use Rattle.machine.specs.Machine.{Answered, turn, fresh, currentTile}
+use Rattle.machine.specs.Plan.{Plan, sends_of, dues_of, offset}
+use Rattle.machine.specs.Machine.{State, state_of, set_progress, tiles_left, fit_record, fit, unpack_all, after_sends, carry_out, action_at, waiting}
+use Rattle.machine.specs.Machine.{Answered, turn, fresh, current_tile}
 use Rattle.machine.specs.Words.{word_at}
 use Rattle.network.specs.Locality.{PlanLengths, Keeps, SameTo, Likewise, Local, ReadsOwnWord}
 use Rattle.network.proofs.Computed.{line3, value_at, source3}
@@ -32,9 +32,9 @@ peeks source s b =
 unfoldable other : State
 other = state_of (0 ∷ 0 ∷ 0 ∷ 7 ∷ 0 ∷ 0 ∷ []) (0 ∷ 0 ∷ []) (0 ∷ 0 ∷ 0 ∷ 0 ∷ 0 ∷ 0 ∷ []) (0 ∷ 0 ∷ [])
 
-lent-start : PlanLengths line3 source3 start
+lent_start : PlanLengths line3 source3 start
 unfolding line3 source3 fresh offset
-lent-start = record { source = refl; memories = refl; buffer = refl; progress = refl; status = refl }
+lent_start = record { source = refl; memories = refl; buffer = refl; progress = refl; status = refl }
 
 lent_other : PlanLengths line3 source3 other
 unfolding line3 source3 other offset
@@ -59,33 +59,33 @@ same_start =
       marks = λ m h mine. refl;
     }
 
-both-fit : fit line3 start ≡ fit line3 other
-unfolding line3 fresh other fit fitRecord tilesLeft those keep every not pick ◌and◌
-both-fit = refl
+both_fit : fit line3 start ≡ fit line3 other
+unfolding line3 fresh other fit fit_record tiles_left those keep every not pick ◌and◌
+both_fit = refl
 
 alike : Likewise line3 source3 source3 start other 0
-alike = record { lent = lent-start; lent' = lent_other; both-fit = both-fit; same_source = λ t c h e i. refl; same-areas = same_start }
+alike = record { lent = lent_start; lent' = lent_other; both_fit = both_fit; same_source = λ t c h e i. refl; same_areas = same_start }
 
-peeks-start : word_at line3 (peeks source3 start 0).after 0 0 ≡ 0
-unfolding peeks line3 value_at source3 those keep offset sublist put unpack unpackAll setAll storeAll pack allAt every some one countIf not pick ◌and◌ ◌or◌
-    first_of setProgress tilesLeft fitRecord fit afterSends carryOut actionAt waiting turn fresh
-peeks-start = refl
+peeks_start : word_at line3 (peeks source3 start 0).after 0 0 ≡ 0
+unfolding peeks line3 value_at source3 those keep offset sublist put unpack unpack_all set_all store_all pack all_at every some one count_if not pick ◌and◌ ◌or◌
+    first_of set_progress tiles_left fit_record fit after_sends carry_out action_at waiting turn fresh
+peeks_start = refl
 
-peeks-other : word_at line3 (peeks source3 other 0).after 0 0 ≡ 7
-unfolding peeks other line3 value_at source3 those keep offset sublist put unpack unpackAll setAll storeAll pack allAt every some one countIf not pick ◌and◌ ◌or◌
-    first_of setProgress tilesLeft fitRecord fit afterSends carryOut actionAt waiting turn fresh
-peeks-other = refl
+peeks_other : word_at line3 (peeks source3 other 0).after 0 0 ≡ 7
+unfolding peeks other line3 value_at source3 those keep offset sublist put unpack unpack_all set_all store_all pack all_at every some one count_if not pick ◌and◌ ◌or◌
+    first_of set_progress tiles_left fit_record fit after_sends carry_out action_at waiting turn fresh
+peeks_other = refl
 
-keeps-first : Keeps line3 0 0
+keeps_first : Keeps line3 0 0
 unfolding line3
-keeps-first = Keeps.own 0 (omega arith) refl (inl refl)
+keeps_first = Keeps.own 0 (omega arith) refl (inl refl)
 
-first-low : 0 < line3.cells
+first_low : 0 < line3.cells
 unfolding line3
-first-low = omega arith
+first_low = omega arith
 
 pub peeking : Local line3 peeks → ⊥
-peeking l = omega (arith, sym peeks-start ∙ (l.same-changes source3 source3 start other 0 alike).memory 0 first-low keeps-first ∙ peeks-other)
+peeking l = omega (arith, sym peeks_start ∙ (l.same_changes source3 source3 start other 0 alike).memory 0 first_low keeps_first ∙ peeks_other)
 
 -- ---- processor 0, at tile 0, marks the message that tile 1 sends
 unfoldable pub meddles : List ℕ → State → ℕ → Answered State
@@ -96,26 +96,26 @@ meddles source s b =
           (set (turn line3 source s b).after.status 1 1);
     }
 
-meddles-start : get_or (meddles source3 start 0).after.status 1 0 ≡ 1
-unfolding meddles line3 value_at source3 those keep offset sublist put unpack unpackAll setAll storeAll pack allAt every some one countIf not pick ◌and◌ ◌or◌
-    first_of setProgress tilesLeft fitRecord fit afterSends carryOut actionAt waiting turn fresh
-meddles-start = refl
+meddles_start : get_or (meddles source3 start 0).after.status 1 0 ≡ 1
+unfolding meddles line3 value_at source3 those keep offset sublist put unpack unpack_all set_all store_all pack all_at every some one count_if not pick ◌and◌ ◌or◌
+    first_of set_progress tiles_left fit_record fit after_sends carry_out action_at waiting turn fresh
+meddles_start = refl
 
-mark-start : get_or start.status 1 0 ≡ 0
+mark_start : get_or start.status 1 0 ≡ 0
 unfolding line3 fresh
-mark-start = refl
+mark_start = refl
 
-not-sent : In 1 (sendsOf line3 (currentTile line3 start 0)) → ⊥
+not_sent : In 1 (sends_of line3 (current_tile line3 start 0)) → ⊥
 unfolding line3 fresh those keep
-not-sent (inl e) = omega arith
-not-sent (inr i) = i
+not_sent (inl e) = omega arith
+not_sent (inr i) = i
 
-not-due : In 1 (dues_of line3 (currentTile line3 start 0)) → ⊥
+not_due : In 1 (dues_of line3 (current_tile line3 start 0)) → ⊥
 unfolding line3 fresh those keep
-not-due i = i
+not_due i = i
 
 pub meddling : Local line3 meddles → ⊥
-meddling l = omega (arith, sym meddles-start ∙ (l.writes source3 start 0 lent-start).status 1 not-sent not-due ∙ mark-start)
+meddling l = omega (arith, sym meddles_start ∙ (l.writes source3 start 0 lent_start).status 1 not_sent not_due ∙ mark_start)
 
 -- ---- values that read the next cell's source
 unfoldable pub skewed : Plan
@@ -125,9 +125,9 @@ skewed = record {
   boundary = 0;
   tiles = 3;
   processors = 3;
-  tileOf = λ c. c;
+  tile_of = λ c. c;
   cells_of = λ t. t ∷ [];
-  processorOf = λ t. t;
+  processor_of = λ t. t;
   messages = [];
   reads_of = λ c. [];
   value = λ source memory c. get_or source (c + 1) 0;

@@ -7,11 +7,11 @@ use mathlib.Core.List.{List, [], ◌∷◌}
 use native.Mathlib.Omega.{arith}
 use Rattle.base.specs.Tests.{◌and◌, pick, every, keep, those}
 use Rattle.machine.specs.Plan.{offset}
-use Rattle.machine.specs.Machine.{State, state_of, tilesLeft, fitRecord, fit, turn}
+use Rattle.machine.specs.Machine.{State, state_of, tiles_left, fit_record, fit, turn}
 use Rattle.machine.specs.Words.{word_at}
 use Rattle.network.specs.Locality.{PlanLengths, Keeps, SameTo, SameSource, Likewise}
 use Rattle.network.proofs.Computed.{line3, source3}
-use Rattle.network.proofs.Example.{is-local}
+use Rattle.network.proofs.Example.{is_local}
 
 unfoldable source : List ℕ
 source = 1 ∷ 2 ∷ 9 ∷ []
@@ -42,15 +42,15 @@ unfolding line3
 brought = Keeps.brought 1 (omega arith) refl (inl refl)
 
 -- and not cell 2
-not-kept : Keeps line3 0 2 → ⊥
+not_kept : Keeps line3 0 2 → ⊥
 unfolding line3
-not-kept (Keeps.own zero h e (inl i)) = omega arith
-not-kept (Keeps.own (suc zero) h e (inl i)) = omega arith
-not-kept (Keeps.own (suc (suc zero)) h e i) = omega arith
-not-kept (Keeps.own (suc (suc (suc t))) h e i) = omega arith
-not-kept (Keeps.brought zero h e (inl i)) = omega arith
-not-kept (Keeps.brought (suc zero) h e i) = omega arith
-not-kept (Keeps.brought (suc (suc m)) h e i) = omega arith
+not_kept (Keeps.own zero h e (inl i)) = omega arith
+not_kept (Keeps.own (suc zero) h e (inl i)) = omega arith
+not_kept (Keeps.own (suc (suc zero)) h e i) = omega arith
+not_kept (Keeps.own (suc (suc (suc t))) h e i) = omega arith
+not_kept (Keeps.brought zero h e (inl i)) = omega arith
+not_kept (Keeps.brought (suc zero) h e i) = omega arith
+not_kept (Keeps.brought (suc (suc m)) h e i) = omega arith
 
 -- Locality.SameSource, SameTo, Likewise
 same_source : SameSource line3 0 source3 source
@@ -64,12 +64,12 @@ same_memory : (c : ℕ) → c < 3 → Keeps line3 0 c → word_at line3 before 0
 unfolding line3 before other
 same_memory zero h k = refl
 same_memory (suc zero) h k = refl
-same_memory (suc (suc zero)) h k = absurd (not-kept k)
+same_memory (suc (suc zero)) h k = absurd (not_kept k)
 same_memory (suc (suc (suc c))) h k = absurd (omega arith)
 
-same-areas : SameTo line3 0 before other
+same_areas : SameTo line3 0 before other
 unfolding line3 before other
-same-areas =
+same_areas =
     record {
       memory = λ c h k. same_memory c h k;
       finished = refl;
@@ -79,13 +79,13 @@ same-areas =
       marks = λ m h k. refl;
     }
 
-both-fit : fit line3 before ≡ fit line3 other
-unfolding line3 before other those keep every pick ◌and◌ tilesLeft fitRecord fit
-both-fit = refl
+both_fit : fit line3 before ≡ fit line3 other
+unfolding line3 before other those keep every pick ◌and◌ tiles_left fit_record fit
+both_fit = refl
 
 likewise : Likewise line3 source3 source before other 0
-likewise = record { lent = lent; lent' = lent'; both-fit = both-fit; same_source = same_source; same-areas = same-areas }
+likewise = record { lent = lent; lent' = lent'; both_fit = both_fit; same_source = same_source; same_areas = same_areas }
 
 -- so the claim says of these two calls that they get the same number
 same_number : (turn line3 source3 before 0).number ≡ (turn line3 source other 0).number
-same_number = is-local.same_number source3 source before other 0 likewise
+same_number = is_local.same_number source3 source before other 0 likewise

@@ -6,7 +6,7 @@ use Rattle.base.specs.Lists.{put}
 use Rattle.machine.specs.Plan.{Plan, offset}
 use Rattle.machine.specs.Machine.{State, state_of, place_of, Answered, deliver}
 use Rattle.machine.specs.Runs.{Event, deliveryOf}
-use Rattle.network.specs.Apart.{AreasApart, senderAt, takerAt, actApart, lastApart}
+use Rattle.network.specs.Apart.{AreasApart, sender_at, taker_at, act_apart, last_apart}
 
 -- these words are copied into the place of message m, and its status is 1, in flight
 abbrev pub copied : Plan → State → ℕ → List ℕ → State
@@ -15,21 +15,21 @@ copied p s m ws = state_of s.memories (put s.buffer (offset p.messages m) ws) s.
 module _ (p : Plan) (source : List ℕ) (events : List Event) (m : ℕ) where
   -- the delivery of message m after these events
   abbrev pub delivery : Answered AreasApart
-  delivery = actApart p source (lastApart p source events) (deliveryOf m)
+  delivery = act_apart p source (last_apart p source events) (deliveryOf m)
 
   abbrev pub atSender : State
-  atSender = lastApart p source events (senderAt p m)
+  atSender = last_apart p source events (sender_at p m)
 
   abbrev pub atTaker : State
-  atTaker = lastApart p source events (takerAt p m)
+  atTaker = last_apart p source events (taker_at p m)
 
   pub record ByCalls : Type 0 where
     -- the number is what the call gives at the sender's
     pub asks : (deliver p atSender m).number ≡ delivery.number
     -- and where it is 0 the sender has what that call leaves, also if it is the taker itself
-    pub sender-side : delivery.number ≡ 0 → delivery.after (senderAt p m) ≡ (deliver p atSender m).after
+    pub sender_side : delivery.number ≡ 0 → delivery.after (sender_at p m) ≡ (deliver p atSender m).after
     -- another processor that takes it has what the call gives there, with 0, on the copy
-    pub taker-side : delivery.number ≡ 0 → senderAt p m ≢ takerAt p m
-        → deliver p (copied p atTaker m (place_of p atSender.buffer m)) m ≡ record { number = 0; after = delivery.after (takerAt p m) }
+    pub taker_side : delivery.number ≡ 0 → sender_at p m ≢ taker_at p m
+        → deliver p (copied p atTaker m (place_of p atSender.buffer m)) m ≡ record { number = 0; after = delivery.after (taker_at p m) }
     -- and no third one is touched
-    pub others : (c : ℕ) → c ≢ senderAt p m → c ≢ takerAt p m → delivery.after c ≡ lastApart p source events c
+    pub others : (c : ℕ) → c ≢ sender_at p m → c ≢ taker_at p m → delivery.after c ≡ last_apart p source events c

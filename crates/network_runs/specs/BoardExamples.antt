@@ -4,56 +4,56 @@ use Rattle.std.specs.Prelude.{ℕ, ◌≡◌, List, [], ◌∷◌, ◌++◌}
 use Rattle.base.specs.Lists.{pack}
 use Rattle.machine.specs.Machine.{fresh}
 use Rattle.machine.specs.Runs.{answers}
-use Rattle.nest.specs.Recipes.{rowD}
+use Rattle.nest.specs.Recipes.{row_d}
 use Rattle.engine.specs.Calls.{recipe}
 use Rattle.network.specs.Apart.{AreasApart}
-use Rattle.network.specs.Own.{ownCells}
-use Rattle.network.specs.Brought.{BoardEvent, turnAt, postAt, broughtTo, Carries}
+use Rattle.network.specs.Own.{own_cells}
+use Rattle.network.specs.Brought.{BoardEvent, turn_at, post_at, brought_to, Carries}
 use Rattle.network.specs.OnBoards.{whole, stepsGot}
-use Rattle.part_calls.specs.front.Calls.{toPart}
-use Rattle.network_runs.specs.Calls.{Sources, startNetworkCalls}
+use Rattle.part_calls.specs.front.Calls.{to_part}
+use Rattle.network_runs.specs.Calls.{Sources, start_network_calls}
 use Rattle.network_runs.specs.Demands.{Begun}
-use Rattle.network_runs.specs.part.Runs.{PartSources, partStart}
+use Rattle.network_runs.specs.part.Runs.{PartSources, part_start}
 use Rattle.network_runs.specs.part.Demands.{BegunApart}
-use Rattle.network_runs.specs.Boards.{wholeBoards, partBoards}
+use Rattle.network_runs.specs.Boards.{whole_boards, part_boards}
 
 -- a source; each board lent it whole, or the words of its own two cells
-abbrev pub sourceD : List ℕ
-sourceD = 4 ∷ 5 ∷ 5 ∷ 6 ∷ []
+abbrev pub source_d : List ℕ
+source_d = 4 ∷ 5 ∷ 5 ∷ 6 ∷ []
 
-abbrev pub wholeSources : Sources
-wholeSources b = sourceD
+abbrev pub whole_sources : Sources
+whole_sources b = source_d
 
-abbrev pub partSources : PartSources
-partSources b = pack sourceD (ownCells (recipe rowD 0) b)
+abbrev pub part_sources : PartSources
+part_sources b = pack source_d (own_cells (recipe row_d 0) b)
 
-abbrev pub wholeLent : AreasApart
-wholeLent b = fresh (recipe rowD 0)
+abbrev pub whole_lent : AreasApart
+whole_lent b = fresh (recipe row_d 0)
 
-abbrev pub partLent : AreasApart
-partLent b = toPart (recipe rowD 0) b (fresh (recipe rowD 0))
+abbrev pub part_lent : AreasApart
+part_lent b = to_part (recipe row_d 0) b (fresh (recipe row_d 0))
 
 -- board 1 waits; board 0 gathers and calculates, hands its message over too early, sends it; board 1 hands over what is not its own; board 0 its own
 abbrev pub posting : List BoardEvent
-posting = turnAt 1 ∷ turnAt 0 ∷ turnAt 0 ∷ postAt 0 0 ∷ turnAt 0 ∷ postAt 1 0 ∷ postAt 0 0 ∷ []
+posting = turn_at 1 ∷ turn_at 0 ∷ turn_at 0 ∷ post_at 0 0 ∷ turn_at 0 ∷ post_at 1 0 ∷ post_at 0 0 ∷ []
 
 -- its word is 9; it is brought to board 0, which sent it, to board 2, which there is not, to board 1, and again; board 1 does its tile
 abbrev pub taking : List BoardEvent
-taking = broughtTo 0 0 (9 ∷ []) ∷ broughtTo 2 0 (9 ∷ []) ∷ broughtTo 1 0 (9 ∷ []) ∷ broughtTo 1 0 (9 ∷ []) ∷ turnAt 1 ∷ turnAt 1 ∷ turnAt 1 ∷ []
+taking = brought_to 0 0 (9 ∷ []) ∷ brought_to 2 0 (9 ∷ []) ∷ brought_to 1 0 (9 ∷ []) ∷ brought_to 1 0 (9 ∷ []) ∷ turn_at 1 ∷ turn_at 1 ∷ turn_at 1 ∷ []
 
-abbrev pub eventsD : List BoardEvent
-eventsD = posting ++ taking
+abbrev pub events_d : List BoardEvent
+events_d = posting ++ taking
 
-abbrev pub numbersD : List ℕ
-numbersD = 12 ∷ 0 ∷ 0 ∷ 14 ∷ 0 ∷ 14 ∷ 0 ∷ 11 ∷ 11 ∷ 0 ∷ 14 ∷ 0 ∷ 0 ∷ 13 ∷ []
+abbrev pub numbers_d : List ℕ
+numbers_d = 12 ∷ 0 ∷ 0 ∷ 14 ∷ 0 ∷ 14 ∷ 0 ∷ 11 ∷ 11 ∷ 0 ∷ 14 ∷ 0 ∷ 0 ∷ 13 ∷ []
 
 pub record BoardExamples : Type 0 where
-  pub begun : Begun rowD 0 sourceD wholeSources wholeLent
-  pub carries : Carries (wholeBoards rowD 0 wholeSources) (startNetworkCalls rowD 0 wholeSources wholeLent) eventsD
-  pub numbers : answers (wholeBoards rowD 0 wholeSources) (startNetworkCalls rowD 0 wholeSources wholeLent) eventsD ≡ numbersD
-  pub begun-parts : BegunApart rowD 0 sourceD partSources partLent
-  pub carries-parts : Carries (partBoards rowD 0 partSources) (partStart rowD 0 partLent) eventsD
-  pub numbers-parts : answers (partBoards rowD 0 partSources) (partStart rowD 0 partLent) eventsD ≡ numbersD
+  pub begun : Begun row_d 0 source_d whole_sources whole_lent
+  pub carries : Carries (whole_boards row_d 0 whole_sources) (start_network_calls row_d 0 whole_sources whole_lent) events_d
+  pub numbers : answers (whole_boards row_d 0 whole_sources) (start_network_calls row_d 0 whole_sources whole_lent) events_d ≡ numbers_d
+  pub begun_parts : BegunApart row_d 0 source_d part_sources part_lent
+  pub carries_parts : Carries (part_boards row_d 0 part_sources) (part_start row_d 0 part_lent) events_d
+  pub numbers_parts : answers (part_boards row_d 0 part_sources) (part_start row_d 0 part_lent) events_d ≡ numbers_d
   -- all steps: three turns and two, one message handed over and taken in
-  pub all-steps : whole (recipe rowD 0) ≡ 7
-  pub at-the-end : stepsGot (wholeBoards rowD 0 wholeSources) (startNetworkCalls rowD 0 wholeSources wholeLent) eventsD ≡ whole (recipe rowD 0)
+  pub all_steps : whole (recipe row_d 0) ≡ 7
+  pub at_the_end : stepsGot (whole_boards row_d 0 whole_sources) (start_network_calls row_d 0 whole_sources whole_lent) events_d ≡ whole (recipe row_d 0)

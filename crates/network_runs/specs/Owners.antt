@@ -5,11 +5,11 @@ use Rattle.std.specs.Prelude.{ℕ, ◌<◌, ◌≡◌, ◌≢◌, true, false, L
 use Rattle.base.specs.Tests.{keep}
 use Rattle.base.specs.Lists.{Bytes, In, pack}
 use Rattle.base.specs.Numbers.{first_of}
-use Rattle.layout.specs.RouteWords.{routeOf}
-use Rattle.recipe.specs.Routes.{linesFor}
+use Rattle.layout.specs.RouteWords.{route_of}
+use Rattle.recipe.specs.Routes.{lines_for}
 use Rattle.engine.specs.Calls.{answer, recipe}
-use Rattle.network.specs.Own.{ownCells, keptCells}
-use Rattle.transport.specs.Calls.{ownersCall}
+use Rattle.network.specs.Own.{own_cells, kept_cells}
+use Rattle.transport.specs.Calls.{owners_call}
 
 -- the cells told for board b, in index order
 abbrev pub cells_for : List ℕ → ℕ → List ℕ
@@ -17,17 +17,17 @@ cells_for told b = keep (λ c. eqb (get_or told c 0) b) (length told)
 
 pub record OwnersTell (bytes : List ℕ) (route : ℕ) (told : List ℕ) : Type 0 where
   pub long : length told ≡ (recipe bytes route).cells
-  pub own-cells : (b : ℕ) → b < (recipe bytes route).processors → cells_for told b ≡ ownCells (recipe bytes route) b
+  pub cells_are_own : (b : ℕ) → b < (recipe bytes route).processors → cells_for told b ≡ own_cells (recipe bytes route) b
   -- the source that it is lent, and the memory's cells
-  pub own-source : (b : ℕ) → b < (recipe bytes route).processors → (source : List ℕ)
-      → pack source (cells_for told b) ≡ pack source (ownCells (recipe bytes route) b)
-  pub kept : (b c : ℕ) → b < (recipe bytes route).processors → In c (cells_for told b) → In c (keptCells (recipe bytes route) b)
+  pub own_source : (b : ℕ) → b < (recipe bytes route).processors → (source : List ℕ)
+      → pack source (cells_for told b) ≡ pack source (own_cells (recipe bytes route) b)
+  pub kept : (b c : ℕ) → b < (recipe bytes route).processors → In c (cells_for told b) → In c (kept_cells (recipe bytes route) b)
   -- each cell in the shape is some board's, a cell outside it no board's
-  pub some-board : (c : ℕ) → c < (recipe bytes route).cells → (recipe bytes route).inside c ≡ true → get_or told c 0 < (recipe bytes route).processors
-  pub no-board : (c b : ℕ) → c < (recipe bytes route).cells → (recipe bytes route).inside c ≡ false → b < (recipe bytes route).processors → get_or told c 0 ≢ b
+  pub some_board : (c : ℕ) → c < (recipe bytes route).cells → (recipe bytes route).inside c ≡ true → get_or told c 0 < (recipe bytes route).processors
+  pub no_board : (c b : ℕ) → c < (recipe bytes route).cells → (recipe bytes route).inside c ≡ false → b < (recipe bytes route).processors → get_or told c 0 ≢ b
 
 -- on every route that is open to the recipe, though `owners` is given none
 abbrev pub OwnersOwn : Type 0
 OwnersOwn =
-    (bytes : List ℕ) (route : ℕ) (old told : List ℕ) → Bytes bytes → first_of (linesFor (routeOf route) bytes) ≡ 0 → answer 0 told ≡ ownersCall bytes old
+    (bytes : List ℕ) (route : ℕ) (old told : List ℕ) → Bytes bytes → first_of (lines_for (route_of route) bytes) ≡ 0 → answer 0 told ≡ owners_call bytes old
     → OwnersTell bytes route told

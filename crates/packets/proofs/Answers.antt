@@ -13,15 +13,15 @@ use lib.Dec.{eqb, ltb}
 use Rattle.base.specs.Tests.{◌or◌, not, tabulate}
 use Rattle.base.specs.Bytes.{word}
 use Rattle.base.specs.Numbers.{Line, line, first_of}
-use Rattle.base.proofs.Tests.{not-true, not-false, true-not, or_left, or_right, or-false, neither}
-use Rattle.base.proofs.Numbers.{first-nil, first-true, first-false, none_first}
+use Rattle.base.proofs.Tests.{not-true, not-false, true_not, or_left, or_right, or_false, neither}
+use Rattle.base.proofs.Numbers.{first_nil, first_true, first_false, none_first}
 use Rattle.packets.specs.Crc.{crc32}
-use Rattle.packets.specs.Packet.{word_bytes, wordsBytes, magic, packetLength, headWords, body_of, encodePacket, word_at, doubleAt, count_of, headerOf}
-use Rattle.packets.specs.Packet.{words_of, unfit, damaged, stale, decodeLines}
-use Rattle.packets.specs.Calls.{Put, Written, written_of, written_by, writeLines, writeCall, Read, no_header, read_of, read_by, readLines, readCall}
+use Rattle.packets.specs.Packet.{word_bytes, words_bytes, magic, packet_length, head_words, body_of, encode_packet, word_at, double_at, count_of, header_of}
+use Rattle.packets.specs.Packet.{words_of, unfit, damaged, stale, decode_lines}
+use Rattle.packets.specs.Calls.{Put, Written, written_of, written_by, write_lines, write_call, Read, no_header, read_of, read_by, read_lines, read_call}
 use Rattle.packets.specs.declared.Header.{Header}
 use Rattle.packets.specs.declared.Reading.{Reading}
-use Rattle.packets.proofs.Bytes.{les-append, length-les, length-le, length-body, put-join}
+use Rattle.packets.proofs.Bytes.{les_append, length_les, length_le, length_body, put_join}
 
 -- the code's "not equal" is the library's
 not_same : (b : Bool) → mathlib.Core.Bool.not b ≡ not b
@@ -38,61 +38,61 @@ unfit-many n m h = sym (or_left _ (lt-ltb 285 n h))
 pub unfit-long : (n m : ℕ) → n ≤ 285 → (t : Bool) → t ≡ mathlib.Core.Bool.not (eqb m (56 + 4 * n + 4)) → t ≡ unfit n m
 unfolding unfit ◌or◌
 unfit-long n m h t e =
-    e ∙ not_same _ ∙ ap (λ (k : ℕ). not (eqb m k)) ends ∙ sym (ap (λ (b : Bool). b or not (eqb m (packetLength n))) (le-ltb 285 n h))
+    e ∙ not_same _ ∙ ap (λ (k : ℕ). not (eqb m k)) ends ∙ sym (ap (λ (b : Bool). b or not (eqb m (packet_length n))) (le-ltb 285 n h))
   where
-    ends : 56 + 4 * n + 4 ≡ packetLength n
+    ends : 56 + 4 * n + 4 ≡ packet_length n
     ends = omega arith
 
 pub fit-short : (n m : ℕ) → unfit n m ≡ false → n ≤ 285
 unfolding unfit
 fit-short n m e = ltb-false 285 n (neither e).0
 
-pub fit-long : (n m : ℕ) → unfit n m ≡ false → m ≡ packetLength n
+pub fit-long : (n m : ℕ) → unfit n m ≡ false → m ≡ packet_length n
 unfolding unfit
-fit-long n m e = eqb-true m (packetLength n) (true-not (neither e).1)
+fit-long n m e = eqb-true m (packet_length n) (true_not (neither e).1)
 
-pub fit_is : (n m : ℕ) → n ≤ 285 → m ≡ packetLength n → unfit n m ≡ false
+pub fit_is : (n m : ℕ) → n ≤ 285 → m ≡ packet_length n → unfit n m ≡ false
 unfolding unfit
-fit_is n m h e = or-false (le-ltb 285 n h) (not-true (eq-eqb m (packetLength n) e))
+fit_is n m h e = or_false (le-ltb 285 n h) (not-true (eq-eqb m (packet_length n) e))
 
 -- ---- writing
 
-pub write-refused : (h : Header) (ws s : List ℕ) → unfit (length ws) (length s) ≡ true → written_of 9 s ≡ writeCall h ws s
-unfolding writeCall
-write-refused h ws s e = sym (ap (λ (n : ℕ). written_by n h ws s) (first-true 9 _ [] e))
+pub write-refused : (h : Header) (ws s : List ℕ) → unfit (length ws) (length s) ≡ true → written_of 9 s ≡ write_call h ws s
+unfolding write_call
+write-refused h ws s e = sym (ap (λ (n : ℕ). written_by n h ws s) (first_true 9 _ [] e))
 
-pub written_all : (h : Header) (ws a b c d : List ℕ) (check : ℕ) → length a ≡ packetLength (length ws)
-    → Put a 0 (wordsBytes (headWords h (length ws))) b → Put b 56 (wordsBytes ws) c
-    → check ≡ crc32 (take (56 + 4 * length ws) c) → Put c (56 + 4 * length ws) (word_bytes check) d → d ≡ encodePacket h ws
-unfolding encodePacket body_of
+pub written_all : (h : Header) (ws a b c d : List ℕ) (check : ℕ) → length a ≡ packet_length (length ws)
+    → Put a 0 (words_bytes (head_words h (length ws))) b → Put b 56 (words_bytes ws) c
+    → check ≡ crc32 (take (56 + 4 * length ws) c) → Put c (56 + 4 * length ws) (word_bytes check) d → d ≡ encode_packet h ws
+unfolding encode_packet body_of
 written_all h ws a b c d check k p q e r =
     sym (take-length d) ∙ ap (λ (n : ℕ). take n d) ends ∙ r.front
     ∙ ap₂ (λ (x : List ℕ) (y : ℕ). x ++ word_bytes y) front (e ∙ ap crc32 front)
   where
     ends : length d ≡ 56 + 4 * length ws + length (word_bytes check)
-    ends = omega (arith, r.long, q.long, p.long, k, length-le check)
+    ends = omega (arith, r.long, q.long, p.long, k, length_le check)
 
-    both : wordsBytes (headWords h (length ws)) ++ wordsBytes ws ≡ body_of h ws
-    both = sym (les-append (headWords h (length ws)) ws)
+    both : words_bytes (head_words h (length ws)) ++ words_bytes ws ≡ body_of h ws
+    both = sym (les_append (head_words h (length ws)) ws)
 
-    body : Put a 0 (wordsBytes (headWords h (length ws)) ++ wordsBytes ws) c
-    body = put-join p (rw (length-les (headWords h (length ws))) q)
+    body : Put a 0 (words_bytes (head_words h (length ws)) ++ words_bytes ws) c
+    body = put_join p (rw (length_les (head_words h (length ws))) q)
 
-    long : 56 + 4 * length ws ≡ 0 + length (wordsBytes (headWords h (length ws)) ++ wordsBytes ws)
-    long = sym (ap length both ∙ length-body h ws) ∙ sym (zero-add _)
+    long : 56 + 4 * length ws ≡ 0 + length (words_bytes (head_words h (length ws)) ++ words_bytes ws)
+    long = sym (ap length both ∙ length_body h ws) ∙ sym (zero-add _)
 
     front : take (56 + 4 * length ws) c ≡ body_of h ws
     front = ap (λ (n : ℕ). take n c) long ∙ body.front ∙ both
 
-pub write_done : (h : Header) (ws a d : List ℕ) → unfit (length ws) (length a) ≡ false → d ≡ encodePacket h ws → written_of 0 d ≡ writeCall h ws a
-unfolding writeCall
-write_done h ws a d l e = ap (written_of 0) e ∙ sym (ap (λ (n : ℕ). written_by n h ws a) (first-false 9 _ [] l ∙ first-nil))
+pub write_done : (h : Header) (ws a d : List ℕ) → unfit (length ws) (length a) ≡ false → d ≡ encode_packet h ws → written_of 0 d ≡ write_call h ws a
+unfolding write_call
+write_done h ws a d l e = ap (written_of 0) e ∙ sym (ap (λ (n : ℕ). written_by n h ws a) (first_false 9 _ [] l ∙ first_nil))
 
 -- ---- damaged
 
 pub damaged-short : (p : List ℕ) → length p < 60 → true ≡ damaged p
 unfolding damaged unfit
-damaged-short p h = sym (or_left _ (or_right (ltb 285 (count_of p)) (not-false (ne_eqb (length p) (packetLength (count_of p)) (λ e. omega arith)))))
+damaged-short p h = sym (or_left _ (or_right (ltb 285 (count_of p)) (not-false (ne_eqb (length p) (packet_length (count_of p)) (λ e. omega arith)))))
 
 pub damaged-unfit : (p : List ℕ) (n : ℕ) → n ≡ count_of p → unfit n (length p) ≡ true → true ≡ damaged p
 unfolding damaged
@@ -117,7 +117,7 @@ damaged-check p n c w m t k l mw mm e f g =
 -- what is known of a packet that is not damaged
 pub record Whole (p : List ℕ) : Type 0 where
   pub short : count_of p ≤ 285
-  pub long : length p ≡ packetLength (count_of p)
+  pub long : length p ≡ packet_length (count_of p)
   pub first : word_at p 0 ≡ magic
   pub check : word_at p (14 + count_of p) ≡ crc32 (take (4 * (14 + count_of p)) p)
 
@@ -129,51 +129,51 @@ whole_is p d =
     record {
       short = fit-short (count_of p) (length p) a.0;
       long = fit-long (count_of p) (length p) a.0;
-      first = eqb-true (word_at p 0) magic (true-not b.0);
-      check = eqb-true (word_at p (14 + count_of p)) (crc32 (take (4 * (14 + count_of p)) p)) (true-not b.1);
+      first = eqb-true (word_at p 0) magic (true_not b.0);
+      check = eqb-true (word_at p (14 + count_of p)) (crc32 (take (4 * (14 + count_of p)) p)) (true_not b.1);
     }
 
 pub is_whole : (p : List ℕ) → Whole p → damaged p ≡ false
 unfolding damaged
 is_whole p w =
-    or-false (fit_is (count_of p) (length p) w.short w.long) (or-false (not-true (eq-eqb (word_at p 0) magic w.first))
+    or_false (fit_is (count_of p) (length p) w.short w.long) (or_false (not-true (eq-eqb (word_at p 0) magic w.first))
     (not-true (eq-eqb (word_at p (14 + count_of p)) (crc32 (take (4 * (14 + count_of p)) p)) w.check)))
 
 -- ---- stale
 
-pub stale-recipe : (p : List ℕ) (f n w : ℕ) → w ≡ doubleAt p 1 → (w ≡ f → ⊥) → true ≡ stale f n p
+pub stale-recipe : (p : List ℕ) (f n w : ℕ) → w ≡ double_at p 1 → (w ≡ f → ⊥) → true ≡ stale f n p
 unfolding stale
-stale-recipe p f n w k h = sym (or_left _ (not-false (ne_eqb (doubleAt p 1) f (λ e. h (k ∙ e)))))
+stale-recipe p f n w k h = sym (or_left _ (not-false (ne_eqb (double_at p 1) f (λ e. h (k ∙ e)))))
 
 -- the run alone is left to be tested
-pub stale-run : (p : List ℕ) (f n v w : ℕ) (t : Bool) → v ≡ doubleAt p 1 → v ≡ f → w ≡ doubleAt p 3 → t ≡ mathlib.Core.Bool.not (eqb w n) → t ≡ stale f n p
+pub stale-run : (p : List ℕ) (f n v w : ℕ) (t : Bool) → v ≡ double_at p 1 → v ≡ f → w ≡ double_at p 3 → t ≡ mathlib.Core.Bool.not (eqb w n) → t ≡ stale f n p
 unfolding stale ◌or◌
 stale-run p f n v w t k h l g =
     g ∙ not_same _ ∙ ap (λ (x : ℕ). not (eqb x n)) l
-    ∙ sym (ap (λ (b : Bool). b or not (eqb (doubleAt p 3) n)) (not-true (eq-eqb (doubleAt p 1) f (sym k ∙ h))))
+    ∙ sym (ap (λ (b : Bool). b or not (eqb (double_at p 3) n)) (not-true (eq-eqb (double_at p 1) f (sym k ∙ h))))
 
 -- ---- reading: the number
 
 module _ (f n : ℕ) (p : List ℕ) (room : ℕ) where
-  pub number-damaged : damaged p ≡ true → 26 ≡ first_of (readLines f n p room)
-  number-damaged d = sym (first-true 26 _ _ d)
+  pub number-damaged : damaged p ≡ true → 26 ≡ first_of (read_lines f n p room)
+  number-damaged d = sym (first_true 26 _ _ d)
 
-  pub number-stale : damaged p ≡ false → stale f n p ≡ true → 27 ≡ first_of (readLines f n p room)
-  number-stale d e = sym (first-false 26 _ _ d ∙ first-true 27 _ _ e)
+  pub number-stale : damaged p ≡ false → stale f n p ≡ true → 27 ≡ first_of (read_lines f n p room)
+  number-stale d e = sym (first_false 26 _ _ d ∙ first_true 27 _ _ e)
 
-  pub number_short : damaged p ≡ false → stale f n p ≡ false → room < count_of p → 9 ≡ first_of (readLines f n p room)
-  number_short d e h = sym (first-false 26 _ _ d ∙ first-false 27 _ _ e ∙ first-true 9 _ _ (lt-ltb room (count_of p) h))
+  pub number_short : damaged p ≡ false → stale f n p ≡ false → room < count_of p → 9 ≡ first_of (read_lines f n p room)
+  number_short d e h = sym (first_false 26 _ _ d ∙ first_false 27 _ _ e ∙ first_true 9 _ _ (lt-ltb room (count_of p) h))
 
-  pub number-none : damaged p ≡ false → stale f n p ≡ false → count_of p ≤ room → 0 ≡ first_of (readLines f n p room)
-  number-none d e h =
-      sym (first-false 26 _ _ d ∙ first-false 27 _ _ e ∙ first-false 9 _ _ (le-ltb room (count_of p) h) ∙ first-nil)
+  pub number_none : damaged p ≡ false → stale f n p ≡ false → count_of p ≤ room → 0 ≡ first_of (read_lines f n p room)
+  number_none d e h =
+      sym (first_false 26 _ _ d ∙ first_false 27 _ _ e ∙ first_false 9 _ _ (le-ltb room (count_of p) h) ∙ first_nil)
 
 -- what is known where no line is true
 pub record Readable (p : List ℕ) (room : ℕ) : Type 0 where
   pub whole : Whole p
   pub fits : count_of p ≤ room
 
-pub readable : (f n : ℕ) (p : List ℕ) (room : ℕ) → first_of (readLines f n p room) ≡ 0 → Readable p room
+pub readable : (f n : ℕ) (p : List ℕ) (room : ℕ) → first_of (read_lines f n p room) ≡ 0 → Readable p room
 readable f n p room z =
     let d = none_first 26 (damaged p) (line 27 (stale f n p) ∷ line 9 (ltb room (count_of p)) ∷ []) (λ q. omega arith) z in
     let s = none_first 27 (stale f n p) (line 9 (ltb room (count_of p)) ∷ []) (λ q. omega arith) d.1 in
@@ -197,20 +197,20 @@ refused-made zero p ws y = absurd (y refl)
 refused-made (suc x) p ws y = refl
 
 pub refused_as : (r : Reading) (f n : ℕ) (p ws : List ℕ) (k : ℕ) → (r.number ≡ k) × (r.header ≡ no_header) × (r.count ≡ 0)
-    → k ≡ first_of (readLines f n p (length ws)) → (k ≡ 0 → ⊥) → read_of r ws ≡ readCall f n p ws
-unfolding readCall made
+    → k ≡ first_of (read_lines f n p (length ws)) → (k ≡ 0 → ⊥) → read_of r ws ≡ read_call f n p ws
+unfolding read_call made
 refused_as r f n p ws k is e z = made-same is.0 is.1 is.2 refl ∙ refused-made k p ws z ∙ ap (λ (x : ℕ). read_by x p ws) e
 
-pub read_all : (f n : ℕ) (p ws out : List ℕ) (h : Header) (count k : ℕ) → 0 ≡ first_of (readLines f n p (length ws))
-    → h ≡ headerOf p → count ≡ count_of p → k ≡ count → out ≡ tabulate (λ i. word_at p (14 + i)) k ++ drop k ws
-    → made 0 h count out ≡ readCall f n p ws
-unfolding readCall made words_of
+pub read_all : (f n : ℕ) (p ws out : List ℕ) (h : Header) (count k : ℕ) → 0 ≡ first_of (read_lines f n p (length ws))
+    → h ≡ header_of p → count ≡ count_of p → k ≡ count → out ≡ tabulate (λ i. word_at p (14 + i)) k ++ drop k ws
+    → made 0 h count out ≡ read_call f n p ws
+unfolding read_call made words_of
 read_all f n p ws out h count k z eh ec ek eo =
     made-same refl eh ec (eo ∙ ap (λ (x : ℕ). tabulate (λ i. word_at p (14 + i)) x ++ drop x ws) (ek ∙ ec)) ∙ ap (λ (x : ℕ). read_by x p ws) z
 
 -- two words side by side
-pub double-words : (p : List ℕ) (i a b r : ℕ) → a ≡ word p (4 * i) → b ≡ word p (4 * i + 4) → r ≡ a + 2 ^ 32 * b → r ≡ doubleAt p i
-unfolding doubleAt word_at
+pub double-words : (p : List ℕ) (i a b r : ℕ) → a ≡ word p (4 * i) → b ≡ word p (4 * i + 4) → r ≡ a + 2 ^ 32 * b → r ≡ double_at p i
+unfolding double_at word_at
 double-words p i a b r ea eb e =
     e ∙ ap₂ (λ (x y : ℕ). x + 2 ^ 32 * y) ea (eb ∙ ap (word p) (let k : 4 * i + 4 ≡ 4 * (i + 1) = omega arith in k))
 
@@ -223,16 +223,16 @@ pub count_at : (p : List ℕ) (w : ℕ) → w ≡ word p 52 → w ≡ count_of p
 unfolding word_at
 count_at p w e = e
 
-pub first-at : (p : List ℕ) (w : ℕ) → w ≡ word p 0 → w ≡ word_at p 0
+pub first_at : (p : List ℕ) (w : ℕ) → w ≡ word p 0 → w ≡ word_at p 0
 unfolding word_at
-first-at p w e = e
+first_at p w e = e
 
 abbrev pub headerFrom : ℕ → ℕ → ℕ → ℕ → ℕ → ℕ → ℕ → ℕ → ℕ → Header
 headerFrom a b c d e f g h i =
     record { fingerprint = a; run = b; life = c; kind = d; sender = e; taker = f; item = g; chunk = h; chunks = i }
 
-pub header-fields : (p : List ℕ) (a b c d e f g h i : ℕ) → a ≡ doubleAt p 1 → b ≡ doubleAt p 3 → c ≡ doubleAt p 5
+pub header-fields : (p : List ℕ) (a b c d e f g h i : ℕ) → a ≡ double_at p 1 → b ≡ double_at p 3 → c ≡ double_at p 5
     → d ≡ word p 28 → e ≡ word p 32 → f ≡ word p 36 → g ≡ word p 40 → h ≡ word p 44 → i ≡ word p 48
-    → headerFrom a b c d e f g h i ≡ headerOf p
-unfolding headerOf word_at
+    → headerFrom a b c d e f g h i ≡ header_of p
+unfolding header_of word_at
 header-fields p a b c d e f g h i ea eb ec ed ee ef eg eh ei = rw (ea, eb, ec, ed, ee, ef, eg, eh, ei)

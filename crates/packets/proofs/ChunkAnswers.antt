@@ -16,22 +16,22 @@ use lib.Bits.{bit_or}
 use Rattle.base.specs.Tests.{◌and◌, not, pick, one, every}
 use Rattle.base.specs.Lists.{sublist, put}
 use Rattle.base.specs.Numbers.{Line, line, first_of}
-use Rattle.base.proofs.Tests.{both, and-true, and-false, and_no, not-false, every_more, every-not}
-use Rattle.base.proofs.Numbers.{first-true, first-false, none_first}
-use Rattle.packets.specs.Cut.{chunksOf, Chunk, chunk_of, Assembly, assembly, there, complete, chunkLength, fits, placed, takeLines, Taking}
-use Rattle.packets.specs.Cut.{takingBy, takeChunkCall, takingOf}
+use Rattle.base.proofs.Tests.{both, and_true, and_false, and_no, not-false, every_more, every_not}
+use Rattle.base.proofs.Numbers.{first_true, first_false, none_first}
+use Rattle.packets.specs.Cut.{chunks_of, Chunk, chunk_of, Assembly, assembly, there, complete, chunk_length, fits, placed, take_lines, Taking}
+use Rattle.packets.specs.Cut.{taking_by, take_chunk_call, taking_of}
 use Rattle.packets.specs.declared.chunks.Taken.{Taken}
-use Rattle.packets.proofs.Assembling.{few, ends, placed-again, fits_below, no_line, no_lines}
+use Rattle.packets.proofs.Assembling.{few, ends, placed_again, fits_below, no_line, no_lines}
 
 -- ---- how many
 
-pub chunks-none : (n : ℕ) → n ≡ 0 → 1 ≡ chunksOf n
-unfolding chunksOf
-chunks-none n e = sym (ap (λ (x : ℕ). suc ((x - 1) / 285)) e)
+pub chunks_none : (n : ℕ) → n ≡ 0 → 1 ≡ chunks_of n
+unfolding chunks_of
+chunks_none n e = sym (ap (λ (x : ℕ). suc ((x - 1) / 285)) e)
 
-pub chunks-some : (n : ℕ) → (n - 1) / 285 + 1 ≡ chunksOf n
-unfolding chunksOf
-chunks-some n = add-one ((n - 1) / 285)
+pub chunks_some : (n : ℕ) → (n - 1) / 285 + 1 ≡ chunks_of n
+unfolding chunks_of
+chunks_some n = add-one ((n - 1) / 285)
 
 -- ---- bits
 
@@ -42,60 +42,60 @@ pub not_there : (t : Bool) → mathlib.Core.Bool.not t ≡ true → t ≡ false
 not_there true e = sym e
 not_there false e = refl
 
-pub is-there : (t : Bool) → mathlib.Core.Bool.not t ≡ false → t ≡ true
-is-there true e = refl
-is-there false e = sym e
+pub is_there : (t : Bool) → mathlib.Core.Bool.not t ≡ false → t ≡ true
+is_there true e = refl
+is_there false e = sym e
 
 -- ---- the number
 
 module _ (c : Chunk) (n : ℕ) where
-  pub number-long : 18240 < n → 9 ≡ first_of (takeLines c n)
-  number-long h = sym (first-true 9 _ _ (lt-ltb 18240 n h))
+  pub number_long : 18240 < n → 9 ≡ first_of (take_lines c n)
+  number_long h = sym (first_true 9 _ _ (lt-ltb 18240 n h))
 
-  number-misfit : n ≤ 18240 → fits n c ≡ false → 11 ≡ first_of (takeLines c n)
-  number-misfit h e = sym (first-false 9 _ _ (le-ltb 18240 n h) ∙ first-true 11 _ _ (not-false e))
+  number_misfit : n ≤ 18240 → fits n c ≡ false → 11 ≡ first_of (take_lines c n)
+  number_misfit h e = sym (first_false 9 _ _ (le-ltb 18240 n h) ∙ first_true 11 _ _ (not-false e))
 
-  pub number-chunks : n ≤ 18240 → (c.chunks ≡ chunksOf n → ⊥) → 11 ≡ first_of (takeLines c n)
+  pub number_chunks : n ≤ 18240 → (c.chunks ≡ chunks_of n → ⊥) → 11 ≡ first_of (take_lines c n)
   unfolding fits
-  number-chunks h k = number-misfit h (and-false _ _ (ne_eqb c.chunks (chunksOf n) k))
+  number_chunks h k = number_misfit h (and_false _ _ (ne_eqb c.chunks (chunks_of n) k))
 
-  pub number-chunk : n ≤ 18240 → chunksOf n ≤ c.chunk → 11 ≡ first_of (takeLines c n)
+  pub number_chunk : n ≤ 18240 → chunks_of n ≤ c.chunk → 11 ≡ first_of (take_lines c n)
   unfolding fits
-  number-chunk h k = number-misfit h (and_no (eqb c.chunks (chunksOf n)) _ (and-false _ _ (le-ltb c.chunk (chunksOf n) k)))
+  number_chunk h k = number_misfit h (and_no (eqb c.chunks (chunks_of n)) _ (and_false _ _ (le-ltb c.chunk (chunks_of n) k)))
 
-  pub number-count : n ≤ 18240 → (length c.words ≡ chunkLength n c.chunk → ⊥) → 11 ≡ first_of (takeLines c n)
+  pub number_count : n ≤ 18240 → (length c.words ≡ chunk_length n c.chunk → ⊥) → 11 ≡ first_of (take_lines c n)
   unfolding fits
-  number-count h k =
-      number-misfit h (and_no (eqb c.chunks (chunksOf n)) _
-      (and_no (ltb c.chunk (chunksOf n)) _ (ne_eqb (length c.words) (chunkLength n c.chunk) k)))
+  number_count h k =
+      number_misfit h (and_no (eqb c.chunks (chunks_of n)) _
+      (and_no (ltb c.chunk (chunks_of n)) _ (ne_eqb (length c.words) (chunk_length n c.chunk) k)))
 
-  pub number-none : n ≤ 18240 → c.chunks ≡ chunksOf n → c.chunk < chunksOf n → length c.words ≡ chunkLength n c.chunk
-      → 0 ≡ first_of (takeLines c n)
+  pub number_none : n ≤ 18240 → c.chunks ≡ chunks_of n → c.chunk < chunks_of n → length c.words ≡ chunk_length n c.chunk
+      → 0 ≡ first_of (take_lines c n)
   unfolding fits
-  number-none h e l k =
+  number_none h e l k =
       sym (no_lines c n h
-      (and-true (eq-eqb c.chunks (chunksOf n) e) (and-true (lt-ltb c.chunk (chunksOf n) l)
-      (eq-eqb (length c.words) (chunkLength n c.chunk) k))))
+      (and_true (eq-eqb c.chunks (chunks_of n) e) (and_true (lt-ltb c.chunk (chunks_of n) l)
+      (eq-eqb (length c.words) (chunk_length n c.chunk) k))))
 
 -- what is known where no line is true
 pub record Fitting (c : Chunk) (n : ℕ) : Type 0 where
-  pub chunks : c.chunks ≡ chunksOf n
-  pub few-chunks : c.chunks ≤ 64
+  pub chunks : c.chunks ≡ chunks_of n
+  pub few_chunks : c.chunks ≤ 64
   pub low : c.chunk < 64
   pub room : c.chunk * 285 + length c.words ≤ n
 
-pub fitting : (c : Chunk) (n : ℕ) → first_of (takeLines c n) ≡ 0 → Fitting c n
+pub fitting : (c : Chunk) (n : ℕ) → first_of (take_lines c n) ≡ 0 → Fitting c n
 unfolding fits
 fitting c n z =
     let d = none_first 9 (ltb 18240 n) (line 11 (not (fits n c)) ∷ []) (λ q. omega arith) z in
     let h : n ≤ 18240 = ltb-false 18240 n d.0 in
     let f = both (no_line c n z) in
     let below = fits_below n c (no_line c n z) in
-    let same : c.chunks ≡ chunksOf n = eqb-true c.chunks (chunksOf n) f.0 in
-    let long : length c.words ≡ chunkLength n c.chunk = eqb-true (length c.words) (chunkLength n c.chunk) (both f.1).1 in
+    let same : c.chunks ≡ chunks_of n = eqb-true c.chunks (chunks_of n) f.0 in
+    let long : length c.words ≡ chunk_length n c.chunk = eqb-true (length c.words) (chunk_length n c.chunk) (both f.1).1 in
     record {
       chunks = same;
-      few-chunks = omega (arith, same, few n h);
+      few_chunks = omega (arith, same, few n h);
       low = omega (arith, below, few n h);
       room = omega (arith, long, ends n c.chunk below);
     }
@@ -103,42 +103,42 @@ fitting c n z =
 -- ---- placed
 
 pub placed_same : (k : ℕ) (ws area : List ℕ) (mask : ℕ) → there mask k ≡ true → assembly area mask ≡ placed k ws (assembly area mask)
-placed_same k ws area mask e = sym (placed-again k ws (assembly area mask) e)
+placed_same k ws area mask e = sym (placed_again k ws (assembly area mask) e)
 
-pub placed-new : (k a : ℕ) (ws area out : List ℕ) (mask r : ℕ) → there mask k ≡ false → a ≡ k → out ≡ put area (a * 285) (sublist ws 0 (length ws))
+pub placed_new : (k a : ℕ) (ws area out : List ℕ) (mask r : ℕ) → there mask k ≡ false → a ≡ k → out ≡ put area (a * 285) (sublist ws 0 (length ws))
     → r ≡ bit_or mask (2 ^ k) → assembly out r ≡ placed k ws (assembly area mask)
 unfolding placed pick sublist
-placed-new k a ws area out mask r e ea eo er =
+placed_new k a ws area out mask r e ea eo er =
     ap₂ assembly (eo ∙ ap₂ (λ (x : ℕ) (l : List ℕ). put area (x * 285) l) ea (take-length ws)) er
     ∙ sym (ap (λ (t : Bool). pick t (assembly area mask) (assembly (put area (k * 285) ws) (bit_or mask (2 ^ k)))) e)
 
 -- ---- taken in
 
 module _ (c : Chunk) (area : List ℕ) (mask : ℕ) where
-  pub taken_refused : (n : ℕ) → n ≡ first_of (takeLines c (length area)) → (n ≡ 0 → ⊥)
-      → takingOf (record { number = n; whole = 0; mask = mask }) area ≡ takeChunkCall c (assembly area mask)
-  unfolding takeChunkCall
-  taken_refused n e h = go n h ∙ ap (λ (x : ℕ). takingBy x c (assembly area mask)) e
+  pub taken_refused : (n : ℕ) → n ≡ first_of (take_lines c (length area)) → (n ≡ 0 → ⊥)
+      → taking_of (record { number = n; whole = 0; mask = mask }) area ≡ take_chunk_call c (assembly area mask)
+  unfolding take_chunk_call
+  taken_refused n e h = go n h ∙ ap (λ (x : ℕ). taking_by x c (assembly area mask)) e
     where
-      go : (x : ℕ) → (x ≡ 0 → ⊥) → takingOf (record { number = x; whole = 0; mask = mask }) area ≡ takingBy x c (assembly area mask)
+      go : (x : ℕ) → (x ≡ 0 → ⊥) → taking_of (record { number = x; whole = 0; mask = mask }) area ≡ taking_by x c (assembly area mask)
       go zero k = absurd (k refl)
       go (suc x) k = refl
 
-  pub taken-done : (out : List ℕ) (now w : ℕ) (t : Bool) → 0 ≡ first_of (takeLines c (length area))
+  pub taken_done : (out : List ℕ) (now w : ℕ) (t : Bool) → 0 ≡ first_of (take_lines c (length area))
       → assembly out now ≡ placed c.chunk c.words (assembly area mask) → t ≡ complete c.chunks now → w ≡ one t
-      → takingOf (record { number = 0; whole = w; mask = now }) out ≡ takeChunkCall c (assembly area mask)
-  unfolding takeChunkCall
-  taken-done out now w t z e et ew =
+      → taking_of (record { number = 0; whole = w; mask = now }) out ≡ take_chunk_call c (assembly area mask)
+  unfolding take_chunk_call
+  taken_done out now w t z e et ew =
       ap₂ (λ (x : ℕ) (a : Assembly). taking x a)
       (ew ∙ ap one (et ∙ ap (λ (a : Assembly). complete c.chunks a.mask) e)) e
-      ∙ ap (λ (x : ℕ). takingBy x c (assembly area mask)) z
+      ∙ ap (λ (x : ℕ). taking_by x c (assembly area mask)) z
     where
       taking : ℕ → Assembly → Taking
       taking x a = record { number = 0; whole = x; after = a }
 
-pub some-missing : (mask n k : ℕ) → k < n → there mask k ≡ false → false ≡ complete n mask
+pub some_missing : (mask n k : ℕ) → k < n → there mask k ≡ false → false ≡ complete n mask
 unfolding complete
-some-missing mask n k h e = sym (every-not (there mask) n k h e)
+some_missing mask n k h e = sym (every_not (there mask) n k h e)
 
 pub one_more : (mask k : ℕ) → every (there mask) k ≡ true → there mask k ≡ true → every (there mask) (k + 1) ≡ true
 one_more mask k e f = rw (add-one k) (every_more (there mask) k e f)

@@ -5,28 +5,28 @@ use mathlib.Core.List.{List, [], ◌∷◌}
 use lib.ListN.{take}
 use Rattle.base.specs.Tests.{◌or◌, not, pick, tabulate}
 use Rattle.base.specs.Numbers.{first_of}
-use Rattle.packets.specs.Crc.{shift, shifts, feed, feedAll, crc32}
-use Rattle.packets.specs.Fingerprint.{mix, mixAll, fnv1a, fingerprintOf}
-use Rattle.packets.specs.Packet.{word_bytes, wordsBytes, body_of, encodePacket, word_at, doubleAt, headerOf, words_of, unfit, damaged, stale, decodePacket}
+use Rattle.packets.specs.Crc.{shift, shifts, feed, feed_all, crc32}
+use Rattle.packets.specs.Fingerprint.{mix, mix_all, fnv1a, fingerprint_of}
+use Rattle.packets.specs.Packet.{word_bytes, words_bytes, body_of, encode_packet, word_at, double_at, header_of, words_of, unfit, damaged, stale, decode_packet}
 use Rattle.packets.specs.Examples.{Marks, Written, Refused}
 
 pub marks : Marks
-unfolding shift shifts feed feedAll crc32 mix mixAll fnv1a fingerprintOf word_bytes
-marks = record { nine-digits = refl; foobar = refl; direct = refl; indirect = refl }
+unfolding shift shifts feed feed_all crc32 mix mix_all fnv1a fingerprint_of word_bytes
+marks = record { nine_digits = refl; foobar = refl; direct = refl; indirect = refl }
 
 pub written : Written
-unfolding shift shifts feed feedAll crc32 word_bytes wordsBytes body_of encodePacket
+unfolding shift shifts feed feed_all crc32 word_bytes words_bytes body_of encode_packet
 written = record { written = refl }
 
 pub refused : Refused
-unfolding shift shifts feed feedAll crc32 word_at doubleAt headerOf words_of unfit damaged stale decodePacket first_of pick tabulate ◌or◌ not
+unfolding shift shifts feed feed_all crc32 word_at double_at header_of words_of unfit damaged stale decode_packet first_of pick tabulate ◌or◌ not
 refused =
     record {
       read_back = refl;
-      other-run = refl;
-      other-recipe = refl;
+      other_run = refl;
+      other_recipe = refl;
       one_bit = refl;
       cut_short = refl;
-      other-version = refl;
+      other_version = refl;
       no_bytes = refl;
     }

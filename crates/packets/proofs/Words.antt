@@ -10,9 +10,9 @@ use lib.Seq.{take-suc, get_or-append-add, ext_get_or}
 use lib.Arith.{digits_mod, digits_div}
 use Rattle.base.specs.Tests.{tabulate}
 use Rattle.base.specs.Lists.{Bytes}
-use Rattle.base.proofs.Tests.{length-tabulate, tabulate-at, tabulate-same}
-use Rattle.packets.specs.Packet.{word_bytes, wordsBytes, word_at, Words}
-use Rattle.packets.proofs.Bytes.{les-append, les-one, length-le, length-les}
+use Rattle.base.proofs.Tests.{length_tabulate, tabulate_at, tabulate_same}
+use Rattle.packets.specs.Packet.{word_bytes, words_bytes, word_at, Words}
+use Rattle.packets.proofs.Bytes.{les_append, les_one, length_le, length_les}
 
 -- ---- of words written as bytes
 
@@ -27,39 +27,39 @@ digits w h =
     omega (arith, a, b, c, d, e, f)
 
 -- a word by its four bytes
-pub word-four : (p : List ℕ) (i : ℕ)
+pub word_four : (p : List ℕ) (i : ℕ)
     → word_at p i ≡ get_or p (4 * i) 0 + 256 * get_or p (4 * i + 1) 0 + 65536 * get_or p (4 * i + 2) 0 + 16777216 * get_or p (4 * i + 3) 0
 unfolding word_at
-word-four p i =
+word_four p i =
     let e : get_or p (4 * i + 2 + 1) 0 ≡ get_or p (4 * i + 3) 0 = ap (λ (k : ℕ). get_or p k 0) (omega arith) in
     omega (arith, e)
 
-word-le : (w : ℕ) (rest : List ℕ) → w < 2 ^ 32 → word_at (word_bytes w ++ rest) 0 ≡ w
+word_le : (w : ℕ) (rest : List ℕ) → w < 2 ^ 32 → word_at (word_bytes w ++ rest) 0 ≡ w
 unfolding word_bytes
-word-le w rest h = word-four (word_bytes w ++ rest) 0 ∙ digits w h
+word_le w rest h = word_four (word_bytes w ++ rest) 0 ∙ digits w h
 
-next-byte : (w : ℕ) (rest : List ℕ) (n m : ℕ) → m ≡ 4 + n → get_or (word_bytes w ++ rest) m 0 ≡ get_or rest n 0
-next-byte w rest n m e =
-    ap (λ (k : ℕ). get_or (word_bytes w ++ rest) k 0) (let f = length-le w in let g : m ≡ length (word_bytes w) + n = omega arith in g)
+next_byte : (w : ℕ) (rest : List ℕ) (n m : ℕ) → m ≡ 4 + n → get_or (word_bytes w ++ rest) m 0 ≡ get_or rest n 0
+next_byte w rest n m e =
+    ap (λ (k : ℕ). get_or (word_bytes w ++ rest) k 0) (let f = length_le w in let g : m ≡ length (word_bytes w) + n = omega arith in g)
     ∙ get_or-append-add (word_bytes w) rest n 0
 
 word_next : (w : ℕ) (rest : List ℕ) (i : ℕ) → word_at (word_bytes w ++ rest) (suc i) ≡ word_at rest i
 word_next w rest i =
-    word-four (word_bytes w ++ rest) (suc i)
+    word_four (word_bytes w ++ rest) (suc i)
     ∙ rw (
-      next-byte w rest (4 * i) (4 * suc i) (omega arith),
-      next-byte w rest (4 * i + 1) (4 * suc i + 1) (omega arith),
-      next-byte w rest (4 * i + 2) (4 * suc i + 2) (omega arith),
-      next-byte w rest (4 * i + 3) (4 * suc i + 3) (omega arith),
-    ) (sym (word-four rest i))
+      next_byte w rest (4 * i) (4 * suc i) (omega arith),
+      next_byte w rest (4 * i + 1) (4 * suc i + 1) (omega arith),
+      next_byte w rest (4 * i + 2) (4 * suc i + 2) (omega arith),
+      next_byte w rest (4 * i + 3) (4 * suc i + 3) (omega arith),
+    ) (sym (word_four rest i))
 
-pub word-les : (ws rest : List ℕ) (i : ℕ) → Words ws → i < length ws → word_at (wordsBytes ws ++ rest) i ≡ get_or ws i 0
-unfolding wordsBytes
-word-les [] rest i f h = absurd (omega arith)
-word-les (w ∷ ws) rest zero f h = rw (append_assoc (word_bytes w) (wordsBytes ws) rest) (word-le w (wordsBytes ws ++ rest) (f 0))
-word-les (w ∷ ws) rest (suc i) f h =
-    rw (append_assoc (word_bytes w) (wordsBytes ws) rest)
-    (word_next w (wordsBytes ws ++ rest) i ∙ word-les ws rest i (λ j. f (suc j)) (le_of_suc-le-suc h))
+pub word_les : (ws rest : List ℕ) (i : ℕ) → Words ws → i < length ws → word_at (words_bytes ws ++ rest) i ≡ get_or ws i 0
+unfolding words_bytes
+word_les [] rest i f h = absurd (omega arith)
+word_les (w ∷ ws) rest zero f h = rw (append_assoc (word_bytes w) (words_bytes ws) rest) (word_le w (words_bytes ws ++ rest) (f 0))
+word_les (w ∷ ws) rest (suc i) f h =
+    rw (append_assoc (word_bytes w) (words_bytes ws) rest)
+    (word_next w (words_bytes ws ++ rest) i ∙ word_les ws rest i (λ j. f (suc j)) (le_of_suc-le-suc h))
 
 -- ---- of bytes
 
@@ -95,33 +95,33 @@ bytes_le a b c d ha hb hc hd = rw (n0, n1, n2, n3)
 one_more : (p : List ℕ) (m n : ℕ) → m ≡ suc n → n < length p → take m p ≡ take n p ++ (get_or p n 0 ∷ [])
 one_more p m n e h = ap (λ (k : ℕ). take k p) e ∙ take-suc p n 0 h
 
-take-word : (p : List ℕ) (n : ℕ) → Bytes p → 4 * suc n ≤ length p → take (4 * suc n) p ≡ take (4 * n) p ++ word_bytes (word_at p n)
-take-word p n f h =
+take_word : (p : List ℕ) (n : ℕ) → Bytes p → 4 * suc n ≤ length p → take (4 * suc n) p ≡ take (4 * n) p ++ word_bytes (word_at p n)
+take_word p n f h =
     one_more p (4 * suc n) (4 * n + 3) (omega arith) (omega arith)
     ∙ ap (λ (l : List ℕ). l ++ (get_or p (4 * n + 3) 0 ∷ [])) (one_more p (4 * n + 3) (4 * n + 2) (omega arith) (omega arith)
     ∙ ap (λ (l : List ℕ). l ++ (get_or p (4 * n + 2) 0 ∷ [])) (one_more p (4 * n + 2) (4 * n + 1) (omega arith) (omega arith)
     ∙ ap (λ (l : List ℕ). l ++ (get_or p (4 * n + 1) 0 ∷ [])) (one_more p (4 * n + 1) (4 * n) (omega arith) (omega arith))))
     ∙ simp append_assoc
-    (ap (λ (l : List ℕ). take (4 * n) p ++ l) (sym (ap word_bytes (word-four p n)
+    (ap (λ (l : List ℕ). take (4 * n) p ++ l) (sym (ap word_bytes (word_four p n)
     ∙ bytes_le (get_or p (4 * n) 0) (get_or p (4 * n + 1) 0) (get_or p (4 * n + 2) 0) (get_or p (4 * n + 3) 0)
     (f (4 * n)) (f (4 * n + 1)) (f (4 * n + 2)) (f (4 * n + 3)))))
 
-pub les-words : (p : List ℕ) (n : ℕ) → Bytes p → 4 * n ≤ length p → wordsBytes (tabulate (word_at p) n) ≡ take (4 * n) p
-unfolding tabulate wordsBytes
-les-words p zero f h = refl
-les-words p (suc n) f h =
-    les-append (tabulate (word_at p) n) (word_at p n ∷ []) ∙ ap₂ (λ (x y : List ℕ). x ++ y) (les-words p n f (omega arith)) (les-one (word_at p n))
-    ∙ sym (take-word p n f h)
+pub les_words : (p : List ℕ) (n : ℕ) → Bytes p → 4 * n ≤ length p → words_bytes (tabulate (word_at p) n) ≡ take (4 * n) p
+unfolding tabulate words_bytes
+les_words p zero f h = refl
+les_words p (suc n) f h =
+    les_append (tabulate (word_at p) n) (word_at p n ∷ []) ∙ ap₂ (λ (x y : List ℕ). x ++ y) (les_words p n f (omega arith)) (les_one (word_at p n))
+    ∙ sym (take_word p n f h)
 
 -- ---- tables of words
 
-pub tabulate-add : (f : ℕ → ℕ) (k n : ℕ) → tabulate f (k + n) ≡ tabulate f k ++ tabulate (λ i. f (k + i)) n
+pub tabulate_add : (f : ℕ → ℕ) (k n : ℕ) → tabulate f (k + n) ≡ tabulate f k ++ tabulate (λ i. f (k + i)) n
 unfolding tabulate
-tabulate-add f k zero = rw (add-zero k) (sym (append-nil (tabulate f k)))
-tabulate-add f k (suc n) =
-    rw (native.Mathlib.Nat.add-suc k n, tabulate-add f k n) (append_assoc (tabulate f k) (tabulate (λ i. f (k + i)) n) (f (k + n) ∷ []))
+tabulate_add f k zero = rw (add-zero k) (sym (append-nil (tabulate f k)))
+tabulate_add f k (suc n) =
+    rw (native.Mathlib.Nat.add-suc k n, tabulate_add f k n) (append_assoc (tabulate f k) (tabulate (λ i. f (k + i)) n) (f (k + n) ∷ []))
 
-pub tabulate-list : (l : List ℕ) → tabulate (λ i. get_or l i 0) (length l) ≡ l
-tabulate-list l =
-    ext_get_or 0 (tabulate (λ i. get_or l i 0) (length l)) l (length-tabulate _ (length l))
-    (λ i h. tabulate-at (λ j. get_or l j 0) (length l) i (rw (length-tabulate (λ j. get_or l j 0) (length l)) at h))
+pub tabulate_list : (l : List ℕ) → tabulate (λ i. get_or l i 0) (length l) ≡ l
+tabulate_list l =
+    ext_get_or 0 (tabulate (λ i. get_or l i 0) (length l)) l (length_tabulate _ (length l))
+    (λ i h. tabulate_at (λ j. get_or l j 0) (length l) i (rw (length_tabulate (λ j. get_or l j 0) (length l)) at h))

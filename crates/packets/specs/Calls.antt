@@ -3,7 +3,7 @@
 -- 9 is document 01's, "Numbers a call gives".
 use Rattle.std.specs.Prelude.{◌≡◌, ℕ, zero, suc, ◌+◌, List, [], ◌∷◌, ◌++◌, length, take, drop, ltb}
 use Rattle.base.specs.Numbers.{Line, line, first_of}
-use Rattle.packets.specs.Packet.{encodePacket, count_of, headerOf, words_of, unfit, decodeLines}
+use Rattle.packets.specs.Packet.{encode_packet, count_of, header_of, words_of, unfit, decode_lines}
 use Rattle.packets.specs.declared.Header.{Header}
 use Rattle.packets.specs.declared.Reading.{Reading}
 
@@ -16,15 +16,15 @@ pub record Written : Type 0 where
 abbrev pub written_of : ℕ → List ℕ → Written
 written_of n s = record { number = n; space = s }
 
-abbrev pub writeLines : List ℕ → List ℕ → List Line
-writeLines words space = line 9 (unfit (length words) (length space)) ∷ []
+abbrev pub write_lines : List ℕ → List ℕ → List Line
+write_lines words space = line 9 (unfit (length words) (length space)) ∷ []
 
 abbrev pub written_by : ℕ → Header → List ℕ → List ℕ → Written
-written_by zero h words space = written_of 0 (encodePacket h words)
+written_by zero h words space = written_of 0 (encode_packet h words)
 written_by (suc n) h words space = written_of (suc n) space
 
-unfoldable pub writeCall : Header → List ℕ → List ℕ → Written
-writeCall h words space = written_by (first_of (writeLines words space)) h words space
+unfoldable pub write_call : Header → List ℕ → List ℕ → Written
+write_call h words space = written_by (first_of (write_lines words space)) h words space
 
 -- ---- reading: 26, 27, and 9 where there is no space for the packet's words. Words are written at 0 only, from the first place on
 
@@ -42,15 +42,15 @@ abbrev pub read_of : Reading → List ℕ → Read
 read_of r ws = record { number = r.number; header = r.header; count = r.count; words = ws }
 
 -- with space for so many words
-abbrev pub readLines : ℕ → ℕ → List ℕ → ℕ → List Line
-readLines fingerprint run p room = decodeLines fingerprint run p ++ (line 9 (ltb room (count_of p)) ∷ [])
+abbrev pub read_lines : ℕ → ℕ → List ℕ → ℕ → List Line
+read_lines fingerprint run p room = decode_lines fingerprint run p ++ (line 9 (ltb room (count_of p)) ∷ [])
 
 abbrev pub read_by : ℕ → List ℕ → List ℕ → Read
-read_by zero p words = record { number = 0; header = headerOf p; count = count_of p; words = words_of p ++ drop (count_of p) words }
+read_by zero p words = record { number = 0; header = header_of p; count = count_of p; words = words_of p ++ drop (count_of p) words }
 read_by (suc n) p words = record { number = suc n; header = no_header; count = 0; words = words }
 
-unfoldable pub readCall : ℕ → ℕ → List ℕ → List ℕ → Read
-readCall fingerprint run p words = read_by (first_of (readLines fingerprint run p (length words))) p words
+unfoldable pub read_call : ℕ → ℕ → List ℕ → List ℕ → Read
+read_call fingerprint run p words = read_by (first_of (read_lines fingerprint run p (length words))) p words
 
 -- ---- for contracts below the calls: bytes put at a place stand there behind all before it
 

@@ -16,12 +16,12 @@ shifts (suc n) r = shifts n (shift r)
 unfoldable pub feed : ℕ → ℕ → ℕ
 feed r b = shifts 8 (bit_xor r b)
 
-unfoldable pub feedAll : ℕ → List ℕ → ℕ
-feedAll r [] = r
-feedAll r (b ∷ bs) = feedAll (feed r b) bs
+unfoldable pub feed_all : ℕ → List ℕ → ℕ
+feed_all r [] = r
+feed_all r (b ∷ bs) = feed_all (feed r b) bs
 
 unfoldable pub crc32 : List ℕ → ℕ
-crc32 bs = bit_xor (feedAll 0xFFFFFFFF bs) 0xFFFFFFFF
+crc32 bs = bit_xor (feed_all 0xFFFFFFFF bs) 0xFFFFFFFF
 
 -- ---- for a contract below the calls
 

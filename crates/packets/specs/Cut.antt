@@ -7,16 +7,16 @@ use Rattle.std.specs.Int.Bits.{bit_or}
 use Rattle.base.specs.Tests.{◌and◌, not, pick, one, every}
 use Rattle.base.specs.Lists.{sublist, put}
 use Rattle.base.specs.Numbers.{Line, line, first_of}
-use Rattle.packets.specs.Packet.{mostWords}
+use Rattle.packets.specs.Packet.{most_words}
 use Rattle.packets.specs.declared.chunks.Taken.{Taken}
 
 -- as many as a mask has bits
-abbrev pub mostChunks : ℕ
-mostChunks = 64
+abbrev pub most_chunks : ℕ
+most_chunks = 64
 
 -- how many chunks n words have: one at least, so that there is a packet of a message without words too
-unfoldable pub chunksOf : ℕ → ℕ
-chunksOf n = suc ((n - 1) / mostWords)
+unfoldable pub chunks_of : ℕ → ℕ
+chunks_of n = suc ((n - 1) / most_words)
 
 -- a chunk as a packet brings it
 pub record Chunk : Type 0 where
@@ -29,7 +29,7 @@ chunk_of k n ws = record { chunk = k; chunks = n; words = ws }
 
 -- chunk k of a message: 285 words, or those that are left
 unfoldable pub cut : List ℕ → ℕ → Chunk
-cut ws k = chunk_of k (chunksOf (length ws)) (sublist ws (k * mostWords) mostWords)
+cut ws k = chunk_of k (chunks_of (length ws)) (sublist ws (k * most_words) most_words)
 
 -- ---- what is there
 
@@ -51,22 +51,22 @@ complete n mask = every (there mask) n
 -- ---- taking in
 
 -- how many words chunk k of n words has
-abbrev pub chunkLength : ℕ → ℕ → ℕ
-chunkLength n k = min mostWords (n - k * mostWords)
+abbrev pub chunk_length : ℕ → ℕ → ℕ
+chunk_length n k = min most_words (n - k * most_words)
 
 -- c is a chunk of a message of n words
 unfoldable pub fits : ℕ → Chunk → Bool
 fits n c =
-    eqb c.chunks (chunksOf n) and (ltb c.chunk (chunksOf n) and eqb (length c.words) (chunkLength n c.chunk))
+    eqb c.chunks (chunks_of n) and (ltb c.chunk (chunks_of n) and eqb (length c.words) (chunk_length n c.chunk))
 
 -- words of chunk k to their place, and its bit set; a chunk that is there already changes nothing, whatever its words
 unfoldable pub placed : ℕ → List ℕ → Assembly → Assembly
-placed k ws a = pick (there a.mask k) a (assembly (put a.area (k * mostWords) ws) (bit_or a.mask (2 ^ k)))
+placed k ws a = pick (there a.mask k) a (assembly (put a.area (k * most_words) ws) (bit_or a.mask (2 ^ k)))
 
 -- into an area of n words. 9: it has more than 64 chunks. 11, "no such": the message has no such chunk. That is not 27, stale: recipe, route and run are
 -- those that were asked for, and they fix a message's chunks and the length of each; so the number is wrong, and not the run
-abbrev pub takeLines : Chunk → ℕ → List Line
-takeLines c n = line 9 (ltb (mostChunks * mostWords) n) ∷ line 11 (not (fits n c)) ∷ []
+abbrev pub take_lines : Chunk → ℕ → List Line
+take_lines c n = line 9 (ltb (most_chunks * most_words) n) ∷ line 11 (not (fits n c)) ∷ []
 
 -- a number, whether the message is whole now (1), and the assembly
 pub record Taking : Type 0 where
@@ -74,27 +74,27 @@ pub record Taking : Type 0 where
   pub whole : ℕ
   pub after : Assembly
 
-abbrev pub takingBy : ℕ → Chunk → Assembly → Taking
-takingBy zero c a =
+abbrev pub taking_by : ℕ → Chunk → Assembly → Taking
+taking_by zero c a =
     record {
       number = 0;
       whole = one (complete c.chunks (placed c.chunk c.words a).mask);
       after = placed c.chunk c.words a;
     }
-takingBy (suc n) c a = record { number = suc n; whole = 0; after = a }
+taking_by (suc n) c a = record { number = suc n; whole = 0; after = a }
 
-unfoldable pub takeChunkCall : Chunk → Assembly → Taking
-takeChunkCall c a = takingBy (first_of (takeLines c (length a.area))) c a
+unfoldable pub take_chunk_call : Chunk → Assembly → Taking
+take_chunk_call c a = taking_by (first_of (take_lines c (length a.area))) c a
 
-abbrev pub takingOf : Taken → List ℕ → Taking
-takingOf r area = record { number = r.number; whole = r.whole; after = assembly area r.mask }
+abbrev pub taking_of : Taken → List ℕ → Taking
+taking_of r area = record { number = r.number; whole = r.whole; after = assembly area r.mask }
 
 -- ---- what is claimed of it
 
 -- one after the other
-unfoldable pub takeAll : List Chunk → Assembly → Assembly
-takeAll [] a = a
-takeAll (c ∷ cs) a = takeAll cs (takeChunkCall c a).after
+unfoldable pub take_all : List Chunk → Assembly → Assembly
+take_all [] a = a
+take_all (c ∷ cs) a = take_all cs (take_chunk_call c a).after
 
 -- what can come for a message: its own chunks, and what does not fit it
 pub data Comes (ws : List ℕ) (c : Chunk) : Type 0 where
@@ -112,15 +112,15 @@ Among ws k (c ∷ cs) = (c ≡ cut ws k) ⊎ Among ws k cs
 
 pub record ChunksHold : Type 0 where
   -- a message that is not too long has at most 64 chunks, and each of them is taken
-  pub few : (n : ℕ) → n ≤ mostChunks * mostWords → chunksOf n ≤ mostChunks
-  pub taken : (ws : List ℕ) (k : ℕ) (a : Assembly) → length ws ≤ mostChunks * mostWords → length a.area ≡ length ws → k < chunksOf (length ws)
-      → (takeChunkCall (cut ws k) a).number ≡ 0
+  pub few : (n : ℕ) → n ≤ most_chunks * most_words → chunks_of n ≤ most_chunks
+  pub taken : (ws : List ℕ) (k : ℕ) (a : Assembly) → length ws ≤ most_chunks * most_words → length a.area ≡ length ws → k < chunks_of (length ws)
+      → (take_chunk_call (cut ws k) a).number ≡ 0
   -- a refused chunk changes nothing, nor does one that is there already
-  pub refused : (c : Chunk) (a : Assembly) → ((takeChunkCall c a).number ≡ 0 → ⊥) → (takeChunkCall c a).after ≡ a
-  pub repeated : (c : Chunk) (a : Assembly) → there a.mask c.chunk ≡ true → (takeChunkCall c a).after ≡ a
+  pub refused : (c : Chunk) (a : Assembly) → ((take_chunk_call c a).number ≡ 0 → ⊥) → (take_chunk_call c a).after ≡ a
+  pub repeated : (c : Chunk) (a : Assembly) → there a.mask c.chunk ≡ true → (take_chunk_call c a).after ≡ a
   -- in any order, with repeats and with chunks that do not fit between them, into an area with any words: when all bits are set, the area is the message
   pub assembled : (ws area : List ℕ) (cs : List Chunk) → length area ≡ length ws → AllCome ws cs
-      → complete (chunksOf (length ws)) (takeAll cs (assembly area 0)).mask ≡ true → (takeAll cs (assembly area 0)).area ≡ ws
+      → complete (chunks_of (length ws)) (take_all cs (assembly area 0)).mask ≡ true → (take_all cs (assembly area 0)).area ≡ ws
   -- and they are all set once every chunk came
-  pub arrives : (ws area : List ℕ) (cs : List Chunk) → length ws ≤ mostChunks * mostWords → length area ≡ length ws → AllCome ws cs
-      → ((k : ℕ) → k < chunksOf (length ws) → Among ws k cs) → complete (chunksOf (length ws)) (takeAll cs (assembly area 0)).mask ≡ true
+  pub arrives : (ws area : List ℕ) (cs : List Chunk) → length ws ≤ most_chunks * most_words → length area ≡ length ws → AllCome ws cs
+      → ((k : ℕ) → k < chunks_of (length ws) → Among ws k cs) → complete (chunks_of (length ws)) (take_all cs (assembly area 0)).mask ≡ true

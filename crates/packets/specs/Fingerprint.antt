@@ -10,12 +10,12 @@ use Rattle.packets.specs.Packet.{word_bytes}
 unfoldable pub mix : ℕ → ℕ → ℕ
 mix r b = bit_xor r b * 16777619 % 2 ^ 32
 
-unfoldable pub mixAll : ℕ → List ℕ → ℕ
-mixAll r [] = r
-mixAll r (b ∷ bs) = mixAll (mix r b) bs
+unfoldable pub mix_all : ℕ → List ℕ → ℕ
+mix_all r [] = r
+mix_all r (b ∷ bs) = mix_all (mix r b) bs
 
 unfoldable pub fnv1a : List ℕ → ℕ
-fnv1a bs = mixAll 0x811C9DC5 bs
+fnv1a bs = mix_all 0x811C9DC5 bs
 
-unfoldable pub fingerprintOf : List ℕ → ℕ → ℕ
-fingerprintOf recipe route = crc32 (recipe ++ word_bytes route) + 2 ^ 32 * fnv1a (recipe ++ word_bytes route)
+unfoldable pub fingerprint_of : List ℕ → ℕ → ℕ
+fingerprint_of recipe route = crc32 (recipe ++ word_bytes route) + 2 ^ 32 * fnv1a (recipe ++ word_bytes route)

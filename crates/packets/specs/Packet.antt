@@ -28,12 +28,12 @@ abbrev pub magic : ℕ
 magic = 0x31505752
 
 -- words of one packet
-abbrev pub mostWords : ℕ
-mostWords = 285
+abbrev pub most_words : ℕ
+most_words = 285
 
 -- bytes of a packet that brings n words
-abbrev pub packetLength : ℕ → ℕ
-packetLength n = 4 * (15 + n)
+abbrev pub packet_length : ℕ → ℕ
+packet_length n = 4 * (15 + n)
 
 -- ---- to bytes
 
@@ -45,9 +45,9 @@ Words l = (i : ℕ) → get_or l i 0 < 2 ^ 32
 unfoldable pub word_bytes : ℕ → List ℕ
 word_bytes w = w % 256 ∷ w / 256 % 256 ∷ w / 65536 % 256 ∷ w / 16777216 % 256 ∷ []
 
-unfoldable pub wordsBytes : List ℕ → List ℕ
-wordsBytes [] = []
-wordsBytes (w ∷ ws) = word_bytes w ++ wordsBytes ws
+unfoldable pub words_bytes : List ℕ → List ℕ
+words_bytes [] = []
+words_bytes (w ∷ ws) = word_bytes w ++ words_bytes ws
 
 -- what fits a packet: numbers of 64 and of 32 bits, and no more words than one packet brings
 pub record Fit (h : Header) (ws : List ℕ) : Type 0 where
@@ -60,12 +60,12 @@ pub record Fit (h : Header) (ws : List ℕ) : Type 0 where
   pub item : h.item < 2 ^ 32
   pub chunk : h.chunk < 2 ^ 32
   pub chunks : h.chunks < 2 ^ 32
-  pub count : length ws ≤ mostWords
+  pub count : length ws ≤ most_words
   pub words : Words ws
 
 -- the header of a packet that brings n words
-abbrev pub headWords : Header → ℕ → List ℕ
-headWords h n =
+abbrev pub head_words : Header → ℕ → List ℕ
+head_words h n =
     magic
     ∷ h.fingerprint % 2 ^ 32 ∷ h.fingerprint / 2 ^ 32
     ∷ h.run % 2 ^ 32 ∷ h.run / 2 ^ 32
@@ -74,10 +74,10 @@ headWords h n =
 
 -- all but the check word
 unfoldable pub body_of : Header → List ℕ → List ℕ
-body_of h ws = wordsBytes (headWords h (length ws) ++ ws)
+body_of h ws = words_bytes (head_words h (length ws) ++ ws)
 
-unfoldable pub encodePacket : Header → List ℕ → List ℕ
-encodePacket h ws = body_of h ws ++ word_bytes (crc32 (body_of h ws))
+unfoldable pub encode_packet : Header → List ℕ → List ℕ
+encode_packet h ws = body_of h ws ++ word_bytes (crc32 (body_of h ws))
 
 -- ---- and back
 
@@ -85,18 +85,18 @@ encodePacket h ws = body_of h ws ++ word_bytes (crc32 (body_of h ws))
 unfoldable pub word_at : List ℕ → ℕ → ℕ
 word_at p i = word p (4 * i)
 
-unfoldable pub doubleAt : List ℕ → ℕ → ℕ
-doubleAt p i = word_at p i + 2 ^ 32 * word_at p (i + 1)
+unfoldable pub double_at : List ℕ → ℕ → ℕ
+double_at p i = word_at p i + 2 ^ 32 * word_at p (i + 1)
 
 abbrev pub count_of : List ℕ → ℕ
 count_of p = word_at p 13
 
-unfoldable pub headerOf : List ℕ → Header
-headerOf p =
+unfoldable pub header_of : List ℕ → Header
+header_of p =
     record {
-      fingerprint = doubleAt p 1;
-      run = doubleAt p 3;
-      life = doubleAt p 5;
+      fingerprint = double_at p 1;
+      run = double_at p 3;
+      life = double_at p 5;
       kind = word_at p 7;
       sender = word_at p 8;
       taker = word_at p 9;
@@ -110,7 +110,7 @@ words_of p = tabulate (λ i. word_at p (14 + i)) (count_of p)
 
 -- no packet that brings n words has m bytes
 unfoldable pub unfit : ℕ → ℕ → Bool
-unfit n m = ltb mostWords n or not (eqb m (packetLength n))
+unfit n m = ltb most_words n or not (eqb m (packet_length n))
 
 -- too many words or another length than their count says, another first word, or another check word than that of what stands before it
 unfoldable pub damaged : List ℕ → Bool
@@ -121,18 +121,18 @@ damaged p =
 
 -- of another recipe or route, or of another run
 unfoldable pub stale : ℕ → ℕ → List ℕ → Bool
-stale fingerprint run p = not (eqb (doubleAt p 1) fingerprint) or not (eqb (doubleAt p 3) run)
+stale fingerprint run p = not (eqb (double_at p 1) fingerprint) or not (eqb (double_at p 3) run)
 
-abbrev pub decodeLines : ℕ → ℕ → List ℕ → List Line
-decodeLines fingerprint run p = line 26 (damaged p) ∷ line 27 (stale fingerprint run p) ∷ []
+abbrev pub decode_lines : ℕ → ℕ → List ℕ → List Line
+decode_lines fingerprint run p = line 26 (damaged p) ∷ line 27 (stale fingerprint run p) ∷ []
 
 pub data Decoded : Type 0 where
   packet : Header → List ℕ → Decoded
   refused : ℕ → Decoded
 
-abbrev pub decodedBy : ℕ → List ℕ → Decoded
-decodedBy zero p = packet (headerOf p) (words_of p)
-decodedBy (suc n) p = refused (suc n)
+abbrev pub decoded_by : ℕ → List ℕ → Decoded
+decoded_by zero p = packet (header_of p) (words_of p)
+decoded_by (suc n) p = refused (suc n)
 
-unfoldable pub decodePacket : ℕ → ℕ → List ℕ → Decoded
-decodePacket fingerprint run p = decodedBy (first_of (decodeLines fingerprint run p)) p
+unfoldable pub decode_packet : ℕ → ℕ → List ℕ → Decoded
+decode_packet fingerprint run p = decoded_by (first_of (decode_lines fingerprint run p)) p

@@ -3,7 +3,7 @@ ghost use Rattle.std.specs.Prelude.{◌≡◌, ◌+◌, ◌*◌, ◌^◌, ◌≤
 ghost use Rattle.std.specs.Int.Bits.{bit_or};
 ghost use Rattle.base.specs.Tests.{one};
 ghost use Rattle.base.specs.Numbers.{first_of};
-ghost use Rattle.packets.specs.Cut.{chunksOf, chunkLength, chunk_of, assembly, there, complete, placed, takeLines, takingOf, takeChunkCall};
+ghost use Rattle.packets.specs.Cut.{chunks_of, chunk_length, chunk_of, assembly, there, complete, placed, take_lines, taking_of, take_chunk_call};
 
 use crate::MOST_WORDS;
 use base::{copy_part, least, refusals, word_index};
@@ -21,7 +21,7 @@ pub const MOST_AREA: usize = 18240; // 64 chunks, as many as a mask has bits
 
 // How many chunks so many words have.
 pub fn chunks_of(words: usize) -> usize
-    ensures { result ≡ chunksOf words }
+    ensures { result ≡ chunks_of words }
 {
     if words == 0 {
         return 1;
@@ -31,7 +31,7 @@ pub fn chunks_of(words: usize) -> usize
 
 // How many words a chunk of them has.
 pub fn chunk_length(words: usize, chunk: u32) -> usize
-    ensures { result ≡ chunkLength words chunk }
+    ensures { result ≡ chunk_length words chunk }
 {
     let at = word_index(chunk) * MOST_WORDS;
     if words <= at {
@@ -77,7 +77,7 @@ fn flag(test: bool) -> u32
 
 // The first true line, for an area of so many words.
 pub fn number_of(chunk: u32, chunks: u32, words: &[u32], area: usize) -> u32
-    ensures { result ≡ first_of (takeLines (chunk_of chunk chunks words.now) area) }
+    ensures { result ≡ first_of (take_lines (chunk_of chunk chunks words.now) area) }
 {
     if MOST_AREA < area {
         return refusals::AREA;
@@ -107,8 +107,8 @@ fn put_chunk(chunk: u32, words: &[u32], area: &mut [u32], mask: u64) -> u64
 
 // A chunk as a packet brought it, into the area of its message.
 pub fn take_chunk(chunk: u32, chunks: u32, words: &[u32], area: &mut [u32], mask: u64) -> Taken
-    ensures { takingOf result area.new
-        ≡ takeChunkCall (chunk_of chunk chunks words.now) (assembly area.old mask) }
+    ensures { taking_of result area.new
+        ≡ take_chunk_call (chunk_of chunk chunks words.now) (assembly area.old mask) }
 {
     let number = number_of(chunk, chunks, words, area.len());
     if number != 0 {

@@ -1,6 +1,6 @@
 // FNV-1a of 32 bits.
 ghost use Rattle.std.specs.Prelude.{◌≡◌, ◌*◌, ◌%◌, ◌^◌};
-ghost use Rattle.packets.specs.Fingerprint.{mix, mixAll};
+ghost use Rattle.packets.specs.Fingerprint.{mix, mix_all};
 
 use base::{byte_word, word_wide};
 
@@ -18,7 +18,7 @@ fn step(hash: u32, byte: u8) -> u32
 
 // The hash after more bytes.
 pub fn mixed(hash: u32, bytes: &[u8]) -> u32
-    ensures { result ≡ mixAll hash bytes.now }
+    ensures { result ≡ mix_all hash bytes.now }
 {
     let mut now = hash;
     let mut i: usize = 0;

@@ -4,9 +4,9 @@ ghost use Rattle.std.specs.Prelude.{◌≡◌, ◌++◌, ◌+◌, ◌*◌, ◌/�
 ghost use Rattle.base.specs.Tests.{tabulate};
 ghost use Rattle.base.specs.Numbers.{first_of};
 ghost use Rattle.packets.specs.Crc.{crc32};
-ghost use Rattle.packets.specs.Fingerprint.{fingerprintOf};
-ghost use Rattle.packets.specs.Packet.{word_bytes, wordsBytes, headWords, word_at, doubleAt, headerOf, unfit, damaged, stale};
-ghost use Rattle.packets.specs.Calls.{Put, no_header, written_of, writeCall, read_of, readLines, readCall};
+ghost use Rattle.packets.specs.Fingerprint.{fingerprint_of};
+ghost use Rattle.packets.specs.Packet.{word_bytes, words_bytes, head_words, word_at, double_at, header_of, unfit, damaged, stale};
+ghost use Rattle.packets.specs.Calls.{Put, no_header, written_of, write_call, read_of, read_lines, read_call};
 
 pub mod chunks; // chunks.rt: a message in several packets
 pub mod hash; // hash.rt: FNV-1a
@@ -56,7 +56,7 @@ pub fn crc(bytes: &[u8]) -> u32
 
 // Of a recipe's bytes on a route.
 pub fn fingerprint(recipe: &[u8], route: u32) -> u64
-    ensures { result ≡ fingerprintOf recipe.now route }
+    ensures { result ≡ fingerprint_of recipe.now route }
 {
     let mut last = [0u8; 4];
     put_word(&mut last, 0, route);
@@ -99,7 +99,7 @@ fn put_word(space: &mut [u8], at: usize, word: u32)
 
 fn put_words(space: &mut [u8], at: usize, words: &[u32])
     requires { at + 4 * length words.now ≤ length space.old }
-    ensures { Put space.old at (wordsBytes words.now) space.new }
+    ensures { Put space.old at (words_bytes words.now) space.new }
 {
     let mut i: usize = 0;
     while i < words.len() {
@@ -110,7 +110,7 @@ fn put_words(space: &mut [u8], at: usize, words: &[u32])
 
 fn put_header(space: &mut [u8], header: Header, count: u32)
     requires { 56 ≤ length space.old }
-    ensures { Put space.old 0 (wordsBytes (headWords header count)) space.new }
+    ensures { Put space.old 0 (words_bytes (head_words header count)) space.new }
 {
     let words = [
         MAGIC,
@@ -142,7 +142,7 @@ fn is_unfit(count: usize, length: usize) -> bool
 
 // A packet into a space of exactly its length, four bytes for each word and 60. Else 9, as where there are too many words, and nothing is written.
 pub fn write(header: Header, words: &[u32], space: &mut [u8]) -> u32
-    ensures { written_of result space.new ≡ writeCall header words.now space.old }
+    ensures { written_of result space.new ≡ write_call header words.now space.old }
 {
     let count = words.len();
     if is_unfit(count, space.len()) {
@@ -160,7 +160,7 @@ pub fn write(header: Header, words: &[u32], space: &mut [u8]) -> u32
 
 fn double_at(packet: &[u8], at: usize) -> u64
     requires { 4 * at + 8 ≤ length packet.now }
-    ensures { result ≡ doubleAt packet.now at }
+    ensures { result ≡ double_at packet.now at }
 {
     let low = word_at(packet, 4 * at);
     let high = word_at(packet, 4 * at + 4);
@@ -169,7 +169,7 @@ fn double_at(packet: &[u8], at: usize) -> u64
 
 fn header_of(packet: &[u8]) -> Header
     requires { 60 ≤ length packet.now }
-    ensures { result ≡ headerOf packet.now }
+    ensures { result ≡ header_of packet.now }
 {
     Header {
         fingerprint: double_at(packet, 1),
@@ -215,7 +215,7 @@ fn is_stale(packet: &[u8], fingerprint: u64, run: u64) -> bool
 
 // The first true line, with space for so many words.
 fn number_of(fingerprint: u64, run: u64, packet: &[u8], room: usize) -> u32
-    ensures { result ≡ first_of (readLines fingerprint run packet.now room) }
+    ensures { result ≡ first_of (read_lines fingerprint run packet.now room) }
 {
     if is_damaged(packet) {
         return refusals::DAMAGED;
@@ -264,7 +264,7 @@ fn refusal(number: u32) -> Reading
 // Bytes as they came: 26 where they are damaged, 27 where they are of another recipe, route or run, 9 where their words are more than there is space for.
 // At 0 the words are written from the first place on.
 pub fn read(fingerprint: u64, run: u64, packet: &[u8], words: &mut [u32]) -> Reading
-    ensures { read_of result words.new ≡ readCall fingerprint run packet.now words.old }
+    ensures { read_of result words.new ≡ read_call fingerprint run packet.now words.old }
 {
     let number = number_of(fingerprint, run, packet, words.len());
     if number != 0 {

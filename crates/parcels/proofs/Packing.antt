@@ -12,79 +12,79 @@ use lib.Dec.{ltb}
 use borrow.Author.Tests.{lt-ltb, le-ltb, ltb-false}
 use Rattle.base.specs.Tests.{◌or◌, some, keep}
 use Rattle.base.specs.Lists.{put, pack}
-use Rattle.base.proofs.Tests.{some_one, some-none, some_same, tabulate-same}
-use Rattle.base.proofs.Select.{keep-hit, keep-none, keep-lt, keep-mono}
-use Rattle.base.proofs.Lists.{length-put, put-none, pack-length}
+use Rattle.base.proofs.Tests.{some_one, some_none, some_same, tabulate_same}
+use Rattle.base.proofs.Select.{keep_hit, keep_none, keep_lt, keep_mono}
+use Rattle.base.proofs.Lists.{length_put, put_none, pack_length}
 use Rattle.nest.specs.declared.Nest.{Nest}
 use Rattle.nest.specs.Accepted.{Accepted}
 use Rattle.nest.specs.Nest.{cells}
-use Rattle.layout.specs.Regions.{comesInto}
-use Rattle.plan.proofs.Grid.{map-append, keep-add, keep-nothing, keep_run, map-tabulate}
+use Rattle.layout.specs.Regions.{comes_into}
+use Rattle.plan.proofs.Grid.{map-append, keep_add, keep_nothing, keep_run, map_tabulate}
 use Rattle.layout.specs.CellRows.{row_of}
 use Rattle.parcels.specs.declared.Sending.{Sending}
-use Rattle.parcels.specs.Windows.{isRead, Leading, rowParcel, RowRoom, RowPacked}
+use Rattle.parcels.specs.Windows.{is_read, Leading, row_parcel, RowRoom, RowPacked}
 use Rattle.parcels.specs.Sendings.{found, RowEnds}
-use Rattle.parcels.proofs.Walks.{meets, found_none, found-hit, found-miss, found-few, found-mono, pack-append}
+use Rattle.parcels.proofs.Walks.{meets, found_none, found_hit, found_miss, found_few, found_mono, pack_append}
 
 -- ---- the cells of a row that some distance reads
 
 -- the row from cell 20 of row B's second message: its last cell is read by no distance
-row-of-B : rowParcel (7 ∷ []) 1 20 4 4 ≡ 20 ∷ 21 ∷ 22 ∷ []
-unfolding rowParcel keep some ◌or◌
-row-of-B = refl
+row_of_B : row_parcel (7 ∷ []) 1 20 4 4 ≡ 20 ∷ 21 ∷ 22 ∷ []
+unfolding row_parcel keep some ◌or◌
+row_of_B = refl
 
 -- cell 20 is read by both distances, 21 and 22 by the second alone
-row-of-two : rowParcel (5 ∷ 7 ∷ []) 2 20 4 4 ≡ 20 ∷ 21 ∷ 22 ∷ []
-unfolding rowParcel keep some ◌or◌
-row-of-two = refl
+row_of_two : row_parcel (5 ∷ 7 ∷ []) 2 20 4 4 ≡ 20 ∷ 21 ∷ 22 ∷ []
+unfolding row_parcel keep some ◌or◌
+row_of_two = refl
 
-keep-rest : (f : ℕ → Bool) (y w : ℕ) → y ≤ w → ((i : ℕ) → y ≤ i → i < w → f i ≡ false) → keep f w ≡ keep f y
-keep-rest f y w h none =
+keep_rest : (f : ℕ → Bool) (y w : ℕ) → y ≤ w → ((i : ℕ) → y ≤ i → i < w → f i ≡ false) → keep f w ≡ keep f y
+keep_rest f y w h none =
     let k : w ≡ y + (w - y) = omega arith in
     ap (keep f) k
-    ∙ keep-add f y (w - y)
-    ∙ rw (keep-nothing (λ t. f (y + t)) (w - y) (λ t l. none (y + t) (omega arith) (omega arith))) (append-nil (keep f y))
+    ∙ keep_add f y (w - y)
+    ∙ rw (keep_nothing (λ t. f (y + t)) (w - y) (λ t l. none (y + t) (omega arith) (omega arith))) (append-nil (keep f y))
 
 module _ (ends : List ℕ) (n c a : ℕ) where
-  row-none : rowParcel ends n c a 0 ≡ []
-  unfolding rowParcel keep
-  row-none = refl
+  row_none : row_parcel ends n c a 0 ≡ []
+  unfolding row_parcel keep
+  row_none = refl
 
   module _ (y : ℕ) where
-    row-hit : isRead ends n (a + y) ≡ true → rowParcel ends n c a (y + 1) ≡ rowParcel ends n c a y ++ ((c + y) ∷ [])
-    unfolding rowParcel
-    row-hit h =
-        rw (add-one y, keep-hit (λ i. isRead ends n (a + i)) y h) (map-append (λ i. c + i) (keep (λ i. isRead ends n (a + i)) y) (y ∷ []))
+    row_hit : is_read ends n (a + y) ≡ true → row_parcel ends n c a (y + 1) ≡ row_parcel ends n c a y ++ ((c + y) ∷ [])
+    unfolding row_parcel
+    row_hit h =
+        rw (add-one y, keep_hit (λ i. is_read ends n (a + i)) y h) (map-append (λ i. c + i) (keep (λ i. is_read ends n (a + i)) y) (y ∷ []))
 
-    row-miss : isRead ends n (a + y) ≡ false → rowParcel ends n c a (y + 1) ≡ rowParcel ends n c a y
-    unfolding rowParcel
-    row-miss h = rw (add-one y, keep-none (λ i. isRead ends n (a + i)) y h)
+    row_miss : is_read ends n (a + y) ≡ false → row_parcel ends n c a (y + 1) ≡ row_parcel ends n c a y
+    unfolding row_parcel
+    row_miss h = rw (add-one y, keep_none (λ i. is_read ends n (a + i)) y h)
 
     -- none is read after one that no distance reads
-    row-rest : (w : ℕ) → y ≤ w → ((e : ℕ) → e < n → ltb (a + y) (get_or ends e 0) ≡ false) → rowParcel ends n c a w ≡ rowParcel ends n c a y
-    unfolding rowParcel
-    row-rest w h f =
-        ap (map (λ i. c + i)) (keep-rest (λ i. isRead ends n (a + i)) y w h
-        (λ i k l. some-none _ n (λ e o. le-ltb (a + i) (get_or ends e 0) (omega (arith, ltb-false (a + y) (get_or ends e 0) (f e o))))))
+    row_rest : (w : ℕ) → y ≤ w → ((e : ℕ) → e < n → ltb (a + y) (get_or ends e 0) ≡ false) → row_parcel ends n c a w ≡ row_parcel ends n c a y
+    unfolding row_parcel
+    row_rest w h f =
+        ap (map (λ i. c + i)) (keep_rest (λ i. is_read ends n (a + i)) y w h
+        (λ i k l. some_none _ n (λ e o. le-ltb (a + i) (get_or ends e 0) (omega (arith, ltb-false (a + y) (get_or ends e 0) (f e o))))))
 
-    row_more : (w : ℕ) → y ≤ w → length (rowParcel ends n c a y) ≤ length (rowParcel ends n c a w)
-    unfolding rowParcel
-    row_more w h = simp length-map (keep-mono (λ i. isRead ends n (a + i)) w y h)
+    row_more : (w : ℕ) → y ≤ w → length (row_parcel ends n c a y) ≤ length (row_parcel ends n c a w)
+    unfolding row_parcel
+    row_more w h = simp length-map (keep_mono (λ i. is_read ends n (a + i)) w y h)
 
-    row_lt : (w : ℕ) → y < w → isRead ends n (a + y) ≡ true → length (rowParcel ends n c a y) < length (rowParcel ends n c a w)
-    unfolding rowParcel
-    row_lt w h t = simp length-map (keep-lt (λ i. isRead ends n (a + i)) w y h t)
+    row_lt : (w : ℕ) → y < w → is_read ends n (a + y) ≡ true → length (row_parcel ends n c a y) < length (row_parcel ends n c a w)
+    unfolding row_parcel
+    row_lt w h t = simp length-map (keep_lt (λ i. is_read ends n (a + i)) w y h t)
 
   -- they are the first ones
-  pub row-run : (w r : ℕ) → Leading ends n a w r → rowParcel ends n c a w ≡ row_of c r
-  unfolding rowParcel
-  row-run w r p =
-      ap (map (λ i. c + i)) (keep_run (λ i. isRead ends n (a + i)) 0 r w (omega (arith, p.low))
+  pub row_run : (w r : ℕ) → Leading ends n a w r → row_parcel ends n c a w ≡ row_of c r
+  unfolding row_parcel
+  row_run w r p =
+      ap (map (λ i. c + i)) (keep_run (λ i. is_read ends n (a + i)) 0 r w (omega (arith, p.low))
       (λ i h. absurd (omega arith))
       (λ i h. sym (p.is (0 + i) (omega (arith, p.low))) ∙ lt-ltb (0 + i) r (omega arith))
       (λ i h k. sym (p.is i k) ∙ le-ltb i r (omega arith)))
-      ∙ map-tabulate (λ i. c + i) (λ i. 0 + i) r
-      ∙ tabulate-same _ _ r (λ i h. omega arith)
+      ∙ map_tabulate (λ i. c + i) (λ i. 0 + i) r
+      ∙ tabulate_same _ _ r (λ i h. omega arith)
 
 -- ---- words put from a place on
 
@@ -96,9 +96,9 @@ module _ (l : List ℕ) (i : ℕ) (s : List ℕ) where
       ∙ take_at (take i l ++ s) _ (i + length s) (simp (length-append, length-take) (omega arith))
 
   -- and one more
-  put-more : (v : ℕ) → i + length s < length l → set (put l i s) (i + length s) v ≡ put l i (s ++ (v ∷ []))
+  put_more : (v : ℕ) → i + length s < length l → set (put l i s) (i + length s) v ≡ put l i (s ++ (v ∷ []))
   unfolding put
-  put-more v h =
+  put_more v h =
       let k : length s < length (drop i l) = rw length-drop (omega arith) in
       let e : length (s ++ (v ∷ [])) ≡ suc (length s) = simp length-append (add-one (length s)) in
       ap (λ (z : List ℕ). set (take i l ++ (s ++ z)) (i + length s) v) (drop-cons (drop i l) (length s) 0 k)
@@ -117,78 +117,78 @@ pub record Packing (ends : List ℕ) (n c a w : ℕ) (memory words₀ : List ℕ
 
 -- between two distances of the cell at y₁: nothing has changed, and none of those before e reads it
 pub record Searching (f : ℕ → Bool) (n : ℕ) (words₁ : List ℕ) (count₁ y₁ : ℕ) (words : List ℕ) (count y e : ℕ) : Type 0 where
-  pub same-words : words ≡ words₁
+  pub same_words : words ≡ words₁
   pub same_count : count ≡ count₁
-  pub same-y : y ≡ y₁
+  pub same_y : y ≡ y₁
   pub low : e ≤ n
   pub none : (i : ℕ) → i < e → f i ≡ false
 
 module _ (ends : List ℕ) (n c a w : ℕ) (memory words₀ : List ℕ) (packed : ℕ) where
-  pub packing-none : Packing ends n c a w memory words₀ packed words₀ packed 0
+  pub packing_none : Packing ends n c a w memory words₀ packed words₀ packed 0
   unfolding pack
-  packing-none =
+  packing_none =
       record {
         low = omega arith;
         first = record {
-          count-is = omega (arith, ap length (row-none ends n c a));
-          is = sym (ap (λ (z : List ℕ). put words₀ packed (pack memory z)) (row-none ends n c a) ∙ put-none words₀ packed);
+          count_is = omega (arith, ap length (row_none ends n c a));
+          is = sym (ap (λ (z : List ℕ). put words₀ packed (pack memory z)) (row_none ends n c a) ∙ put_none words₀ packed);
         };
       }
 
-  pub packing-end : (words : List ℕ) (count y : ℕ) → Packing ends n c a w memory words₀ packed words count y → w ≤ y
+  pub packing_end : (words : List ℕ) (count y : ℕ) → Packing ends n c a w memory words₀ packed words count y → w ≤ y
       → RowPacked ends n c a w memory words₀ packed words count
-  packing-end words count y p h = let z : y ≡ w = omega (arith, p.low) in rw z at p.first
+  packing_end words count y p h = let z : y ≡ w = omega (arith, p.low) in rw z at p.first
 
   module _ (k : RowRoom ends n c a w memory words₀ packed) where
-    pub packing-long : (words : List ℕ) (count y : ℕ) → y ≤ w → RowPacked ends n c a y memory words₀ packed words count
+    pub packing_long : (words : List ℕ) (count y : ℕ) → y ≤ w → RowPacked ends n c a y memory words₀ packed words count
         → length words ≡ length words₀
-    packing-long words count y h p =
+    packing_long words count y h p =
         ap length p.is
-        ∙ length-put words₀ packed (pack memory (rowParcel ends n c a y))
-        (omega (arith, k.room, pack-length (rowParcel ends n c a y) memory, row_more ends n c a y w h))
+        ∙ length_put words₀ packed (pack memory (row_parcel ends n c a y))
+        (omega (arith, k.room, pack_length (row_parcel ends n c a y) memory, row_more ends n c a y w h))
 
     module _ (words₁ : List ℕ) (count₁ y₁ : ℕ) (p : Packing ends n c a w memory words₀ packed words₁ count₁ y₁) (h : y₁ < w)
         (words : List ℕ) (count y e : ℕ) (f : Searching (λ d. ltb (a + y₁) (get_or ends d 0)) n words₁ count₁ y₁ words count y e) where
       module _ (l : e < n) (hit : a + y₁ < get_or ends e 0) where
-        met : isRead ends n (a + y₁) ≡ true
+        met : is_read ends n (a + y₁) ≡ true
         met = some_one _ n e l (lt-ltb _ _ hit)
 
-        pub packing-room : (count < length words) × (count < 16384)
-        packing-room =
-            let m : count < length words₀ = omega (arith, f.same_count, p.first.count-is, k.room, row_lt ends n c a y₁ w h met) in
-            (omega (arith, ap length f.same-words, packing-long words₁ count₁ y₁ p.low p.first), omega (arith, k.most))
+        pub packing_room : (count < length words) × (count < 16384)
+        packing_room =
+            let m : count < length words₀ = omega (arith, f.same_count, p.first.count_is, k.room, row_lt ends n c a y₁ w h met) in
+            (omega (arith, ap length f.same_words, packing_long words₁ count₁ y₁ p.low p.first), omega (arith, k.most))
 
-        pub packing-hit : Packing ends n c a w memory words₀ packed (set words count (get_or memory (c + y₁) 0)) (count + 1) (y + 1)
+        pub packing_hit : Packing ends n c a w memory words₀ packed (set words count (get_or memory (c + y₁) 0)) (count + 1) (y + 1)
         unfolding pack
-        packing-hit =
+        packing_hit =
             record {
-              low = omega (arith, f.same-y);
-              first = rw (f.same-words, f.same_count, f.same-y) (record {
-                count-is = omega (arith, p.first.count-is, ap length found, length-append (rowParcel ends n c a y₁) ((c + y₁) ∷ []));
+              low = omega (arith, f.same_y);
+              first = rw (f.same_words, f.same_count, f.same_y) (record {
+                count_is = omega (arith, p.first.count_is, ap length found, length-append (row_parcel ends n c a y₁) ((c + y₁) ∷ []));
                 is = ap (λ (z : List ℕ). set z count₁ (get_or memory (c + y₁) 0)) p.first.is
-                    ∙ ap (λ (m : ℕ). set (put words₀ packed (pack memory (rowParcel ends n c a y₁))) m (get_or memory (c + y₁) 0))
-                    (p.first.count-is ∙ ap (λ (m : ℕ). packed + m) (sym as_long))
-                    ∙ put-more words₀ packed (pack memory (rowParcel ends n c a y₁)) (get_or memory (c + y₁) 0)
-                    (omega (arith, k.room, as_long, row_lt ends n c a y₁ w h met))
-                    ∙ ap (put words₀ packed) (sym (ap (pack memory) found ∙ pack-append memory (rowParcel ends n c a y₁) ((c + y₁) ∷ [])));
+                    ∙ ap (λ (m : ℕ). set (put words₀ packed (pack memory (row_parcel ends n c a y₁))) m (get_or memory (c + y₁) 0))
+                    (p.first.count_is ∙ ap (λ (m : ℕ). packed + m) (sym as_long_lem))
+                    ∙ put_more words₀ packed (pack memory (row_parcel ends n c a y₁)) (get_or memory (c + y₁) 0)
+                    (omega (arith, k.room, as_long_lem, row_lt ends n c a y₁ w h met))
+                    ∙ ap (put words₀ packed) (sym (ap (pack memory) found ∙ pack_append memory (row_parcel ends n c a y₁) ((c + y₁) ∷ [])));
               });
             }
           where
-            found : rowParcel ends n c a (y₁ + 1) ≡ rowParcel ends n c a y₁ ++ ((c + y₁) ∷ [])
-            found = row-hit ends n c a y₁ met
+            found : row_parcel ends n c a (y₁ + 1) ≡ row_parcel ends n c a y₁ ++ ((c + y₁) ∷ [])
+            found = row_hit ends n c a y₁ met
 
-            as_long : length (pack memory (rowParcel ends n c a y₁)) ≡ length (rowParcel ends n c a y₁)
-            as_long = pack-length (rowParcel ends n c a y₁) memory
+            as_long_lem : length (pack memory (row_parcel ends n c a y₁)) ≡ length (row_parcel ends n c a y₁)
+            as_long_lem = pack_length (row_parcel ends n c a y₁) memory
 
-      pub packing-left : n ≤ e → RowPacked ends n c a w memory words₀ packed words count
-      packing-left l =
-          rw (f.same-words, f.same_count) (record {
-            count-is = p.first.count-is ∙ ap (λ (z : List ℕ). packed + length z) (sym rest);
+      pub packing_left : n ≤ e → RowPacked ends n c a w memory words₀ packed words count
+      packing_left l =
+          rw (f.same_words, f.same_count) (record {
+            count_is = p.first.count_is ∙ ap (λ (z : List ℕ). packed + length z) (sym rest);
             is = p.first.is ∙ ap (λ (z : List ℕ). put words₀ packed (pack memory z)) (sym rest);
           })
         where
-          rest : rowParcel ends n c a w ≡ rowParcel ends n c a y₁
-          rest = row-rest ends n c a y₁ w p.low (λ i j. f.none i (omega arith))
+          rest : row_parcel ends n c a w ≡ row_parcel ends n c a y₁
+          rest = row_rest ends n c a y₁ w p.low (λ i j. f.none i (omega arith))
 
 -- ---- the parcel grows by a row
 
@@ -197,7 +197,7 @@ pub record PackedTo (x : Nest) (z : Sending) (memory words : List ℕ) (count q 
   pub low : q ≤ z.rows * z.width
   pub long : length words ≡ length (found x z (z.rows * z.width))
   pub small : z.rows * z.width ≤ 16384
-  pub count-is : count ≡ length (found x z q)
+  pub count_is : count ≡ length (found x z q)
   pub is : take count words ≡ pack memory (found x z q)
 
 pub packed_none : (x : Nest) (z : Sending) (memory words : List ℕ) → length words ≡ length (found x z (z.rows * z.width))
@@ -208,71 +208,71 @@ packed_none x z memory words long small =
       low = omega arith;
       long = long;
       small = small;
-      count-is = ap length (sym (found_none x z));
+      count_is = ap length (sym (found_none x z));
       is = ap (pack memory) (sym (found_none x z));
     }
 
-pub packed-end : (x : Nest) (z : Sending) (memory words : List ℕ) (count q : ℕ) → PackedTo x z memory words count q
+pub packed_end : (x : Nest) (z : Sending) (memory words : List ℕ) (count q : ℕ) → PackedTo x z memory words count q
     → z.rows * z.width ≤ q → words ≡ pack memory (found x z (z.rows * z.width))
-packed-end x z memory words count q p h =
+packed_end x z memory words count q p h =
     let e : q ≡ z.rows * z.width = omega (arith, p.low) in
-    let k : count ≡ length words = p.count-is ∙ ap (λ (m : ℕ). length (found x z m)) e ∙ sym p.long in
+    let k : count ≡ length words = p.count_is ∙ ap (λ (m : ℕ). length (found x z m)) e ∙ sym p.long in
     sym (take-length words) ∙ ap (λ (m : ℕ). take m words) (sym k) ∙ p.is ∙ ap (λ (m : ℕ). pack memory (found x z m)) e
 
 module _ (x : Nest) (z : Sending) (first c a w : ℕ) (ends : List ℕ) (f : RowEnds x z first c a w ends) where
-  pub row-meets : (y : ℕ) → y < w → isRead ends x.distances (a + y) ≡ meets x z (first + y)
-  unfolding comesInto
-  row-meets y k = some_same _ _ x.distances (λ e i. f.tests y e k i)
+  pub row_meets : (y : ℕ) → y < w → is_read ends x.distances (a + y) ≡ meets x z (first + y)
+  unfolding comes_into
+  row_meets y k = some_same _ _ x.distances (λ e i. f.tests y e k i)
 
-  row-found : (y : ℕ) → y ≤ w → found x z (first + y) ≡ found x z first ++ rowParcel ends x.distances c a y
-  row-found zero k = rw (add-zero first, row-none ends x.distances c a) (sym (append-nil _))
-  row-found (suc y) k = rw (← add-one y, ← add_assoc first y 1) (go _ refl (row-found y (omega arith)))
+  row_found : (y : ℕ) → y ≤ w → found x z (first + y) ≡ found x z first ++ row_parcel ends x.distances c a y
+  row_found zero k = rw (add-zero first, row_none ends x.distances c a) (sym (append-nil _))
+  row_found (suc y) k = rw (← add-one y, ← add_assoc first y 1) (go _ refl (row_found y (omega arith)))
     where
-      go : (t : Bool) → isRead ends x.distances (a + y) ≡ t
-          → found x z (first + y) ≡ found x z first ++ rowParcel ends x.distances c a y
-          → found x z (first + y + 1) ≡ found x z first ++ rowParcel ends x.distances c a (y + 1)
+      go : (t : Bool) → is_read ends x.distances (a + y) ≡ t
+          → found x z (first + y) ≡ found x z first ++ row_parcel ends x.distances c a y
+          → found x z (first + y + 1) ≡ found x z first ++ row_parcel ends x.distances c a (y + 1)
       go true e ih =
-          found-hit x z (first + y) (sym (row-meets y (omega arith)) ∙ e)
-          ∙ rw (ih, row-hit ends x.distances c a y e, f.number y (omega arith))
-          (append_assoc (found x z first) (rowParcel ends x.distances c a y) _)
-      go false e ih = found-miss x z (first + y) (sym (row-meets y (omega arith)) ∙ e) ∙ rw (row-miss ends x.distances c a y e) ih
+          found_hit x z (first + y) (sym (row_meets y (omega arith)) ∙ e)
+          ∙ rw (ih, row_hit ends x.distances c a y e, f.number y (omega arith))
+          (append_assoc (found x z first) (row_parcel ends x.distances c a y) _)
+      go false e ih = found_miss x z (first + y) (sym (row_meets y (omega arith)) ∙ e) ∙ rw (row_miss ends x.distances c a y e) ih
 
-  pub row-all : found x z (first + w) ≡ found x z first ++ rowParcel ends x.distances c a w
-  row-all = row-found w (omega arith)
+  pub row_all : found x z (first + w) ≡ found x z first ++ row_parcel ends x.distances c a w
+  row_all = row_found w (omega arith)
 
-  row-long : length (found x z (first + w)) ≡ length (found x z first) + length (rowParcel ends x.distances c a w)
-  row-long = ap length row-all ∙ length-append (found x z first) (rowParcel ends x.distances c a w)
+  row_long : length (found x z (first + w)) ≡ length (found x z first) + length (row_parcel ends x.distances c a w)
+  row_long = ap length row_all ∙ length-append (found x z first) (row_parcel ends x.distances c a w)
 
   module _ (memory words : List ℕ) (count : ℕ) (p : PackedTo x z memory words count first) where
-    all_room : count + length (rowParcel ends x.distances c a w) ≤ length words
-    all_room = omega (arith, p.count-is, p.long, row-long, found-mono x z (z.rows * z.width) (first + w) f.room)
+    all_room : count + length (row_parcel ends x.distances c a w) ≤ length words
+    all_room = omega (arith, p.count_is, p.long, row_long, found_mono x z (z.rows * z.width) (first + w) f.room)
 
-    pub packed-room : Accepted x → length memory ≡ cells x → RowRoom ends x.distances c a w memory words count
-    packed-room ok m =
+    pub packed_room : Accepted x → length memory ≡ cells x → RowRoom ends x.distances c a w memory words count
+    packed_room ok m =
         record {
-          few = ok.distances-most;
+          few = ok.distances_most;
           low = omega (arith, f.low);
-          short = omega (arith, ok.cells-most);
+          short = omega (arith, ok.cells_most);
           small = f.small;
           room = all_room;
-          most = omega (arith, p.long, p.small, found-few x z (z.rows * z.width));
+          most = omega (arith, p.long, p.small, found_few x z (z.rows * z.width));
         }
 
-    as_long : length (pack memory (rowParcel ends x.distances c a w)) ≡ length (rowParcel ends x.distances c a w)
-    as_long = pack-length (rowParcel ends x.distances c a w) memory
+    as_long_lem : length (pack memory (row_parcel ends x.distances c a w)) ≡ length (row_parcel ends x.distances c a w)
+    as_long_lem = pack_length (row_parcel ends x.distances c a w) memory
 
-    pub packed-row : (words' : List ℕ) (count' : ℕ) → RowPacked ends x.distances c a w memory words count words' count'
+    pub packed_row : (words' : List ℕ) (count' : ℕ) → RowPacked ends x.distances c a w memory words count words' count'
         → PackedTo x z memory words' count' (first + w)
-    packed-row words' count' r =
-        let h : count + length (pack memory (rowParcel ends x.distances c a w)) ≤ length words = omega (arith, all_room, as_long) in
+    packed_row words' count' r =
+        let h : count + length (pack memory (row_parcel ends x.distances c a w)) ≤ length words = omega (arith, all_room, as_long_lem) in
         record {
           low = f.room;
-          long = ap length r.is ∙ length-put words count (pack memory (rowParcel ends x.distances c a w)) h ∙ p.long;
+          long = ap length r.is ∙ length_put words count (pack memory (row_parcel ends x.distances c a w)) h ∙ p.long;
           small = p.small;
-          count-is = omega (arith, r.count-is, p.count-is, row-long);
-          is = ap (λ (m : ℕ). take m words') (r.count-is ∙ ap (λ (m : ℕ). count + m) (sym as_long))
-              ∙ ap (take (count + length (pack memory (rowParcel ends x.distances c a w)))) r.is
-              ∙ take_put words count (pack memory (rowParcel ends x.distances c a w)) h
-              ∙ ap (λ (k : List ℕ). k ++ pack memory (rowParcel ends x.distances c a w)) p.is
-              ∙ sym (ap (pack memory) row-all ∙ pack-append memory (found x z first) (rowParcel ends x.distances c a w));
+          count_is = omega (arith, r.count_is, p.count_is, row_long);
+          is = ap (λ (m : ℕ). take m words') (r.count_is ∙ ap (λ (m : ℕ). count + m) (sym as_long_lem))
+              ∙ ap (take (count + length (pack memory (row_parcel ends x.distances c a w)))) r.is
+              ∙ take_put words count (pack memory (row_parcel ends x.distances c a w)) h
+              ∙ ap (λ (k : List ℕ). k ++ pack memory (row_parcel ends x.distances c a w)) p.is
+              ∙ sym (ap (pack memory) row_all ∙ pack_append memory (found x z first) (row_parcel ends x.distances c a w));
         }

@@ -12,21 +12,21 @@ use lib.ListN.{get_or}
 use lib.Dec.{ltb, leb}
 use borrow.Author.Tests.{lt-ltb, ltb-true, leb-true}
 use Rattle.base.specs.Tests.{◌and◌, one, product}
-use Rattle.base.proofs.Tests.{both, one-true}
+use Rattle.base.proofs.Tests.{both, one_true}
 use Rattle.nest.specs.declared.Nest.{Nest}
 use Rattle.nest.specs.Accepted.{Accepted}
-use Rattle.nest.specs.Nest.{length_of, tileLength, tileCount, boxTiles}
+use Rattle.nest.specs.Nest.{length_of, tile_length, tile_count, box_tiles}
 use Rattle.plan.specs.declared.Route.{Route}
 use Rattle.plan.specs.declared.Route.TheVariants.{Indirect}
-use Rattle.nest.specs.Places.{place, tilePlace}
-use Rattle.nest.proofs.Rank.{Positive, place-last, place-before}
-use Rattle.plan.proofs.Tiles.{tileCount-pos}
+use Rattle.nest.specs.Places.{place, tile_place}
+use Rattle.nest.proofs.Rank.{Positive, place_last, place_before}
+use Rattle.plan.proofs.Tiles.{tile_count_pos}
 use Rattle.plan.proofs.Box.{quotient_is}
 use Rattle.layout.proofs.Twins.{twin}
 use Rattle.layout.specs.Places.{nth, Has}
-use Rattle.layout.proofs.Dims.{product-pos, place-lengths}
-use Rattle.layout.proofs.Cells.{across-product, box-few}
-use Rattle.parcels.specs.Twins.{twoBefore, Twin}
+use Rattle.layout.proofs.Dims.{product_pos, place_lengths}
+use Rattle.layout.proofs.Cells.{across_product, box_few}
+use Rattle.parcels.specs.Twins.{two_before, Twin}
 
 -- tile u is one before tile t along dimension l, t's place there is p
 pub record OneBack (N : ℕ → ℕ) (n t u l p : ℕ) : Type 0 where
@@ -42,8 +42,8 @@ pub record Peeled (N : ℕ → ℕ) (n t left rest stride : ℕ) : Type 0 where
   pub before : (p j : ℕ) → j < left → place N n (p * stride + (t - rest * stride)) j ≡ place N left p j
   pub after : (p j : ℕ) → left ≤ j → j < n → place N n (p * stride + (t - rest * stride)) j ≡ place N n t j
 
-pub peeled-none : (N : ℕ → ℕ) (n t : ℕ) → Peeled N n t n t 1
-peeled-none N n t =
+pub peeled_none : (N : ℕ → ℕ) (n t : ℕ) → Peeled N n t n t 1
+peeled_none N n t =
     record {
       low = omega arith;
       all = omega arith;
@@ -52,16 +52,16 @@ peeled-none N n t =
       after = λ p j h k. absurd (omega arith);
     }
 
-pub peeled-few : (N : ℕ → ℕ) (n t left rest stride : ℕ) → Peeled N n t left rest stride → Positive N n → stride ≤ product N n
-peeled-few N n t left rest stride s h = omega
-    (arith, s.all, mul-le-mul_right stride (product-pos N left (λ j k. h j (omega (arith, s.low)))))
+pub peeled_few : (N : ℕ → ℕ) (n t left rest stride : ℕ) → Peeled N n t left rest stride → Positive N n → stride ≤ product N n
+peeled_few N n t left rest stride s h = omega
+    (arith, s.all, mul-le-mul_right stride (product_pos N left (λ j k. h j (omega (arith, s.low)))))
 
 module _ (N : ℕ → ℕ) (n t l q s : ℕ) (f : Peeled N n t (suc l) q s) (pos : 1 ≤ N l) where
   split : q / N l * N l + q % N l ≡ q
   split = div-add-mod' q (N l)
 
-  rest-low : q % N l < N l
-  rest-low = mod-lt q pos
+  rest_low : q % N l < N l
+  rest_low = mod-lt q pos
 
   swap : (p : ℕ) → p * (s * N l) ≡ p * N l * s
   swap p = sym (mul_assoc p s (N l)) ∙ mul_right_comm p s (N l)
@@ -73,23 +73,23 @@ module _ (N : ℕ → ℕ) (n t l q s : ℕ) (f : Peeled N n t (suc l) q s) (pos
   same_number p = omega (arith, swap p, swap (q / N l), parts, add-mul (p * N l) (q % N l) s, f.over)
 
   quotient : (p : ℕ) → (p * N l + q % N l) / N l ≡ p
-  quotient p = quotient_is (N l) p (p * N l + q % N l) (omega arith) (omega (arith, rest-low))
+  quotient p = quotient_is (N l) p (p * N l + q % N l) (omega arith) (omega (arith, rest_low))
 
   own : place N n t l ≡ q % N l
   own =
       ap (λ (a : ℕ). place N n a l) {x = t} {y = q * s + (t - q * s)} (omega (arith, f.over))
       ∙ f.before q l (omega arith)
-      ∙ place-last N l q
+      ∙ place_last N l q
 
-  peeled-next : Peeled N n t l (q / N l) (s * N l)
+  peeled_next : Peeled N n t l (q / N l) (s * N l)
   unfolding product
-  peeled-next =
+  peeled_next =
       record {
         low = omega (arith, f.low);
         all = swap' ∙ f.all;
         over = omega (arith, swap (q / N l), parts, f.over);
         before = λ p j h. ap (λ (a : ℕ). place N n a j) (same_number p) ∙ f.before (p * N l + q % N l) j (omega arith)
-            ∙ place-before N l (p * N l + q % N l) j h ∙ ap (λ (a : ℕ). place N l a j) (quotient p);
+            ∙ place_before N l (p * N l + q % N l) j h ∙ ap (λ (a : ℕ). place N l a j) (quotient p);
         after = λ p j h k. ap (λ (a : ℕ). place N n a j) (same_number p) ∙ go p j k (eq-or-lt_of_le h);
       }
     where
@@ -101,9 +101,9 @@ module _ (N : ℕ → ℕ) (n t l q s : ℕ) (f : Peeled N n t (suc l) q s) (pos
       go p j k (inl e) =
           rw (← e)
           (f.before (p * N l + q % N l) l (omega arith)
-          ∙ place-last N l (p * N l + q % N l)
+          ∙ place_last N l (p * N l + q % N l)
           ∙ mul-add-mod_self_right p (N l) (q % N l)
-          ∙ mod-eq_of_lt rest-low
+          ∙ mod-eq_of_lt rest_low
           ∙ sym own)
 
   -- one back along the dimension
@@ -117,104 +117,104 @@ module _ (N : ℕ → ℕ) (n t l q s : ℕ) (f : Peeled N n t (suc l) q s) (pos
     pub back_low : s ≤ t
     back_low = omega (arith, ap (λ (a : ℕ). a * s) first, suc-mul (q - 1) s, f.over)
 
-    back-before : (j : ℕ) → j < l → place N n (t - s) j ≡ place N n t j
-    back-before j k =
+    back_before : (j : ℕ) → j < l → place N n (t - s) j ≡ place N n t j
+    back_before j k =
         ap (λ (a : ℕ). place N n a j) back_is
         ∙ f.before (q - 1) j (omega arith)
-        ∙ place-before N l (q - 1) j k
-        ∙ ap (λ (a : ℕ). place N l a j) (quotient_is (N l) (q / N l) (q - 1) (omega (arith, split)) (omega (arith, split, rest-low)))
+        ∙ place_before N l (q - 1) j k
+        ∙ ap (λ (a : ℕ). place N l a j) (quotient_is (N l) (q / N l) (q - 1) (omega (arith, split)) (omega (arith, split, rest_low)))
         ∙ sym (ap (λ (a : ℕ). place N n a j) {x = t} {y = q * s + (t - q * s)} (omega (arith, f.over)) ∙ f.before q j (omega arith)
-        ∙ place-before N l q j k)
+        ∙ place_before N l q j k)
 
-    back-own : place N n (t - s) l + 1 ≡ place N n t l
-    back-own =
+    back_own : place N n (t - s) l + 1 ≡ place N n t l
+    back_own =
         let z : place N n (t - s) l ≡ q % N l - 1 =
         ap (λ (a : ℕ). place N n a l) back_is
         ∙ f.before (q - 1) l (omega arith)
-        ∙ place-last N l (q - 1)
+        ∙ place_last N l (q - 1)
         ∙ ap (λ (a : ℕ). a % N l) {x = q - 1} {y = q / N l * N l + (q % N l - 1)} (omega (arith, split))
         ∙ mul-add-mod_self_right (q / N l) (N l) (q % N l - 1)
-        ∙ mod-eq_of_lt (omega (arith, rest-low)) in
+        ∙ mod-eq_of_lt (omega (arith, rest_low)) in
         omega (arith, own)
 
-    back-after : (j : ℕ) → l < j → j < n → place N n (t - s) j ≡ place N n t j
-    back-after j k m = ap (λ (a : ℕ). place N n a j) back_is ∙ f.after (q - 1) j (omega arith) m
+    back_after : (j : ℕ) → l < j → j < n → place N n (t - s) j ≡ place N n t j
+    back_after j k m = ap (λ (a : ℕ). place N n a j) back_is ∙ f.after (q - 1) j (omega arith) m
 
     pub back_one : OneBack N n t (t - s) l (q % N l)
-    back_one = record { own = own; here = omega (arith, back-own); elsewhere = λ j k d. go j k d (dec_lt j l) }
+    back_one = record { own = own; here = omega (arith, back_own); elsewhere = λ j k d. go j k d (dec_lt j l) }
       where
         go : (j : ℕ) → j < n → (j ≡ l → ⊥) → Dec (j < l) → place N n t j ≡ place N n (t - s) j
-        go j k d (yes a) = sym (back-before j a)
-        go j k d (no a) = sym (back-after j (omega arith) k)
+        go j k d (yes a) = sym (back_before j a)
+        go j k d (no a) = sym (back_after j (omega arith) k)
 
-pub peeled-more : (N : ℕ → ℕ) (n t left q s : ℕ) → Peeled N n t left q s → 0 < left → 1 ≤ N (left - 1)
+pub peeled_more : (N : ℕ → ℕ) (n t left q s : ℕ) → Peeled N n t left q s → 0 < left → 1 ≤ N (left - 1)
     → Peeled N n t (left - 1) (q / N (left - 1)) (s * N (left - 1))
-peeled-more N n t zero q s f h pos = absurd (omega arith)
-peeled-more N n t (suc l) q s f h pos = let z : suc l - 1 ≡ l = omega arith in rw z (peeled-next N n t l q s f (rw z at pos))
+peeled_more N n t zero q s f h pos = absurd (omega arith)
+peeled_more N n t (suc l) q s f h pos = let z : suc l - 1 ≡ l = omega arith in rw z (peeled_next N n t l q s f (rw z at pos))
 
-pub peeled-back : (N : ℕ → ℕ) (n t left q s : ℕ) → Peeled N n t left q s → 0 < left → 1 ≤ N (left - 1) → 1 ≤ q % N (left - 1)
+pub peeled_back : (N : ℕ → ℕ) (n t left q s : ℕ) → Peeled N n t left q s → 0 < left → 1 ≤ N (left - 1) → 1 ≤ q % N (left - 1)
     → (s ≤ t) × OneBack N n t (t - s) (left - 1) (q % N (left - 1))
-peeled-back N n t zero q s f h pos a = absurd (omega arith)
-peeled-back N n t (suc l) q s f h pos a =
+peeled_back N n t zero q s f h pos a = absurd (omega arith)
+peeled_back N n t (suc l) q s f h pos a =
     let z : suc l - 1 ≡ l = omega arith in
     let p : 1 ≤ N l = rw z at pos in
     let b : 1 ≤ q % N l = rw z at a in
     rw z (back_low N n t l q s f p b, back_one N n t l q s f p b)
 
-module _ (r : Route) (x : Nest) (ok : Accepted x) (t : ℕ) (low : t < boxTiles x) where
-  module _ (across : List ℕ) (b : Has across (tileCount x) x.dimensions) where
-    counts : (c j : ℕ) → place (nth across) x.dimensions c j ≡ tilePlace x c j
-    unfolding tilePlace
-    counts c j = place-lengths (nth across) (tileCount x) x.dimensions c j b.each
+module _ (r : Route) (x : Nest) (ok : Accepted x) (t : ℕ) (low : t < box_tiles x) where
+  module _ (across : List ℕ) (b : Has across (tile_count x) x.dimensions) where
+    counts : (c j : ℕ) → place (nth across) x.dimensions c j ≡ tile_place x c j
+    unfolding tile_place
+    counts c j = place_lengths (nth across) (tile_count x) x.dimensions c j b.each
 
-    pub twin-stride : (left q s : ℕ) → Peeled (nth across) x.dimensions t left q s → s ≤ 16384
-    twin-stride left q s f =
+    pub twin_stride : (left q s : ℕ) → Peeled (nth across) x.dimensions t left q s → s ≤ 16384
+    twin_stride left q s f =
         omega (
           arith,
-          peeled-few (nth across) x.dimensions t left q s f (λ j h. omega (arith, b.each j h, tileCount-pos x ok j h)),
-          across-product x ok across b,
-          box-few x ok,
+          peeled_few (nth across) x.dimensions t left q s f (λ j h. omega (arith, b.each j h, tile_count_pos x ok j h)),
+          across_product x ok across b,
+          box_few x ok,
         )
 
     -- the dimension allows it: there is a tile before it, or two, and a whole one after it
-    module _ (two : ℕ) (is : two ≡ twoBefore r x) (left q s : ℕ) (f : Peeled (nth across) x.dimensions t left q s) (h : 0 < left)
+    module _ (two : ℕ) (is : two ≡ two_before r x) (left q s : ℕ) (f : Peeled (nth across) x.dimensions t left q s) (h : 0 < left)
         (k : (ltb (one (ltb (left - 1) two)) (q % get_or across (left - 1) 0) and leb
-        ((q % get_or across (left - 1) 0 + 2) * tileLength x (left - 1)) (length_of x (left - 1))) ≡ true) where
-      a-low : left - 1 < x.dimensions
-      a-low = omega (arith, f.low)
+        ((q % get_or across (left - 1) 0 + 2) * tile_length x (left - 1)) (length_of x (left - 1))) ≡ true) where
+      a_low : left - 1 < x.dimensions
+      a_low = omega (arith, f.low)
 
       many : one (ltb (left - 1) two) < q % get_or across (left - 1) 0
       many = ltb-true _ _ (both k).0
 
       back : (s ≤ t) × OneBack (nth across) x.dimensions t (t - s) (left - 1) (q % get_or across (left - 1) 0)
-      back = peeled-back (nth across) x.dimensions t left q s f h
-          (omega (arith, b.each (left - 1) a-low, tileCount-pos x ok (left - 1) a-low)) (omega (arith, many))
+      back = peeled_back (nth across) x.dimensions t left q s f h
+          (omega (arith, b.each (left - 1) a_low, tile_count_pos x ok (left - 1) a_low)) (omega (arith, many))
 
-      at-is : tilePlace x t (left - 1) ≡ q % get_or across (left - 1) 0
-      at-is = sym (counts t (left - 1)) ∙ back.1.own
+      at_is : tile_place x t (left - 1) ≡ q % get_or across (left - 1) 0
+      at_is = sym (counts t (left - 1)) ∙ back.1.own
 
-      here : tilePlace x t (left - 1) ≡ suc (tilePlace x (t - s) (left - 1))
+      here : tile_place x t (left - 1) ≡ suc (tile_place x (t - s) (left - 1))
       here = sym (counts t (left - 1)) ∙ back.1.here ∙ ap suc (counts (t - s) (left - 1))
 
-      elsewhere : (j : ℕ) → j < x.dimensions → (j ≡ left - 1 → ⊥) → tilePlace x t j ≡ tilePlace x (t - s) j
+      elsewhere : (j : ℕ) → j < x.dimensions → (j ≡ left - 1 → ⊥) → tile_place x t j ≡ tile_place x (t - s) j
       elsewhere j m n = sym (counts t j) ∙ back.1.elsewhere j m n ∙ counts (t - s) j
 
-      whole : suc (suc (tilePlace x t (left - 1))) * tileLength x (left - 1) ≤ length_of x (left - 1)
+      whole : suc (suc (tile_place x t (left - 1))) * tile_length x (left - 1) ≤ length_of x (left - 1)
       whole =
-          let e : suc (suc (tilePlace x t (left - 1))) ≡ q % get_or across (left - 1) 0 + 2 = omega (arith, at-is) in
+          let e : suc (suc (tile_place x t (left - 1))) ≡ q % get_or across (left - 1) 0 + 2 = omega (arith, at_is) in
           rw e (leb-true _ _ (both k).1)
 
-      second : r ≡ Indirect → suc (left - 1) < x.spread → 2 ≤ tilePlace x t (left - 1)
+      second : r ≡ Indirect → suc (left - 1) < x.spread → 2 ≤ tile_place x t (left - 1)
       second e l =
-          let w : twoBefore r x ≡ x.spread - 1 = ap (λ (c : Route). twoBefore c x) e in
-          omega (arith, many, at-is, one-true (lt-ltb (left - 1) two (omega (arith, is))))
+          let w : two_before r x ≡ x.spread - 1 = ap (λ (c : Route). two_before c x) e in
+          omega (arith, many, at_is, one_true (lt-ltb (left - 1) two (omega (arith, is))))
 
-      pub twin-low : s ≤ t
-      twin-low = back.0
+      pub twin_low : s ≤ t
+      twin_low = back.0
 
-      pub twin-back : Twin r x t (t - s)
-      twin-back =
+      pub twin_back : Twin r x t (t - s)
+      twin_back =
           record {
             low = omega arith;
-            same = λ w l. (twin x ok t (t - s) (left - 1) low (omega arith) a-low here elsewhere whole r w l second).1;
+            same = λ w l. (twin x ok t (t - s) (left - 1) low (omega arith) a_low here elsewhere whole r w l second).1;
           }

@@ -14,20 +14,20 @@ use lib.Dec.{ltb}
 use borrow.Author.Tests.{lt-ltb, le-ltb, ltb-true, le-leb}
 use Rattle.base.specs.Tests.{◌and◌, ◌or◌, every, some}
 use Rattle.base.specs.Lists.{sublist, unpack}
-use Rattle.base.proofs.Tests.{and_left, and_no, or_left, never_both, same_test, every-at, every-all, every-not, length-tabulate}
+use Rattle.base.proofs.Tests.{and_left, and_no, or_left, never_both, same_test, every_at, every_all, every_not, length_tabulate}
 use Rattle.nest.specs.declared.Nest.{Nest}
 use Rattle.nest.specs.Accepted.{Accepted}
 use Rattle.nest.specs.Nest.{component}
 use Rattle.layout.specs.Regions.{Region, among}
 use Rattle.layout.specs.CellRows.{row_of, Given}
-use Rattle.layout.proofs.Loops.{Sofar, sofar-end}
-use Rattle.layout.proofs.CellRows.{every-last}
+use Rattle.layout.proofs.Loops.{Sofar, sofar_end}
+use Rattle.layout.proofs.CellRows.{every_last}
 use Rattle.parcels.specs.declared.Sending.{Sending}
 use Rattle.parcels.specs.declared.Window.{Window}
-use Rattle.parcels.specs.Windows.{last, windowOf, RowEnd, DistanceEnds, isRead, Leading, carries}
+use Rattle.parcels.specs.Windows.{last, window_of, RowEnd, DistanceEnds, is_read, Leading, carries}
 use Rattle.parcels.specs.Sendings.{found, RowEnds}
-use Rattle.parcels.proofs.Walks.{Measuring, Unpacking, found-mono, unpack-append}
-use Rattle.parcels.proofs.Packing.{row-run, row-all}
+use Rattle.parcels.proofs.Walks.{Measuring, Unpacking, found_mono, unpack_append}
+use Rattle.parcels.proofs.Packing.{row_run, row_all}
 
 -- ---- where distance e puts cells of a row
 
@@ -35,49 +35,49 @@ use Rattle.parcels.proofs.Packing.{row-run, row-all}
 abbrev pub carried : List ℕ → Window → List ℕ → ℕ → ℕ → Bool
 carried components w i e j = carries (get_or w.low j 0) (get_or w.high j 0) (get_or i j 0 + get_or components (4 * e + j) 0)
 
-pub given-few : (x : Nest) (ok : Accepted x) (components : List ℕ) → Given x components → (e j : ℕ) → get_or components (4 * e + j) 0 ≤ 1024
-given-few x ok components g e j = rw g.is (ok.component-most e j)
+pub given_few : (x : Nest) (ok : Accepted x) (components : List ℕ) → Given x components → (e j : ℕ) → get_or components (4 * e + j) 0 ≤ 1024
+given_few x ok components g e j = rw g.is (ok.component_most e j)
 
 module _ (x : Nest) (ok : Accepted x) (w : Window) (i : List ℕ) (e : ℕ) (components : List ℕ) (g : Given x components) where
-  none_below : ((k : ℕ → ℕ) → ((j : ℕ) → j < last x → k j ≡ get_or i j 0) → among x (windowOf w) (λ j. k j + component x e j) ≡ false)
-      → RowEnd x (windowOf w) (λ j. get_or i j 0) e 0
+  none_below : ((k : ℕ → ℕ) → ((j : ℕ) → j < last x → k j ≡ get_or i j 0) → among x (window_of w) (λ j. k j + component x e j) ≡ false)
+      → RowEnd x (window_of w) (λ j. get_or i j 0) e 0
   none_below f = record { is = λ k h. le-ltb (k (last x)) 0 (omega arith) ∙ sym (f k h) }
 
   module _ (k : ℕ → ℕ) (h : (j : ℕ) → j < last x → k j ≡ get_or i j 0) where
-    same-carry : (j : ℕ) → j < last x
+    same_carry : (j : ℕ) → j < last x
         → carries (get_or w.low j 0) (get_or w.high j 0) (k j + component x e j) ≡ carried components w i e j
-    same-carry j l = rw (h j l, g.is)
+    same_carry j l = rw (h j l, g.is)
 
-    stops : (j : ℕ) → j < last x → carried components w i e j ≡ false → among x (windowOf w) (λ j. k j + component x e j) ≡ false
+    stops : (j : ℕ) → j < last x → carried components w i e j ≡ false → among x (window_of w) (λ j. k j + component x e j) ≡ false
     unfolding among
-    stops j l t = every-not _ x.dimensions j (omega arith) (same-carry j l ∙ t)
+    stops j l t = every_not _ x.dimensions j (omega arith) (same_carry j l ∙ t)
 
     goes_on : every (carried components w i e) (last x) ≡ true
-        → among x (windowOf w) (λ j. k j + component x e j) ≡ carries (get_or w.low (last x) 0) (get_or w.high (last x) 0)
+        → among x (window_of w) (λ j. k j + component x e j) ≡ carries (get_or w.low (last x) 0) (get_or w.high (last x) 0)
         (k (last x) + component x e (last x))
     unfolding among
     goes_on t =
-        every-last _ x.dimensions (omega (arith, ok.dimensions-least))
-        ∙ and_left _ _ (every-all _ (last x) (λ j l. same-carry j l ∙ every-at (carried components w i e) (last x) t j l))
+        every_last _ x.dimensions (omega (arith, ok.dimensions_least))
+        ∙ and_left _ _ (every_all _ (last x) (λ j l. same_carry j l ∙ every_at (carried components w i e) (last x) t j l))
 
-  pub end-stops : (j : ℕ) → j < last x → carried components w i e j ≡ false → RowEnd x (windowOf w) (λ j. get_or i j 0) e 0
-  end-stops j l t = none_below (λ k h. stops k h j l t)
+  pub end_stops : (j : ℕ) → j < last x → carried components w i e j ≡ false → RowEnd x (window_of w) (λ j. get_or i j 0) e 0
+  end_stops j l t = none_below (λ k h. stops k h j l t)
 
   module _ (j : ℕ) (s : Sofar (carried components w i e) (last x) j) (l : last x ≤ j) where
     all : every (carried components w i e) (last x) ≡ true
-    all = sofar-end _ _ j s l
+    all = sofar_end _ _ j s l
 
-    d-is : get_or components (4 * e + last x) 0 ≡ component x e (last x)
-    d-is = ap (λ (z : List ℕ). get_or z (4 * e + last x) 0) g.is
+    d_is : get_or components (4 * e + last x) 0 ≡ component x e (last x)
+    d_is = ap (λ (z : List ℕ). get_or z (4 * e + last x) 0) g.is
 
-    pub end_none : get_or w.high (last x) 0 < get_or components (4 * e + last x) 0 → RowEnd x (windowOf w) (λ j. get_or i j 0) e 0
+    pub end_none : get_or w.high (last x) 0 < get_or components (4 * e + last x) 0 → RowEnd x (window_of w) (λ j. get_or i j 0) e 0
     end_none b = none_below (λ k h. goes_on k h all
-        ∙ and_no _ _ (le-ltb (k (last x) + component x e (last x)) (get_or w.high (last x) 0) (omega (arith, d-is))))
+        ∙ and_no _ _ (le-ltb (k (last x) + component x e (last x)) (get_or w.high (last x) 0) (omega (arith, d_is))))
 
     -- the window is open at the start of the row
-    pub end-some : get_or w.low (last x) 0 ≡ 0 → get_or components (4 * e + last x) 0 ≤ get_or w.high (last x) 0
-        → RowEnd x (windowOf w) (λ j. get_or i j 0) e (get_or w.high (last x) 0 - get_or components (4 * e + last x) 0)
-    end-some o b = record {
+    pub end_some : get_or w.low (last x) 0 ≡ 0 → get_or components (4 * e + last x) 0 ≤ get_or w.high (last x) 0
+        → RowEnd x (window_of w) (λ j. get_or i j 0) e (get_or w.high (last x) 0 - get_or components (4 * e + last x) 0)
+    end_some o b = record {
       is = λ k h. below (k (last x))
           ∙ sym (goes_on k h all ∙ and_left _ _ (le-leb (get_or w.low (last x) 0) (k (last x) + component x e (last x)) (omega arith)));
     }
@@ -87,9 +87,9 @@ module _ (x : Nest) (ok : Accepted x) (w : Window) (i : List ℕ) (e : ℕ) (com
         below m =
             same_test
             (λ t. lt-ltb (m + component x e (last x)) (get_or w.high (last x) 0)
-            (omega (arith, d-is, ltb-true m (get_or w.high (last x) 0 - get_or components (4 * e + last x) 0) t)))
+            (omega (arith, d_is, ltb-true m (get_or w.high (last x) 0 - get_or components (4 * e + last x) 0) t)))
             (λ t. lt-ltb m (get_or w.high (last x) 0 - get_or components (4 * e + last x) 0)
-            (omega (arith, d-is, ltb-true (m + component x e (last x)) (get_or w.high (last x) 0) t)))
+            (omega (arith, d_is, ltb-true (m + component x e (last x)) (get_or w.high (last x) 0) t)))
 
 -- ---- the ends of the first e distances
 
@@ -99,12 +99,12 @@ pub record Ending (x : Nest) (w : Region) (i : ℕ → ℕ) (ends : List ℕ) (e
   pub each : (d : ℕ) → d < e → RowEnd x w i d (get_or ends d 0)
 
 module _ (x : Nest) (w : Region) (i : ℕ → ℕ) where
-  pub ending-none : (ends : List ℕ) → length ends ≡ 8 → Ending x w i ends 0
-  ending-none ends h = record { low = omega arith; long = h; each = λ d k. absurd (omega arith) }
+  pub ending_none : (ends : List ℕ) → length ends ≡ 8 → Ending x w i ends 0
+  ending_none ends h = record { low = omega arith; long = h; each = λ d k. absurd (omega arith) }
 
-  pub ending-more : (ends : List ℕ) (e v : ℕ) → Ending x w i ends e → e < x.distances → x.distances ≤ 8 → RowEnd x w i e v
+  pub ending_more : (ends : List ℕ) (e v : ℕ) → Ending x w i ends e → e < x.distances → x.distances ≤ 8 → RowEnd x w i e v
       → Ending x w i (set ends e v) (e + 1)
-  ending-more ends e v s h m r =
+  ending_more ends e v s h m r =
       record { low = omega arith; long = length-set ends e v ∙ s.long; each = λ d k. go d (eq-or-lt_of_le (low d k)) }
     where
       low : (d : ℕ) → d < e + 1 → d ≤ e
@@ -114,20 +114,20 @@ module _ (x : Nest) (w : Region) (i : ℕ → ℕ) where
       go d (inl q) = rw (q, get_or-set_same ends e v 0 (omega (arith, s.long))) r
       go d (inr q) = rw (get_or-set_other ends e d v 0 (λ z. omega arith)) (s.each d q)
 
-  pub ending-end : (ends : List ℕ) (e : ℕ) → Ending x w i ends e → x.distances ≤ e → DistanceEnds x w i ends
-  ending-end ends e s h = record { each = λ d k. s.each d (omega (arith, s.low)) }
+  pub ending_end : (ends : List ℕ) (e : ℕ) → Ending x w i ends e → x.distances ≤ e → DistanceEnds x w i ends
+  ending_end ends e s h = record { each = λ d k. s.each d (omega (arith, s.low)) }
 
 -- ---- the run of a row
 
 pub record Highest (ends : List ℕ) (n a m e : ℕ) : Type 0 where
   pub low : e ≤ n
   pub most : a ≤ m
-  pub is : (y : ℕ) → ltb (a + y) m ≡ isRead ends e (a + y)
+  pub is : (y : ℕ) → ltb (a + y) m ≡ is_read ends e (a + y)
 
-or-none : (t : Bool) → t ≡ false → (u : Bool) → u ≡ (t or u)
+or_none : (t : Bool) → t ≡ false → (u : Bool) → u ≡ (t or u)
 unfolding ◌or◌
-or-none false e u = refl
-or-none true e u = absurd (never_both refl e)
+or_none false e u = refl
+or_none true e u = absurd (never_both refl e)
 
 or_no : (t u : Bool) → u ≡ false → t ≡ (t or u)
 unfolding ◌or◌
@@ -140,9 +140,9 @@ or_yes true u e = refl
 or_yes false u e = sym e
 
 module _ (ends : List ℕ) (n a : ℕ) where
-  pub highest-none : Highest ends n a a 0
+  pub highest_none : Highest ends n a a 0
   unfolding some
-  highest-none = record { low = omega arith; most = omega arith; is = λ y. le-ltb (a + y) a (omega arith) }
+  highest_none = record { low = omega arith; most = omega arith; is = λ y. le-ltb (a + y) a (omega arith) }
 
   module _ (m e : ℕ) (s : Highest ends n a m e) (h : e < n) where
     step : (m' : ℕ) → ((y : ℕ) → ltb (a + y) m' ≡ (ltb (a + y) m or ltb (a + y) (get_or ends e 0))) → a ≤ m' → Highest ends n a m' (e + 1)
@@ -154,14 +154,14 @@ module _ (ends : List ℕ) (n a : ℕ) where
           (f y ∙ ap (λ (t : Bool). t or ltb (a + y) (get_or ends e 0)) (s.is y));
     }
 
-    pub highest-turn : (m' : ℕ) → ((m < get_or ends e 0) × (m' ≡ get_or ends e 0)) ⊎ ((get_or ends e 0 ≤ m) × (m' ≡ m))
+    pub highest_turn : (m' : ℕ) → ((m < get_or ends e 0) × (m' ≡ get_or ends e 0)) ⊎ ((get_or ends e 0 ≤ m) × (m' ≡ m))
         → Highest ends n a m' (e + 1)
-    highest-turn m' (inl (l, q)) = rw q (step (get_or ends e 0) (λ y. go y (dec_lt (a + y) (get_or ends e 0))) (omega (arith, s.most)))
+    highest_turn m' (inl (l, q)) = rw q (step (get_or ends e 0) (λ y. go y (dec_lt (a + y) (get_or ends e 0))) (omega (arith, s.most)))
       where
         go : (y : ℕ) → Dec (a + y < get_or ends e 0) → ltb (a + y) (get_or ends e 0) ≡ (ltb (a + y) m or ltb (a + y) (get_or ends e 0))
         go y (yes k) = lt-ltb _ _ k ∙ or_yes (ltb (a + y) m) _ (lt-ltb _ _ k)
-        go y (no k) = or-none (ltb (a + y) m) (le-ltb (a + y) m (omega arith)) _
-    highest-turn m' (inr (l, q)) = rw q (step m (λ y. go y (dec_lt (a + y) m)) s.most)
+        go y (no k) = or_none (ltb (a + y) m) (le-ltb (a + y) m (omega arith)) _
+    highest_turn m' (inr (l, q)) = rw q (step m (λ y. go y (dec_lt (a + y) m)) s.most)
       where
         go : (y : ℕ) → Dec (a + y < m) → ltb (a + y) m ≡ (ltb (a + y) m or ltb (a + y) (get_or ends e 0))
         go y (yes k) = lt-ltb (a + y) m k ∙ sym (or_left _ (lt-ltb (a + y) m k))
@@ -180,32 +180,32 @@ module _ (ends : List ℕ) (n a : ℕ) where
 
 module _ (x : Nest) (z : Sending) (first c a w : ℕ) (ends : List ℕ) (f : RowEnds x z first c a w ends) where
   module _ (n : ℕ) (p : Leading ends x.distances a w n) where
-    pub run-all : found x z (first + w) ≡ found x z first ++ row_of c n
-    run-all = row-all x z first c a w ends f ∙ ap (λ (k : List ℕ). found x z first ++ k) (row-run ends x.distances c a w n p)
+    pub run_all : found x z (first + w) ≡ found x z first ++ row_of c n
+    run_all = row_all x z first c a w ends f ∙ ap (λ (k : List ℕ). found x z first ++ k) (row_run ends x.distances c a w n p)
 
     pub run_length : length (found x z (first + w)) ≡ length (found x z first) + n
-    run_length = ap length run-all ∙ length-append (found x z first) (row_of c n)
-        ∙ ap (λ (m : ℕ). length (found x z first) + m) (length-tabulate _ n)
+    run_length = ap length run_all ∙ length-append (found x z first) (row_of c n)
+        ∙ ap (λ (m : ℕ). length (found x z first) + m) (length_tabulate _ n)
 
-    pub measure-run : (count : ℕ) → Measuring x z count first → Measuring x z (count + n) (first + w)
-    measure-run count m = record { low = f.room; is = ap (λ (k : ℕ). k + n) m.is ∙ sym run_length }
+    pub measure_run : (count : ℕ) → Measuring x z count first → Measuring x z (count + n) (first + w)
+    measure_run count m = record { low = f.room; is = ap (λ (k : ℕ). k + n) m.is ∙ sym run_length }
 
-    pub unpack-run : (memory₀ words memory memory' : List ℕ) (count : ℕ) → Unpacking x z memory₀ words memory count first
+    pub unpack_run : (memory₀ words memory memory' : List ℕ) (count : ℕ) → Unpacking x z memory₀ words memory count first
         → count ≤ length words
         → memory' ≡ unpack memory (row_of c n) (sublist words count n) → Unpacking x z memory₀ words memory' (count + n) (first + w)
     unfolding sublist
-    unpack-run memory₀ words memory memory' count u l e =
+    unpack_run memory₀ words memory memory' count u l e =
         record {
           low = f.room;
-          count-is = ap (λ (k : ℕ). k + n) u.count-is ∙ sym run_length;
+          count_is = ap (λ (k : ℕ). k + n) u.count_is ∙ sym run_length;
           is = e
               ∙ ap (λ (k : List ℕ). unpack k (row_of c n) (take n (drop count words))) u.is
-              ∙ sym (unpack-append memory₀ (found x z first) (row_of c n) (take count words) (take n (drop count words))
-              (length-take-le count words l ∙ u.count-is))
-              ∙ ap (λ (k : List ℕ). unpack memory₀ k (take count words ++ take n (drop count words))) (sym run-all)
+              ∙ sym (unpack_append memory₀ (found x z first) (row_of c n) (take count words) (take n (drop count words))
+              (length-take-le count words l ∙ u.count_is))
+              ∙ ap (λ (k : List ℕ). unpack memory₀ k (take count words ++ take n (drop count words))) (sym run_all)
               ∙ ap (unpack memory₀ (found x z (first + w))) (sym (take-add count n words));
         }
 
     -- what the run takes of the words is there
     pub run_room : (count : ℕ) → count ≡ length (found x z first) → count + n ≤ length (found x z (z.rows * z.width))
-    run_room count e = omega (arith, run_length, found-mono x z (z.rows * z.width) (first + w) f.room)
+    run_room count e = omega (arith, run_length, found_mono x z (z.rows * z.width) (first + w) f.room)

@@ -7,29 +7,29 @@ use Rattle.nest.specs.declared.Nest.{Nest}
 use Rattle.nest.specs.Nest.{length_of, component, cells}
 use Rattle.plan.specs.declared.Route.{Route}
 use Rattle.plan.specs.declared.Route.TheVariants.{Direct, Indirect}
-use Rattle.nest.specs.Places.{tilePlace}
-use Rattle.plan.specs.Messages.{ways, slots, slotTile, slotCells, slotParcel}
-use Rattle.layout.specs.Regions.{Region, among, side, regionPlace, regionCell, tilesBox, tilesWindow, slotBox, slotWindow, comesInto}
+use Rattle.nest.specs.Places.{tile_place}
+use Rattle.plan.specs.Messages.{ways, slots, slot_tile, slot_cells, slot_parcel}
+use Rattle.layout.specs.Regions.{Region, among, side, region_place, region_cell, tiles_box, tiles_window, slot_box, slot_window, comes_into}
 use Rattle.layout.specs.Sizes.{along}
 use Rattle.layout.specs.Places.{nth, Has}
 use Rattle.parcels.specs.declared.Block.{Block}
 use Rattle.parcels.specs.declared.Window.{Window}
 use Rattle.parcels.specs.declared.Sending.{Sending}
 use Rattle.parcels.specs.declared.Row.{Row}
-use Rattle.parcels.specs.Windows.{last, windowOf, DistanceEnds, Leading}
+use Rattle.parcels.specs.Windows.{last, window_of, DistanceEnds, Leading}
 
 -- ---- box and window of a slot
 
 -- its tile's place, and how its way moves it
 pub record Headed (r : Route) (x : Nest) (s : ℕ) (at ahead : List ℕ) : Type 0 where
   pub low : s < slots r x
-  pub tile : Has at (tilePlace x (slotTile r x s)) x.dimensions
+  pub tile : Has at (tile_place x (slot_tile r x s)) x.dimensions
   pub way : Has ahead (along r x (s % ways r x)) x.dimensions
 
 -- nothing is to be counted, or all of the slot's cells
 pub record Idle (r : Route) (x : Nest) (s : ℕ) (t : Bool) : Type 0 where
-  pub none : t ≡ true → length (slotParcel r x s) ≡ 0
-  pub all : t ≡ false → slotParcel r x s ≡ slotCells r x s
+  pub none : t ≡ true → length (slot_parcel r x s) ≡ 0
+  pub all : t ≡ false → slot_parcel r x s ≡ slot_cells r x s
 
 -- in the dimensions below the first number cells come from the tile before too, from the second on they may go to the tile after too
 abbrev pub earlier : Route → ℕ → ℕ
@@ -41,11 +41,11 @@ later Direct w = 4
 later Indirect w = w + 1
 
 -- so the box of tile place `at`, and the window of the place `to` that it is bound for
-abbrev pub boxAt : Nest → (ℕ → ℕ) → ℕ → Region
-boxAt x at n = tilesBox x (λ j. at j - one (ltb j n)) at
+abbrev pub box_at : Nest → (ℕ → ℕ) → ℕ → Region
+box_at x at n = tiles_box x (λ j. at j - one (ltb j n)) at
 
-abbrev pub windowAt : Nest → (ℕ → ℕ) → ℕ → Region
-windowAt x to n = tilesWindow x to (λ j. to j + one (leb n j))
+abbrev pub window_at : Nest → (ℕ → ℕ) → ℕ → Region
+window_at x to n = tiles_window x to (λ j. to j + one (leb n j))
 
 -- the arrays have them
 pub record Boxed (x : Nest) (g : Region) (b : Block) : Type 0 where
@@ -59,15 +59,15 @@ pub record Windowed (x : Nest) (g : Region) (w : Window) : Type 0 where
 -- ---- what is found once
 
 -- the box as the arrays have it
-abbrev pub boxOf : Block → Region
-boxOf b = record { low = nth b.corner; high = λ j. get_or b.corner j 0 + get_or b.lengths j 0 }
+abbrev pub box_of : Block → Region
+box_of b = record { low = nth b.corner; high = λ j. get_or b.corner j 0 + get_or b.lengths j 0 }
 
 -- in index order its n-th place, and the cell there
 abbrev pub place_in : Nest → Sending → ℕ → ℕ → ℕ
-place_in x z = regionPlace x (boxOf z.block)
+place_in x z = region_place x (box_of z.block)
 
-abbrev pub cellIn : Nest → Sending → ℕ → ℕ
-cellIn x z = regionCell x (boxOf z.block)
+abbrev pub cell_in : Nest → Sending → ℕ → ℕ
+cell_in x z = region_cell x (box_of z.block)
 
 -- it has a cell, lies inside the nest and is so many rows of this width; the window is open at the start of a row
 pub record BoxOfRows (x : Nest) (z : Sending) : Type 0 where
@@ -79,14 +79,14 @@ pub record BoxOfRows (x : Nest) (z : Sending) : Type 0 where
 
 -- of the first n cells of the box, those that some distance puts into the window
 unfoldable pub found : Nest → Sending → ℕ → List ℕ
-found x z n = map (cellIn x z) (keep (λ q. comesInto x (windowOf z.window) (place_in x z q)) n)
+found x z n = map (cell_in x z) (keep (λ q. comes_into x (window_of z.window) (place_in x z q)) n)
 
 -- they are slot s's, whose box and window it has
 pub record Sends (r : Route) (x : Nest) (s : ℕ) (z : Sending) : Type 0 where
   pub shape : BoxOfRows x z
-  pub box : Boxed x (slotBox r x s) z.block
-  pub window : Windowed x (slotWindow r x s) z.window
-  pub cells : slotCells r x s ≡ found x z (z.rows * z.width)
+  pub box : Boxed x (slot_box r x s) z.block
+  pub window : Windowed x (slot_window r x s) z.window
+  pub cells : slot_cells r x s ≡ found x z (z.rows * z.width)
 
 -- ---- what is found of a row
 
@@ -95,16 +95,16 @@ pub record RowEnds (x : Nest) (z : Sending) (first c a w : ℕ) (ends : List ℕ
   pub room : first + w ≤ z.rows * z.width
   pub low : c + w ≤ cells x
   pub small : a + w ≤ 1024
-  pub number : (y : ℕ) → y < w → c + y ≡ cellIn x z (first + y)
+  pub number : (y : ℕ) → y < w → c + y ≡ cell_in x z (first + y)
   pub tests : (y e : ℕ) → y < w → e < x.distances
-      → ltb (a + y) (get_or ends e 0) ≡ among x (windowOf z.window) (λ j. place_in x z (first + y) j + component x e j)
+      → ltb (a + y) (get_or ends e 0) ≡ among x (window_of z.window) (λ j. place_in x z (first + y) j + component x e j)
 
 -- row r of the box: its place, the ends in it, how many of its cells are in the parcel, and the rows from it on that have the same ends
 pub record RowAt (x : Nest) (z : Sending) (r : ℕ) (q : Row) : Type 0 where
   pub place : Has q.place (place_in x z (r * z.width)) x.dimensions
-  pub limits : DistanceEnds x (windowOf z.window) (nth q.place) q.ends
+  pub limits : DistanceEnds x (window_of z.window) (nth q.place) q.ends
   pub run : Leading q.ends x.distances q.component z.width q.run
   pub least : 1 ≤ q.alike
   pub room : r + q.alike ≤ z.rows
   pub alike : (y : ℕ) → y < q.alike
-      → RowEnds x z ((r + y) * z.width) (cellIn x z ((r + y) * z.width)) q.component z.width q.ends
+      → RowEnds x z ((r + y) * z.width) (cell_in x z ((r + y) * z.width)) q.component z.width q.ends

@@ -19,8 +19,8 @@ abbrev pub beside : Nest → ℕ
 beside x = x.dimensions - 1 - 1
 
 -- the window as the arrays have it
-abbrev pub windowOf : Window → Region
-windowOf w = record { low = nth w.low; high = nth w.high }
+abbrev pub window_of : Window → Region
+window_of w = record { low = nth w.low; high = nth w.high }
 
 -- in the row of place i, distance e puts a cell into the window just where its last component is below r
 pub record RowEnd (x : Nest) (w : Region) (i : ℕ → ℕ) (e r : ℕ) : Type 0 where
@@ -31,13 +31,13 @@ pub record DistanceEnds (x : Nest) (w : Region) (i : ℕ → ℕ) (ends : List �
   pub each : (e : ℕ) → e < x.distances → RowEnd x w i e (get_or ends e 0)
 
 -- a cell of the row with the last component m is below one of the n ends: some distance puts it there
-abbrev pub isRead : List ℕ → ℕ → ℕ → Bool
-isRead ends n m = some (λ e. ltb m (get_or ends e 0)) n
+abbrev pub is_read : List ℕ → ℕ → ℕ → Bool
+is_read ends n m = some (λ e. ltb m (get_or ends e 0)) n
 
 -- of the w cells from the last component a on, the first r are below one of the n ends, and no others
 pub record Leading (ends : List ℕ) (n a w r : ℕ) : Type 0 where
   pub low : r ≤ w
-  pub is : (y : ℕ) → y < w → ltb y r ≡ isRead ends n (a + y)
+  pub is : (y : ℕ) → y < w → ltb y r ≡ is_read ends n (a + y)
 
 -- ---- rows alike
 
@@ -67,8 +67,8 @@ pub record Alike (x : Nest) (w : Window) (b : Block) (i : List ℕ) (r : ℕ) : 
 
 -- of the w cells of a row, the first with number c and last component a, those that one of the n distances puts there, being
 -- below its end: each once, rising
-unfoldable pub rowParcel : List ℕ → ℕ → ℕ → ℕ → ℕ → List ℕ
-rowParcel ends n c a w = map (λ y. c + y) (keep (λ y. isRead ends n (a + y)) w)
+unfoldable pub row_parcel : List ℕ → ℕ → ℕ → ℕ → ℕ → List ℕ
+row_parcel ends n c a w = map (λ y. c + y) (keep (λ y. is_read ends n (a + y)) w)
 
 -- the row is the memory's, and its cells that are to be packed have room from `packed` on
 pub record RowRoom (ends : List ℕ) (n c a w : ℕ) (memory words : List ℕ) (packed : ℕ) : Type 0 where
@@ -76,10 +76,10 @@ pub record RowRoom (ends : List ℕ) (n c a w : ℕ) (memory words : List ℕ) (
   pub low : c + w ≤ length memory
   pub short : length memory ≤ 16384
   pub small : a + w ≤ 1024
-  pub room : packed + length (rowParcel ends n c a w) ≤ length words
+  pub room : packed + length (row_parcel ends n c a w) ≤ length words
   pub most : length words ≤ 16384
 
 -- their words stand from `packed` on, all other words as before, and `count` words are then packed
 pub record RowPacked (ends : List ℕ) (n c a w : ℕ) (memory words₀ : List ℕ) (packed : ℕ) (words : List ℕ) (count : ℕ) : Type 0 where
-  pub count-is : count ≡ packed + length (rowParcel ends n c a w)
-  pub is : words ≡ put words₀ packed (pack memory (rowParcel ends n c a w))
+  pub count_is : count ≡ packed + length (row_parcel ends n c a w)
+  pub is : words ≡ put words₀ packed (pack memory (row_parcel ends n c a w))

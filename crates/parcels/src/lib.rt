@@ -3,14 +3,14 @@ ghost use Rattle.std.specs.Prelude.{◌≡◌, ℕ, ◌+◌, ◌*◌, ◌-◌, m
 ghost use Rattle.base.specs.Tests.{◌and◌, one, some};
 ghost use Rattle.base.specs.Lists.{pack, unpack};
 ghost use Rattle.nest.specs.Accepted.{Accepted};
-ghost use Rattle.nest.specs.Nest.{tileCount, cells};
-ghost use Rattle.plan.specs.Messages.{slots, slotParcel};
+ghost use Rattle.nest.specs.Nest.{tile_count, cells};
+ghost use Rattle.plan.specs.Messages.{slots, slot_parcel};
 ghost use Rattle.layout.specs.Sizes.{Sized};
 ghost use Rattle.layout.specs.Places.{nth};
 ghost use Rattle.layout.specs.CellRows.{Given};
-ghost use Rattle.parcels.specs.Twins.{twoBefore};
-ghost use Rattle.parcels.specs.Windows.{windowOf, RowEnd, DistanceEnds, Leading, carries, Unchanged, InBlock, Alike, RowRoom, RowPacked};
-ghost use Rattle.parcels.specs.Sendings.{earlier, later, boxAt, windowAt, Boxed, Windowed, Headed, Idle, BoxOfRows, Sends, RowAt};
+ghost use Rattle.parcels.specs.Twins.{two_before};
+ghost use Rattle.parcels.specs.Windows.{window_of, RowEnd, DistanceEnds, Leading, carries, Unchanged, InBlock, Alike, RowRoom, RowPacked};
+ghost use Rattle.parcels.specs.Sendings.{earlier, later, box_at, window_at, Boxed, Windowed, Headed, Idle, BoxOfRows, Sends, RowAt};
 
 use layout::Sizes;
 use nest::Nest;
@@ -86,7 +86,7 @@ fn back(at: usize, test: bool) -> usize
 // route cells come from there too.
 pub fn two_before(nest: Nest, route: Route) -> usize
     requires { Accepted nest }
-    ensures { result ≡ twoBefore route nest }
+    ensures { result ≡ two_before route nest }
 {
     match route {
         Route::Direct => 0,
@@ -126,8 +126,8 @@ fn end_of(at: usize, tiling: usize, length: usize) -> usize
 
 // The box of a slot's cells: the tile's and, in dimensions below `earlier`, those of the tile before it.
 fn block_of(nest: Nest, at: [usize; 4], earlier: usize) -> Block
-    requires { Accepted nest × ((j : ℕ) → j < nest.dimensions → get_or at j 0 < tileCount nest j) }
-    ensures { Boxed nest (boxAt nest (nth at) earlier) result }
+    requires { Accepted nest × ((j : ℕ) → j < nest.dimensions → get_or at j 0 < tile_count nest j) }
+    ensures { Boxed nest (box_at nest (nth at) earlier) result }
 {
     let mut corner = [0; 4];
     let mut lengths = [0; 4];
@@ -156,7 +156,7 @@ fn window_of(
     later: usize,
 ) -> Window
     requires { Accepted nest × ((lengths ≡ nest.lengths) × ((j : ℕ) → j < nest.spread → get_or at j 0 + get_or ahead j 0 ≤ 1024)) }
-    ensures { Windowed nest (windowAt nest (λ j. get_or at j 0 + get_or ahead j 0) later) result }
+    ensures { Windowed nest (window_at nest (λ j. get_or at j 0 + get_or ahead j 0) later) result }
 {
     let tiling = nest.tiling;
     let mut low = [0; 4];
@@ -184,7 +184,7 @@ pub fn end_in_row(
 ) -> usize
     requires accepted { Accepted nest × ((e < nest.distances) × Given nest components.now) }
     requires dimensions_value { (get_or window.low (nest.dimensions - 1) 0 ≡ 0) × ((j : ℕ) → j < nest.dimensions → get_or at.now j 0 < 1024) }
-    ensures { RowEnd nest (windowOf window) (nth at.now) e result }
+    ensures { RowEnd nest (window_of window) (nth at.now) e result }
 {
     let last = nest.dimensions - 1;
     let low = window.low;
@@ -205,7 +205,7 @@ pub fn end_in_row(
 fn ends_of(nest: Nest, components: &[usize; 32], window: Window, at: &[usize; 4]) -> [usize; 8]
     requires accepted { Accepted nest × Given nest components.now }
     requires dimensions_value { (get_or window.low (nest.dimensions - 1) 0 ≡ 0) × ((j : ℕ) → j < nest.dimensions → get_or at.now j 0 < 1024) }
-    ensures { DistanceEnds nest (windowOf window) (nth at.now) result }
+    ensures { DistanceEnds nest (window_of window) (nth at.now) result }
 {
     let mut ends = [0; 8];
     let n = nest.distances;
@@ -373,7 +373,7 @@ pub fn row_at(nest: Nest, components: &[usize; 32], sending: Sending, r: usize) 
 // How many cells a slot's parcel has.
 pub fn parcel_length(nest: Nest, sizes: Sizes, slot: usize) -> usize
     requires { Sized nest sizes × (slot < slots sizes.route nest) }
-    ensures { (result ≡ length (slotParcel sizes.route nest slot)) × (result ≤ 16384) }
+    ensures { (result ≡ length (slot_parcel sizes.route nest slot)) × (result ≤ 16384) }
 {
     let at = layout::place_of_tile(nest, sizes, slot / sizes.ways);
     let ahead = layout::along_of(nest, sizes, slot % sizes.ways);
@@ -427,8 +427,8 @@ fn pack_row(
 // The words of a slot's parcel, row by row: rows alike that have none of it are passed over at once.
 pub fn pack(nest: Nest, sizes: Sizes, slot: usize, words: &mut [u32], memory: &[u32])
     requires { Sized nest sizes × ((slot < slots sizes.route nest) × ((length memory.now ≡ cells nest)
-        × ((length words.old ≡ length (slotParcel sizes.route nest slot)) × (0 < length words.old)))) }
-    ensures { words.new ≡ pack memory.now (slotParcel sizes.route nest slot) }
+        × ((length words.old ≡ length (slot_parcel sizes.route nest slot)) × (0 < length words.old)))) }
+    ensures { words.new ≡ pack memory.now (slot_parcel sizes.route nest slot) }
 {
     let at = layout::place_of_tile(nest, sizes, slot / sizes.ways);
     let ahead = layout::along_of(nest, sizes, slot % sizes.ways);
@@ -465,8 +465,8 @@ pub fn pack(nest: Nest, sizes: Sizes, slot: usize, words: &mut [u32], memory: &[
 // Each word of a slot's parcel to its cell, row by row.
 pub fn unpack(nest: Nest, sizes: Sizes, slot: usize, memory: &mut [u32], words: &[u32])
     requires { Sized nest sizes × ((slot < slots sizes.route nest) × ((length memory.old ≡ cells nest)
-        × ((length words.now ≡ length (slotParcel sizes.route nest slot)) × (0 < length words.now)))) }
-    ensures { memory.new ≡ unpack memory.old (slotParcel sizes.route nest slot) words.now }
+        × ((length words.now ≡ length (slot_parcel sizes.route nest slot)) × (0 < length words.now)))) }
+    ensures { memory.new ≡ unpack memory.old (slot_parcel sizes.route nest slot) words.now }
 {
     let at = layout::place_of_tile(nest, sizes, slot / sizes.ways);
     let ahead = layout::along_of(nest, sizes, slot % sizes.ways);

@@ -2,19 +2,19 @@
 ghost use Rattle.std.specs.Prelude.{◌≡◌, ℕ, ◌+◌, ◌-◌, ◌≤◌, ◌<◌, length, get_or};
 ghost use Rattle.base.specs.Lists.{pack, unpack};
 ghost use Rattle.nest.specs.Accepted.{Accepted};
-ghost use Rattle.nest.specs.Nest.{length_of, component, cells, boxTiles};
-ghost use Rattle.nest.specs.Places.{tilePlace};
+ghost use Rattle.nest.specs.Nest.{length_of, component, cells, box_tiles};
+ghost use Rattle.nest.specs.Places.{tile_place};
 ghost use Rattle.nest.specs.Spans.{last, Narrow, Spans};
 ghost use Rattle.plan.specs.declared.Route.TheVariants.{Direct};
 ghost use Rattle.plan.specs.Messages.{ways};
 ghost use Rattle.layout.specs.Regions.{Region};
-ghost use Rattle.plan.specs.Shaped.{shapedParcel};
+ghost use Rattle.plan.specs.Shaped.{shaped_parcel};
 ghost use Rattle.layout.specs.Sizes.{Sized};
 ghost use Rattle.layout.specs.Places.{nth, Has};
 ghost use Rattle.layout.specs.CellRows.{Given};
-ghost use Rattle.parcels.specs.Windows.{windowOf, RowEnd};
+ghost use Rattle.parcels.specs.Windows.{window_of, RowEnd};
 ghost use Rattle.parcels.specs.Sendings.{BoxOfRows};
-ghost use Rattle.parcels.specs.shaped.Runs.{RunIs, reachesPlace, comesShaped, RunsAre};
+ghost use Rattle.parcels.specs.shaped.Runs.{RunIs, reaches_place, comes_shaped, RunsAre};
 ghost use Rattle.parcels.specs.shaped.Parcels.{Farthest, Near, Rows, RowRuns};
 
 use crate::{Block, Sending, Window};
@@ -67,7 +67,7 @@ fn reach_of(
     requires accepted { Accepted nest × ((e < nest.distances) × Given nest components.now) }
     requires by_index { ((j : ℕ) → j < nest.dimensions → get_or at j 0 < 1024) × Spans nest at own }
     ensures { (w : Region) → w.high (last nest) ≤ length_of nest (last nest) → RowEnd nest w (nth at) e limit
-        → RunIs nest (nth at) (reachesPlace nest w e) result.from result.to }
+        → RunIs nest (nth at) (reaches_place nest w e) result.from result.to }
 {
     if limit == 0 {
         return Interval { from: 0, to: 0 };
@@ -96,7 +96,7 @@ fn runs_of(
     requires accepted { Accepted nest × (Given nest components.now
         × ((get_or window.low (last nest) 0 ≡ 0) × (get_or window.high (last nest) 0 ≤ length_of nest (last nest)))) }
     requires by_index { ((j : ℕ) → j < nest.dimensions → get_or at j 0 < 1024) × Spans nest at own }
-    ensures { (result.place ≡ at) × RunsAre nest (nth at) (comesShaped nest (windowOf window)) result.runs result.starts result.ends }
+    ensures { (result.place ≡ at) × RunsAre nest (nth at) (comes_shaped nest (window_of window)) result.runs result.starts result.ends }
 {
     let n = nest.distances;
     let mut starts = [0; 8];
@@ -189,8 +189,8 @@ fn rows_of(
     at: [usize; 4],
     way: usize,
 ) -> Sending
-    requires sized { Sized nest sizes × ((sizes.route ≡ Direct) × ((tile < boxTiles nest) × (way < ways Direct nest))) }
-    requires farthest { Farthest nest most × Has at (tilePlace nest tile) nest.dimensions }
+    requires sized { Sized nest sizes × ((sizes.route ≡ Direct) × ((tile < box_tiles nest) × (way < ways Direct nest))) }
+    requires farthest { Farthest nest most × Has at (tile_place nest tile) nest.dimensions }
     ensures { Rows nest tile (way + 1) result }
 {
     let slot = tile * sizes.ways + way;
@@ -208,9 +208,9 @@ pub fn count_of(
     at: [usize; 4],
     way: usize,
 ) -> usize
-    requires sized { Sized nest sizes × ((sizes.route ≡ Direct) × ((tile < boxTiles nest) × (way < ways Direct nest))) }
-    requires farthest { Farthest nest most × Has at (tilePlace nest tile) nest.dimensions }
-    ensures { (result ≡ length (shapedParcel nest tile (way + 1))) × (result ≤ 16384) }
+    requires sized { Sized nest sizes × ((sizes.route ≡ Direct) × ((tile < box_tiles nest) × (way < ways Direct nest))) }
+    requires farthest { Farthest nest most × Has at (tile_place nest tile) nest.dimensions }
+    ensures { (result ≡ length (shaped_parcel nest tile (way + 1))) × (result ≤ 16384) }
 {
     let rows = rows_of(nest, sizes, most, tile, at, way);
     let components = nest.components;
@@ -229,7 +229,7 @@ pub fn count_of(
 
 // The rows that hold the cells of a tile of the box and a way, whose place and distances are looked at here.
 pub fn rows_at(nest: Nest, sizes: Sizes, tile: usize, way: usize) -> Sending
-    requires { Sized nest sizes × ((sizes.route ≡ Direct) × ((tile < boxTiles nest) × (way < ways Direct nest))) }
+    requires { Sized nest sizes × ((sizes.route ≡ Direct) × ((tile < box_tiles nest) × (way < ways Direct nest))) }
     ensures { Rows nest tile (way + 1) result }
 {
     let at = layout::place_of_tile(nest, sizes, tile);
@@ -238,9 +238,9 @@ pub fn rows_at(nest: Nest, sizes: Sizes, tile: usize, way: usize) -> Sending
 
 // The words of a slot's parcel, row by row.
 pub fn pack(nest: Nest, sizes: Sizes, tile: usize, way: usize, words: &mut [u32], memory: &[u32])
-    requires sized { Sized nest sizes × ((sizes.route ≡ Direct) × ((tile < boxTiles nest) × (way < ways Direct nest))) }
-    requires memory_len { (length memory.now ≡ cells nest) × (length words.old ≡ length (shapedParcel nest tile (way + 1))) }
-    ensures { words.new ≡ pack memory.now (shapedParcel nest tile (way + 1)) }
+    requires sized { Sized nest sizes × ((sizes.route ≡ Direct) × ((tile < box_tiles nest) × (way < ways Direct nest))) }
+    requires memory_len { (length memory.now ≡ cells nest) × (length words.old ≡ length (shaped_parcel nest tile (way + 1))) }
+    ensures { words.new ≡ pack memory.now (shaped_parcel nest tile (way + 1)) }
 {
     let rows = rows_at(nest, sizes, tile, way);
     let components = nest.components;
@@ -270,9 +270,9 @@ pub fn pack(nest: Nest, sizes: Sizes, tile: usize, way: usize, words: &mut [u32]
 
 // Each word of a slot's parcel to its cell, row by row.
 pub fn unpack(nest: Nest, sizes: Sizes, tile: usize, way: usize, memory: &mut [u32], words: &[u32])
-    requires sized { Sized nest sizes × ((sizes.route ≡ Direct) × ((tile < boxTiles nest) × (way < ways Direct nest))) }
-    requires memory_len { (length memory.old ≡ cells nest) × (length words.now ≡ length (shapedParcel nest tile (way + 1))) }
-    ensures { memory.new ≡ unpack memory.old (shapedParcel nest tile (way + 1)) words.now }
+    requires sized { Sized nest sizes × ((sizes.route ≡ Direct) × ((tile < box_tiles nest) × (way < ways Direct nest))) }
+    requires memory_len { (length memory.old ≡ cells nest) × (length words.now ≡ length (shaped_parcel nest tile (way + 1))) }
+    ensures { memory.new ≡ unpack memory.old (shaped_parcel nest tile (way + 1)) words.now }
 {
     let rows = rows_at(nest, sizes, tile, way);
     let components = nest.components;

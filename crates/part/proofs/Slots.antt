@@ -8,7 +8,7 @@ use lib.ListN.{length, get_or}
 use Rattle.machine.specs.Plan.{Message, count}
 use Rattle.nest.specs.declared.Nest.{Nest}
 use Rattle.plan.specs.declared.Route.{Route}
-use Rattle.plan.specs.Messages.{messagesOf}
+use Rattle.plan.specs.Messages.{messages_of}
 use Rattle.plan.specs.Shaped.{plan_of}
 use Rattle.tables.specs.scans.Scans.{Lengths, Summing}
 use Rattle.tables.proofs.scans.Laws as scans
@@ -22,8 +22,8 @@ pub record Past (lens : List ℕ) (n s m o : ℕ) : Type 0 where
   pub small : o ≤ 16384 * s
   pub sums : (f : ℕ → Message) → Lengths f n lens → Summing f s m o
 
-pub past-start : (lens : List ℕ) (n : ℕ) → Past lens n 0 0 0
-past-start lens n = record { low = omega arith; few = omega arith; small = omega arith; sums = λ f h. scans.sum-start f }
+pub past_start : (lens : List ℕ) (n : ℕ) → Past lens n 0 0 0
+past_start lens n = record { low = omega arith; few = omega arith; small = omega arith; sums = λ f h. scans.sum_start f }
 
 -- a slot with a message, or an empty one
 abbrev pub Met : ℕ → ℕ → ℕ → Type 0
@@ -43,7 +43,7 @@ module _ (r : Route) (x : Nest) (lens : List ℕ) (n s m o : ℕ) (g : Past lens
           low = omega arith;
           few = fewer h;
           small = omega (arith, g.small, short);
-          sums = λ f i. scans.sum-turn f s m o w m' (g.sums f i) (e ∙ i.each s l) h;
+          sums = λ f i. scans.sum_turn f s m o w m' (g.sums f i) (e ∙ i.each s l) h;
         }
       where
         fewer : Met w m m' → m' ≤ s + 1
@@ -53,4 +53,4 @@ module _ (r : Route) (x : Nest) (lens : List ℕ) (n s m o : ℕ) (g : Past lens
   pub past_all : n ≤ s → m ≡ count (plan_of r x)
   past_all k =
       let z : s ≡ n = omega (arith, g.low) in
-      (g.sums t.slot t.lengths).number ∙ ap (λ (i : ℕ). length (messagesOf t.slot i)) z ∙ sym t.counts
+      (g.sums t.slot t.lengths).number ∙ ap (λ (i : ℕ). length (messages_of t.slot i)) z ∙ sym t.counts

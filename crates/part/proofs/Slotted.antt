@@ -11,9 +11,9 @@ use Rattle.nest.specs.declared.Nest.{Nest}
 use Rattle.nest.specs.Shape.{tiles}
 use Rattle.plan.specs.declared.Route.{Route}
 use Rattle.plan.specs.declared.Route.TheVariants.{Direct}
-use Rattle.plan.specs.Messages.{slots, slotMessage, messagesOf, messagesTo, boxPlan}
-use Rattle.plan.specs.Shaped.{shapedMessage, shapedSlots, plan_of}
-use Rattle.plan.proofs.ShapedBox.{planOf-box}
+use Rattle.plan.specs.Messages.{slots, slot_message, messages_of, messages_to, box_plan}
+use Rattle.plan.specs.Shaped.{shaped_message, shaped_slots, plan_of}
+use Rattle.plan.proofs.ShapedBox.{plan_of_box}
 use Rattle.layout.specs.declared.Sizes.{Sizes}
 use Rattle.layout.specs.Sizes.{Sized}
 use Rattle.tables.specs.declared.scans.MessageSlot.{MessageSlot}
@@ -28,7 +28,7 @@ pub record Slotted (r : Route) (x : Nest) (lens : List ℕ) (n : ℕ) : Type 0 w
   pub slot : ℕ → Message
   pub sheet : Sheet lens n
   pub lengths : Lengths slot n lens
-  pub counts : count (plan_of r x) ≡ length (messagesOf slot n)
+  pub counts : count (plan_of r x) ≡ length (messages_of slot n)
   pub found : (m : ℕ) (p : MessageSlot) → ((f : ℕ → Message) → Lengths f n lens → Found f n m p) → FoundIn r x m p
 
 module _ (x : Nest) (z : Sizes) (s : Sized x z) (lens : List ℕ) (t : Tabled x z lens) (k : ℕ) (is : k ≡ (plan_of z.route x).tiles) where
@@ -36,11 +36,11 @@ module _ (x : Nest) (z : Sizes) (s : Sized x z) (lens : List ℕ) (t : Tabled x 
     abbrev r : Route
     r = z.route
 
-    slots-are : k * z.ways ≡ slots r x
-    slots-are = rw (is ∙ ap (λ (p : Plan). p.tiles) (planOf-box r x s.accepted e), s.ways) refl
+    slots_are : k * z.ways ≡ slots r x
+    slots_are = rw (is ∙ ap (λ (p : Plan). p.tiles) (plan_of_box r x s.accepted e), s.ways) refl
 
-    found_at : (m : ℕ) (p : MessageSlot) → Found (slotMessage r x) (slots r x) m p → FoundAt r x m p
-    unfolding messagesTo
+    found_at : (m : ℕ) (p : MessageSlot) → Found (slot_message r x) (slots r x) m p → FoundAt r x m p
+    unfolding messages_to
     found_at m p f =
         record {
           number = f.number;
@@ -53,56 +53,56 @@ module _ (x : Nest) (z : Sizes) (s : Sized x z) (lens : List ℕ) (t : Tabled x 
           room = f.room;
         }
 
-    counts-are : count (boxPlan r x) ≡ length (messagesOf (slotMessage r x) (slots r x))
-    unfolding messagesTo
-    counts-are = refl
+    counts_are : count (box_plan r x) ≡ length (messages_of (slot_message r x) (slots r x))
+    unfolding messages_to
+    counts_are = refl
 
-    box-slotted : Slotted r x lens (k * z.ways)
-    box-slotted =
+    box_slotted : Slotted r x lens (k * z.ways)
+    box_slotted =
         let b = t.box e in
-        rw slots-are (record {
-          slot = slotMessage r x;
+        rw slots_are (record {
+          slot = slot_message r x;
           sheet = record {
             long = b.long;
-            few = boxes.slots-few r x s.accepted e;
-            short = λ i h. rw (b.each i h) (boxes.parcel-few r x s.accepted i);
+            few = boxes.slots_few r x s.accepted e;
+            short = λ i h. rw (b.each i h) (boxes.parcel_few r x s.accepted i);
           };
           lengths = record { each = b.each };
-          counts = ap (λ (p : Plan). count p) (planOf-box r x s.accepted e) ∙ counts-are;
-          found = λ m p f. tables.box-found x s.accepted r e m m p refl (found_at m p (f (slotMessage r x) (record { each = b.each })));
+          counts = ap (λ (p : Plan). count p) (plan_of_box r x s.accepted e) ∙ counts_are;
+          found = λ m p f. tables.box_found x s.accepted r e m m p refl (found_at m p (f (slot_message r x) (record { each = b.each })));
         })
 
   module _ (n : x.bounds ≢ 0) where
     direct : z.route ≡ Direct
     direct = t.routed n
 
-    tiles-are : k ≡ tiles x
-    tiles-are = is ∙ ap (λ (q : Route). (plan_of q x).tiles) direct
+    tiles_are : k ≡ tiles x
+    tiles_are = is ∙ ap (λ (q : Route). (plan_of q x).tiles) direct
 
-    shape-slots : k * z.ways ≡ shapedSlots x
-    shape-slots = tables.slots-are x s.accepted z.route n direct k z.ways tiles-are s.ways
+    shape_slots : k * z.ways ≡ shaped_slots x
+    shape_slots = tables.slots_are x s.accepted z.route n direct k z.ways tiles_are s.ways
 
-    of-shape : Lengths (shapedMessage x) (k * z.ways) lens
-    of-shape = shapes.lengths x s.accepted lens (t.shape n) (k * z.ways) (omega (arith, shape-slots))
+    of_shape : Lengths (shaped_message x) (k * z.ways) lens
+    of_shape = shapes.lengths x s.accepted lens (t.shape n) (k * z.ways) (omega (arith, shape_slots))
 
-    shape-counts : count (plan_of z.route x) ≡ length (messagesOf (shapedMessage x) (k * z.ways))
-    shape-counts = ap (λ (q : Route). count (plan_of q x)) direct ∙ ap (λ (i : ℕ). length (messagesOf (shapedMessage x) i)) (sym shape-slots)
+    shape_counts : count (plan_of z.route x) ≡ length (messages_of (shaped_message x) (k * z.ways))
+    shape_counts = ap (λ (q : Route). count (plan_of q x)) direct ∙ ap (λ (i : ℕ). length (messages_of (shaped_message x) i)) (sym shape_slots)
 
-    shape-slotted : Slotted z.route x lens (k * z.ways)
-    shape-slotted =
+    shape_slotted : Slotted z.route x lens (k * z.ways)
+    shape_slotted =
         record {
-          slot = shapedMessage x;
-          sheet = shapes.sheet x s.accepted lens (t.shape n) (k * z.ways) (omega (arith, shape-slots));
-          lengths = of-shape;
-          counts = shape-counts;
+          slot = shaped_message x;
+          sheet = shapes.sheet x s.accepted lens (t.shape n) (k * z.ways) (omega (arith, shape_slots));
+          lengths = of_shape;
+          counts = shape_counts;
           found = λ m p f.
-              tables.shape-nth x s.accepted z.route n direct k z.ways tiles-are s.ways lens (t.shape n) m p
-              (omega (arith, (f (shapedMessage x) of-shape).low, shape-counts)) (λ g i l. f g i);
+              tables.shape_nth x s.accepted z.route n direct k z.ways tiles_are s.ways lens (t.shape n) m p
+              (omega (arith, (f (shaped_message x) of_shape).low, shape_counts)) (λ g i l. f g i);
         }
 
   pub slotted : Slotted z.route x lens (k * z.ways)
   slotted = go (ℕ_discrete x.bounds 0)
     where
       go : Dec (x.bounds ≡ 0) → Slotted z.route x lens (k * z.ways)
-      go (yes e) = box-slotted e
-      go (no n) = shape-slotted n
+      go (yes e) = box_slotted e
+      go (no n) = shape_slotted n

@@ -9,13 +9,13 @@ use lib.ListN.{length, get_or, drop, set, length-set, drop_of_length-le}
 use lib.Seq.{drop-cons, ext_get_or}
 use Rattle.base.specs.Tests.{one, keep, tabulate}
 use Rattle.base.specs.Lists.{unpack, pack}
-use Rattle.base.proofs.Select.{keep-more}
-use Rattle.base.proofs.Lists.{pack-length}
-use Rattle.base.proofs.Entries.{pack-at, at_in}
+use Rattle.base.proofs.Select.{keep_more}
+use Rattle.base.proofs.Lists.{pack_length}
+use Rattle.base.proofs.Entries.{pack_at, at_in}
 use Rattle.machine.specs.Plan.{Plan}
-use Rattle.base.proofs.Stored.{Stored, store-start, store-next}
+use Rattle.base.proofs.Stored.{Stored, store_start, store_next}
 use Rattle.network.specs.Own.{owns, keeps, source_of}
-use Rattle.rank_index.specs.Ranks.{markedAt, marked_cells, rank_at, spreadOut}
+use Rattle.rank_index.specs.Ranks.{marked_at, marked_cells, rank_at, spread_out}
 use Rattle.rank_index.proofs.Ranks as ranks
 use Rattle.part.specs.Part.{all_of, Listed}
 
@@ -35,44 +35,44 @@ module _ (marks : List ℕ) where
       pub long : length now ≡ length memory
       pub low : i ≤ length cells
       pub rank : at ≡ rank_at marks known
-      pub is : unpack (spreadOut marks now) (drop i cells) (drop i words) ≡ unpack (spreadOut marks memory) cells words
+      pub is : unpack (spread_out marks now) (drop i cells) (drop i words) ≡ unpack (spread_out marks memory) cells words
 
-    pub take-start : Taking memory 0 0 0
+    pub take_start : Taking memory 0 0 0
     unfolding keep
-    take-start = record { long = refl; low = omega arith; rank = refl; is = refl }
+    take_start = record { long = refl; low = omega arith; rank = refl; is = refl }
 
     abbrev given : ℕ → ℕ
-    given j = get_or (spreadOut marks memory) (get_or cells j 0) 0
+    given j = get_or (spread_out marks memory) (get_or cells j 0) 0
 
     pub record Giving (now : List ℕ) (known at i : ℕ) : Type 0 where
       pub rank : at ≡ rank_at marks known
       pub stored : Stored given words now i
 
-    pub give-start : Giving words 0 0 0
+    pub give_start : Giving words 0 0 0
     unfolding keep
-    give-start = record { rank = refl; stored = store-start given words }
+    give_start = record { rank = refl; stored = store_start given words }
 
   module _ (counts cells memory words : List ℕ) (g : Listed marks counts cells memory words) where
     module _ (i c : ℕ) (l : i < length cells) (e : c ≡ get_or cells i 0) where
-      pub cell-low : c < length marks
-      cell-low = rw e (g.each (get_or cells i 0) (at_in cells i l)).0
+      pub cell_low : c < length marks
+      cell_low = rw e (g.each (get_or cells i 0) (at_in cells i l)).0
 
-      pub cell-marked : markedAt marks c ≡ true
-      cell-marked = rw e (g.each (get_or cells i 0) (at_in cells i l)).1
+      pub cell_marked : marked_at marks c ≡ true
+      cell_marked = rw e (g.each (get_or cells i 0) (at_in cells i l)).1
 
       pub at_room : (r : ℕ) → r ≡ rank_at marks c → r < length memory
-      at_room r q = omega (arith, q, g.part-long, ranks.rank-low marks c cell-low cell-marked)
+      at_room r q = omega (arith, q, g.part_long, ranks.rank_low marks c cell_low cell_marked)
 
       pub at_next : (r : ℕ) → r ≡ rank_at marks c → r + 1 ≡ rank_at marks (c + 1)
-      at_next r q = omega (arith, q, keep-more (markedAt marks) c cell-marked, ap (rank_at marks) (add-one c))
+      at_next r q = omega (arith, q, keep_more (marked_at marks) c cell_marked, ap (rank_at marks) (add-one c))
 
       -- the numbers of a turn, all small
       pub moves : (r : ℕ) → r ≡ rank_at marks c → Moves memory words i c r
       moves r q =
           record {
-            cell = omega (arith, cell-low, g.few);
+            cell = omega (arith, cell_low, g.few);
             place = at_room r q;
-            short = omega (arith, g.part-long, g.few, ranks.rank_most marks (length marks));
+            short = omega (arith, g.part_long, g.few, ranks.rank_most marks (length marks));
             next = omega (arith, g.words_long);
           }
 
@@ -82,54 +82,54 @@ module _ (marks : List ℕ) where
       unfolding unpack
       take_next c r l e q =
           let w = get_or words i 0 in
-          let long : length now ≡ length (marked_cells marks) = t.long ∙ g.part-long in
-          let stored : set (spreadOut marks now) c w ≡ spreadOut marks (set now r w) =
-          ranks.spread-set marks now long c (cell-low i c l e) (cell-marked i c l e) w ∙ ap (λ (k : ℕ). spreadOut marks (set now k w)) (sym q) in
-          let one_more : unpack (spreadOut marks now) (drop i cells) (drop i words) ≡ unpack (set (spreadOut marks now) c w) (drop (suc i) cells)
+          let long : length now ≡ length (marked_cells marks) = t.long ∙ g.part_long in
+          let stored : set (spread_out marks now) c w ≡ spread_out marks (set now r w) =
+          ranks.spread_set marks now long c (cell_low i c l e) (cell_marked i c l e) w ∙ ap (λ (k : ℕ). spread_out marks (set now k w)) (sym q) in
+          let one_more : unpack (spread_out marks now) (drop i cells) (drop i words) ≡ unpack (set (spread_out marks now) c w) (drop (suc i) cells)
           (drop (suc i) words) =
           rw (drop-cons cells i 0 l, drop-cons words i 0 (omega (arith, g.words_long, l)), e) refl in
           record {
             long = length-set now r w ∙ t.long;
             low = omega arith;
             rank = at_next i c l e r q;
-            is = ap (λ (k : ℕ). unpack (spreadOut marks (set now r w)) (drop k cells) (drop k words)) (add-one i)
+            is = ap (λ (k : ℕ). unpack (spread_out marks (set now r w)) (drop k cells) (drop k words)) (add-one i)
                 ∙ ap (λ (s : List ℕ). unpack s (drop (suc i) cells) (drop (suc i) words)) (sym stored)
                 ∙ sym one_more ∙ t.is;
           }
 
-      pub take_done : length cells ≤ i → now ≡ pack (unpack (spreadOut marks memory) cells words) (marked_cells marks)
+      pub take_done : length cells ≤ i → now ≡ pack (unpack (spread_out marks memory) cells words) (marked_cells marks)
       unfolding unpack
       take_done h =
-          let long : length now ≡ length (marked_cells marks) = t.long ∙ g.part-long in
-          sym (ranks.pack-spread marks now long)
+          let long : length now ≡ length (marked_cells marks) = t.long ∙ g.part_long in
+          sym (ranks.pack_spread marks now long)
           ∙ ap (λ (s : List ℕ). pack s (marked_cells marks))
-          (ap (λ (cs : List ℕ). unpack (spreadOut marks now) cs (drop i words)) (sym (drop_of_length-le cells h)) ∙ t.is)
+          (ap (λ (cs : List ℕ). unpack (spread_out marks now) cs (drop i words)) (sym (drop_of_length-le cells h)) ∙ t.is)
 
     module _ (now : List ℕ) (known at i : ℕ) (t : Giving cells memory words now known at i) where
-      pub give-next : (c r : ℕ) → i < length cells → c ≡ get_or cells i 0 → r ≡ rank_at marks c
+      pub give_next : (c r : ℕ) → i < length cells → c ≡ get_or cells i 0 → r ≡ rank_at marks c
           → Giving cells memory words (set now i (get_or memory r 0)) (c + 1) (r + 1) (i + 1)
-      give-next c r l e q =
+      give_next c r l e q =
           record {
             rank = at_next i c l e r q;
-            stored = store-next (given cells memory words) words now i (get_or memory r 0) t.stored (omega (arith, g.words_long, l))
-                (ap (λ (k : ℕ). get_or memory k 0) q ∙ sym (ranks.spread_at marks memory g.part-long c (cell-low i c l e) (cell-marked i c l e))
-                ∙ ap (λ (k : ℕ). get_or (spreadOut marks memory) k 0) e);
+            stored = store_next (given cells memory words) words now i (get_or memory r 0) t.stored (omega (arith, g.words_long, l))
+                (ap (λ (k : ℕ). get_or memory k 0) q ∙ sym (ranks.spread_at marks memory g.part_long c (cell_low i c l e) (cell_marked i c l e))
+                ∙ ap (λ (k : ℕ). get_or (spread_out marks memory) k 0) e);
           }
 
-      pub give-done : length cells ≤ i → now ≡ pack (spreadOut marks memory) cells
-      give-done h =
-          ext_get_or 0 now (pack (spreadOut marks memory) cells) (t.stored.long ∙ g.words_long ∙ sym (pack-length cells (spreadOut marks memory)))
+      pub give_done : length cells ≤ i → now ≡ pack (spread_out marks memory) cells
+      give_done h =
+          ext_get_or 0 now (pack (spread_out marks memory) cells) (t.stored.long ∙ g.words_long ∙ sym (pack_length cells (spread_out marks memory)))
           (λ j l.
           t.stored.each j (omega (arith, l, h, t.stored.long, g.words_long))
-          ∙ sym (pack-at cells (spreadOut marks memory) j (omega (arith, l, t.stored.long, g.words_long))))
+          ∙ sym (pack_at cells (spread_out marks memory) j (omega (arith, l, t.stored.long, g.words_long))))
 
 -- ---- a processor's kept cells, and its own
 
-pub all-is : (p : Plan) (b : ℕ) (marks : List ℕ) → marks ≡ tabulate (λ c. one (keeps p b c)) p.cells → (ws : List ℕ)
-    → spreadOut marks ws ≡ all_of p b ws
-all-is p b marks is ws = ranks.spread-is marks (keeps p b) p.cells is ws
+pub all_is : (p : Plan) (b : ℕ) (marks : List ℕ) → marks ≡ tabulate (λ c. one (keeps p b c)) p.cells → (ws : List ℕ)
+    → spread_out marks ws ≡ all_of p b ws
+all_is p b marks is ws = ranks.spread_is marks (keeps p b) p.cells is ws
 
 pub source_is : (p : Plan) (b : ℕ) (marks : List ℕ) → marks ≡ tabulate (λ c. one (owns p b c)) p.cells → (ws : List ℕ)
-    → spreadOut marks ws ≡ source_of p b ws
+    → spread_out marks ws ≡ source_of p b ws
 unfolding source_of
-source_is p b marks is ws = ranks.spread-is marks (owns p b) p.cells is ws
+source_is p b marks is ws = ranks.spread_is marks (owns p b) p.cells is ws

@@ -4,19 +4,19 @@
 use Rattle.std.specs.Prelude.{ℕ, ◌+◌, ◌≤◌, ◌<◌, ◌≡◌, Bool, true, List, [], ◌∷◌, length, replicate, eqb}
 use Rattle.base.specs.Tests.{◌and◌, keep}
 use Rattle.base.specs.Lists.{In, unpack}
-use Rattle.machine.specs.Plan.{Plan, heldBy}
-use Rattle.machine.specs.Machine.{State, state_of, finishedOf, stageOf, sentOf}
-use Rattle.network.specs.Own.{Own, keptCells, handles, handled}
-use Rattle.rank_index.specs.Ranks.{markedAt, marked_cells, Counted}
+use Rattle.machine.specs.Plan.{Plan, held_by}
+use Rattle.machine.specs.Machine.{State, state_of, finished_of, stage_of, sent_of}
+use Rattle.network.specs.Own.{Own, kept_cells, handles, handled}
+use Rattle.rank_index.specs.Ranks.{marked_at, marked_cells, Counted}
 
 -- the part that these four areas are, and the areas that a part is: of one processor, so its record is the first
 unfoldable pub part_of : State → Own
 part_of s =
     record {
       memory = s.memories;
-      finished = finishedOf s 0;
-      stage = stageOf s 0;
-      sent = sentOf s 0;
+      finished = finished_of s 0;
+      stage = stage_of s 0;
+      sent = sent_of s 0;
       mail = s.buffer;
       marks = s.status;
     }
@@ -27,29 +27,29 @@ lent_of o = state_of o.memory o.mail (o.finished ∷ o.stage ∷ o.sent ∷ []) 
 -- how many words these messages have
 unfoldable pub words_of : Plan → List ℕ → ℕ
 words_of p [] = 0
-words_of p (m ∷ ms) = length (heldBy p m) + words_of p ms
+words_of p (m ∷ ms) = length (held_by p m) + words_of p ms
 
 -- where message m stands among those that processor b handles, and where its words begin in b's mail: what comes before it
 abbrev pub rank_of : Plan → ℕ → ℕ → ℕ
 rank_of p b m = length (keep (handles p b) m)
 
-abbrev pub mailAt : Plan → ℕ → ℕ → ℕ
-mailAt p b m = words_of p (keep (handles p b) m)
+abbrev pub mail_at : Plan → ℕ → ℕ → ℕ
+mail_at p b m = words_of p (keep (handles p b) m)
 
 -- each lent area of processor b has exactly its length
-unfoldable pub partFits : Plan → ℕ → State → Bool
-partFits p b s =
-    eqb (length s.memories) (length (keptCells p b))
+unfoldable pub part_fits : Plan → ℕ → State → Bool
+part_fits p b s =
+    eqb (length s.memories) (length (kept_cells p b))
     and (eqb (length s.buffer) (words_of p (handled p b)) and (eqb (length s.progress) 3 and eqb (length s.status) (length (handled p b))))
 
 -- a memory of all cells that has the words of the cells that processor b keeps, and zeros else
 abbrev pub all_of : Plan → ℕ → List ℕ → List ℕ
-all_of p b words = unpack (replicate p.cells 0) (keptCells p b) words
+all_of p b words = unpack (replicate p.cells 0) (kept_cells p b) words
 
 -- a list of marked cells, a part, and words that go between them
 pub record Listed (marks counts cells memory words : List ℕ) : Type 0 where
   pub few : length marks ≤ 16384
   pub counted : Counted marks counts
-  pub each : (c : ℕ) → In c cells → (c < length marks) × (markedAt marks c ≡ true)
-  pub part-long : length memory ≡ length (marked_cells marks)
+  pub each : (c : ℕ) → In c cells → (c < length marks) × (marked_at marks c ≡ true)
+  pub part_long : length memory ≡ length (marked_cells marks)
   pub words_long : length words ≡ length cells

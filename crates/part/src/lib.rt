@@ -2,20 +2,20 @@
 // part, and its words put in and taken out by a list of cells.
 ghost use Rattle.std.specs.Prelude.{◌≡◌, ℕ, ◌+◌, ◌*◌, ◌/◌, ◌%◌, ◌≤◌, ◌<◌, length, get_or, eqb};
 ghost use Rattle.base.specs.Tests.{one, pick, tabulate};
-ghost use Rattle.base.specs.Lists.{In, setAll, unpack, pack};
-ghost use Rattle.machine.specs.Plan.{count, heldBy};
+ghost use Rattle.base.specs.Lists.{In, set_all, unpack, pack};
+ghost use Rattle.machine.specs.Plan.{count, held_by};
 ghost use Rattle.nest.specs.Accepted.{Accepted};
-ghost use Rattle.nest.specs.Nest.{processorCount, cells, boxTiles, processors};
+ghost use Rattle.nest.specs.Nest.{processor_count, cells, box_tiles, processors};
 ghost use Rattle.nest.specs.Places.{rank};
 ghost use Rattle.plan.specs.Messages.{ways};
-ghost use Rattle.plan.specs.Shaped.{boxTile, plan_of};
+ghost use Rattle.plan.specs.Shaped.{box_tile, plan_of};
 ghost use Rattle.layout.specs.Sizes.{Sized};
 ghost use Rattle.tables.specs.Tables.{Routed, Tabled, FoundIn};
-ghost use Rattle.network.specs.Apart.{takerAt};
+ghost use Rattle.network.specs.Apart.{taker_at};
 ghost use Rattle.network.specs.Own.{owns, keeps, handles};
-ghost use Rattle.rank_index.specs.Ranks.{marked_cells, rank_at, spreadOut, Counted};
-ghost use Rattle.part.specs.Part.{rank_of, mailAt, Listed};
-ghost use Rattle.part.specs.Marking.{rowCells, Shown, Alike, side_of, Sided, Repeated};
+ghost use Rattle.rank_index.specs.Ranks.{marked_cells, rank_at, spread_out, Counted};
+ghost use Rattle.part.specs.Part.{rank_of, mail_at, Listed};
+ghost use Rattle.part.specs.Marking.{row_cells, Shown, Alike, side_of, Sided, Repeated};
 
 use crate::sides::is_taker;
 use base::{half_index, least, zero_bytes};
@@ -36,8 +36,8 @@ pub const MESSAGE_ENDS: usize = 7169;
 
 // Marks the cells of a row that are in the shape.
 fn mark_row(nest: Nest, q: usize, marks: &mut [u8])
-    requires { (Accepted nest × (length marks.old ≡ cells nest)) × (q * rowCells nest + rowCells nest ≤ cells nest) }
-    ensures { Shown nest (q * rowCells nest) (q * rowCells nest + rowCells nest) marks.old marks.new }
+    requires { (Accepted nest × (length marks.old ≡ cells nest)) × (q * row_cells nest + row_cells nest ≤ cells nest) }
+    ensures { Shown nest (q * row_cells nest) (q * row_cells nest + row_cells nest) marks.old marks.new }
 {
     let at = nest::row_place(nest, q);
     let s = nest::span(nest, at);
@@ -49,8 +49,8 @@ fn mark_row(nest: Nest, q: usize, marks: &mut [u8])
 
 // The same of the rows from one up to another.
 fn mark_rows(nest: Nest, from: usize, to: usize, marks: &mut [u8])
-    requires { (Accepted nest × (length marks.old ≡ cells nest)) × ((from ≤ to) × (to * rowCells nest ≤ cells nest)) }
-    ensures { Shown nest (from * rowCells nest) (to * rowCells nest) marks.old marks.new }
+    requires { (Accepted nest × (length marks.old ≡ cells nest)) × ((from ≤ to) × (to * row_cells nest ≤ cells nest)) }
+    ensures { Shown nest (from * row_cells nest) (to * row_cells nest) marks.old marks.new }
 {
     for q in from..to {
         mark_row(nest, q, marks);
@@ -95,7 +95,7 @@ pub fn mark_own(nest: Nest, sizes: Sizes, b: usize, marks: &mut [u8])
 // The processor at a way's end from a tile's place, as if there were a tile.
 fn ahead_of(nest: Nest, at: [usize; 4], along: [usize; 4]) -> usize
     requires { Accepted nest × ((j : ℕ) → j < nest.spread → get_or at j 0 + get_or along j 0 < 65536) }
-    ensures { result ≡ rank (processorCount nest) (λ j. (get_or at j 0 + get_or along j 0) % processorCount nest j) nest.spread }
+    ensures { result ≡ rank (processor_count nest) (λ j. (get_or at j 0 + get_or along j 0) % processor_count nest j) nest.spread }
 {
     let counts = nest.counts;
     let n = nest.spread;
@@ -115,7 +115,7 @@ fn same_as(a: usize, b: usize) -> u8
 
 // The bytes of a tile's slots.
 fn put_sides(nest: Nest, sizes: Sizes, b: usize, tile: usize, row: &mut [u8])
-    requires { Sized nest sizes × ((tile < boxTiles nest) × (length row.old ≡ ways sizes.route nest)) }
+    requires { Sized nest sizes × ((tile < box_tiles nest) × (length row.old ≡ ways sizes.route nest)) }
     ensures { row.new ≡ tabulate (side_of sizes.route nest b tile) (ways sizes.route nest) }
 {
     let at = layout::place_of_tile(nest, sizes, tile);
@@ -144,7 +144,7 @@ fn copy_sides(sides: &mut [u8], at: usize, n: usize)
 // A tile's number in the box.
 pub fn box_tile(nest: Nest, sizes: Sizes, lens: &[u16; TABLE_WORDS], tile: usize) -> usize
     requires { (Sized nest sizes × Tabled nest sizes lens.now) × (tile < (plan_of sizes.route nest).tiles) }
-    ensures { (result ≡ boxTile nest tile) × (result < boxTiles nest) }
+    ensures { (result ≡ box_tile nest tile) × (result < box_tiles nest) }
 {
     if nest.bounds == 0 {
         return tile;
@@ -182,7 +182,7 @@ fn fill_sides(nest: Nest, sizes: Sizes, lens: &[u16; TABLE_WORDS], b: usize, sid
 // Marks these cells.
 fn mark_cells(marks: &mut [u8], cells: &[u16])
     requires { (c : ℕ) → In c cells.now → c < length marks.old }
-    ensures { marks.new ≡ setAll marks.old cells.now 1 }
+    ensures { marks.new ≡ set_all marks.old cells.now 1 }
 {
     let mut i = 0;
     while i < cells.len() {
@@ -203,7 +203,7 @@ fn mark_held(
 )
     requires sized { (Sized nest sizes × Tabled nest sizes lens.now) × FoundIn sizes.route nest place.number place }
     requires list_len { (length list.old ≡ place.words) × (length marks.old ≡ cells nest) }
-    ensures { marks.new ≡ setAll marks.old (heldBy (plan_of sizes.route nest) place.number) 1 }
+    ensures { marks.new ≡ set_all marks.old (held_by (plan_of sizes.route nest) place.number) 1 }
 {
     cells_of(nest, sizes, lens, place, list);
     mark_cells(marks, list);
@@ -221,11 +221,11 @@ fn mark_brought(
     marks: &mut [u8],
 )
     requires sized { (Sized nest sizes × Tabled nest sizes lens.now) × FoundIn sizes.route nest place.number place }
-    requires side_value { side ≡ side_of sizes.route nest b (boxTile nest (place.slot / ways sizes.route nest)) (place.slot % ways sizes.route nest) }
+    requires side_value { side ≡ side_of sizes.route nest b (box_tile nest (place.slot / ways sizes.route nest)) (place.slot % ways sizes.route nest) }
     requires words_in_bounds { (place.words ≤ length list.old) × (length marks.old ≡ cells nest) }
     ensures { marks.new
-        ≡ pick (eqb (takerAt (plan_of sizes.route nest) place.number) b)
-        (setAll marks.old (heldBy (plan_of sizes.route nest) place.number) 1) marks.old }
+        ≡ pick (eqb (taker_at (plan_of sizes.route nest) place.number) b)
+        (set_all marks.old (held_by (plan_of sizes.route nest) place.number) 1) marks.old }
 {
     if is_taker(side) {
         let words = place.words;
@@ -299,7 +299,7 @@ fn rank_by(marks: &[u8], counts: &[u32; BLOCKS], known: usize, at: usize, c: usi
 pub fn take(marks: &[u8], counts: &[u32; BLOCKS], cells: &[u16], memory: &mut [u32], words: &[u32])
     requires { Listed marks.now counts.now cells.now memory.old words.now }
     ensures { memory.new
-        ≡ pack (unpack (spreadOut marks.now memory.old) cells.now words.now)
+        ≡ pack (unpack (spread_out marks.now memory.old) cells.now words.now)
         (marked_cells marks.now) }
 {
     let mut known = 0;
@@ -318,7 +318,7 @@ pub fn take(marks: &[u8], counts: &[u32; BLOCKS], cells: &[u16], memory: &mut [u
 // And out of it.
 pub fn give(marks: &[u8], counts: &[u32; BLOCKS], cells: &[u16], memory: &[u32], words: &mut [u32])
     requires { Listed marks.now counts.now cells.now memory.now words.old }
-    ensures { words.new ≡ pack (spreadOut marks.now memory.now) cells.now }
+    ensures { words.new ≡ pack (spread_out marks.now memory.now) cells.now }
 {
     let mut known = 0;
     let mut at = 0;
@@ -338,7 +338,7 @@ pub fn give(marks: &[u8], counts: &[u32; BLOCKS], cells: &[u16], memory: &[u32],
 // Whether the processor sends or takes the message, as a word, by its slot's byte.
 fn handled_one(nest: Nest, sizes: Sizes, place: MessageSlot, b: usize, side: u8) -> u32
     requires sized { (Sized nest sizes × Routed nest sizes) × FoundIn sizes.route nest place.number place }
-    requires side_value { side ≡ side_of sizes.route nest b (boxTile nest (place.slot / ways sizes.route nest)) (place.slot % ways sizes.route nest) }
+    requires side_value { side ≡ side_of sizes.route nest b (box_tile nest (place.slot / ways sizes.route nest)) (place.slot % ways sizes.route nest) }
     ensures { result ≡ one (handles (plan_of sizes.route nest) b place.number) }
 {
     if side == 0 { 0 } else { 1 }
@@ -358,7 +358,7 @@ fn fill_ranks(
         × Sided sizes.route nest b ((plan_of sizes.route nest).tiles * sizes.ways) sides.now) }
     requires ordinals_len { (length ordinals.old ≡ 7169) × (length starts.old ≡ 7169) }
     ensures { (m : ℕ) → m ≤ count (plan_of sizes.route nest) → (get_or ordinals.new m 0 ≡ rank_of (plan_of sizes.route nest) b m)
-        × (get_or starts.new m 0 ≡ mailAt (plan_of sizes.route nest) b m) }
+        × (get_or starts.new m 0 ≡ mail_at (plan_of sizes.route nest) b m) }
 {
     let slots = tiles_of(nest, sizes, lens) * sizes.ways;
     let mut slot = 0;
@@ -401,7 +401,7 @@ pub fn fill_handled(
     requires sized { (Sized nest sizes × Tabled nest sizes lens.now) × (b < processors nest) }
     requires ordinals_len { (length ordinals.old ≡ 7169) × (length starts.old ≡ 7169) }
     ensures { (m : ℕ) → m ≤ count (plan_of sizes.route nest) → (get_or ordinals.new m 0 ≡ rank_of (plan_of sizes.route nest) b m)
-        × (get_or starts.new m 0 ≡ mailAt (plan_of sizes.route nest) b m) }
+        × (get_or starts.new m 0 ≡ mail_at (plan_of sizes.route nest) b m) }
 {
     let mut sides = [0u8; MOST_MESSAGES];
     fill_sides(nest, sizes, lens, b, &mut sides);

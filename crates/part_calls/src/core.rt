@@ -9,12 +9,12 @@ ghost use Rattle.plan.specs.Shaped.{plan_of};
 ghost use Rattle.layout.specs.Sizes.{Sized};
 ghost use Rattle.tables.specs.Tables.{Routed};
 ghost use Rattle.records.specs.Records.{Flattens};
-ghost use Rattle.engine.specs.Given.{zerosAfter};
+ghost use Rattle.engine.specs.Given.{zeros_after};
 ghost use Rattle.engine.specs.Calls.{answer};
 ghost use Rattle.network.specs.Own.{handled};
-ghost use Rattle.part_calls.specs.front.Calls.{lengthsOf, noLengths, partFreshCall, partPostCall, partArriveCall, partCollectCall};
+ghost use Rattle.part_calls.specs.front.Calls.{lengths_of, no_lengths, part_fresh_call, part_post_call, part_arrive_call, part_collect_call};
 ghost use Rattle.part_calls.specs.front.Given.{Known, Many};
-ghost use Rattle.part_calls.specs.Given.{freshOr, handedOver, postedOr, MayArrive, arrivedOr, arrivesOr};
+ghost use Rattle.part_calls.specs.Given.{fresh_or, handed_over, posted_or, MayArrive, arrived_or, arrives_or};
 
 use crate::AreaLengths;
 use crate::front::{kept_count, open, own_count, part_fits, prepare, refusal_of_areas};
@@ -32,7 +32,7 @@ use transport::core::as_long;
 
 // Where the recipe or the processor's number is refused.
 pub fn no_sizes(number: u32) -> AreaLengths
-    ensures { result ≡ noLengths number }
+    ensures { result ≡ no_lengths number }
 {
     AreaLengths {
         number: number,
@@ -46,7 +46,7 @@ pub fn no_sizes(number: u32) -> AreaLengths
 // The four lengths.
 pub fn sizes_of(nest: Nest, sizes: Sizes, b: usize) -> AreaLengths
     requires { Sized nest sizes × (Routed nest sizes × (b < processors nest)) }
-    ensures { result ≡ lengthsOf (plan_of sizes.route nest) b }
+    ensures { result ≡ lengths_of (plan_of sizes.route nest) b }
 {
     let mut lens = [0u16; TABLE_WORDS];
     let mut ordinals = [0u32; MESSAGE_ENDS];
@@ -77,8 +77,8 @@ fn fresh_part(
 ) -> u32
     requires { Sized nest sizes × (Routed nest sizes × (b < processors nest)) }
     ensures { (records : List ℕ) → words ≡ length records
-        → answer result (state_of memory.new mail.new (zerosAfter records result) marks.new)
-        ≡ freshOr (plan_of sizes.route nest) b (state_of memory.old mail.old records marks.old) }
+        → answer result (state_of memory.new mail.new (zeros_after records result) marks.new)
+        ≡ fresh_or (plan_of sizes.route nest) b (state_of memory.old mail.old records marks.old) }
 {
     let mut lens = [0u16; TABLE_WORDS];
     let mut ordinals = [0u32; MESSAGE_ENDS];
@@ -108,8 +108,8 @@ pub fn fresh(
     processor: u32,
 ) -> u32
     ensures { (records : List ℕ) → words ≡ length records
-        → answer result (state_of memory.new mail.new (zerosAfter records result) marks.new)
-        ≡ partFreshCall encoded.now route (state_of memory.old mail.old records marks.old) processor }
+        → answer result (state_of memory.new mail.new (zeros_after records result) marks.new)
+        ≡ part_fresh_call encoded.now route (state_of memory.old mail.old records marks.old) processor }
 {
     let board = open(encoded, route, processor);
     let number = board.number;
@@ -145,7 +145,7 @@ fn hand_over(
     requires { Known nest sizes b lens.now ordinals.now starts.now
         × ((messages ≡ count (plan_of sizes.route nest)) × (length marks.old ≡ length (handled (plan_of sizes.route nest) b))) }
     ensures { (memory mail records : List ℕ) → answer result (state_of memory mail records marks.new)
-        ≡ handedOver (plan_of sizes.route nest) b (state_of memory mail records marks.old) m }
+        ≡ handed_over (plan_of sizes.route nest) b (state_of memory mail records marks.old) m }
 {
     if m >= messages {
         11
@@ -177,7 +177,7 @@ fn post_part(
     requires { Sized nest sizes × (Routed nest sizes × ((b < processors nest) × (length progress.words ≡ 192))) }
     ensures { (records : List ℕ) → Flattens progress records
         → answer result (state_of memory.now mail.now records marks.new)
-        ≡ postedOr (plan_of sizes.route nest) b (state_of memory.now mail.now records marks.old) m }
+        ≡ posted_or (plan_of sizes.route nest) b (state_of memory.now mail.now records marks.old) m }
 {
     let mut lens = [0u16; TABLE_WORDS];
     let mut ordinals = [0u32; MESSAGE_ENDS];
@@ -210,7 +210,7 @@ pub fn post(
     requires { length progress.words ≡ 192 }
     ensures { (records : List ℕ) → Flattens progress records
         → answer result (state_of memory.now mail.now records marks.new)
-        ≡ partPostCall encoded.now route (state_of memory.now mail.now records marks.old) processor message }
+        ≡ part_post_call encoded.now route (state_of memory.now mail.now records marks.old) processor message }
 {
     let board = open(encoded, route, processor);
     let number = board.number;
@@ -252,7 +252,7 @@ fn receive(
     requires messages_value { (messages ≡ count (plan_of sizes.route nest)) × MayArrive (plan_of sizes.route nest) b mail.old marks.old m words.now }
     ensures { (memory records : List ℕ)
         → answer result (state_of memory mail.new records marks.new)
-        ≡ arrivedOr (plan_of sizes.route nest) b (state_of memory mail.old records marks.old) m words.now }
+        ≡ arrived_or (plan_of sizes.route nest) b (state_of memory mail.old records marks.old) m words.now }
 {
     if m >= messages {
         11
@@ -294,7 +294,7 @@ fn arrive_in(
     requires { Known nest sizes b lens.now ordinals.now starts.now × (Many nest sizes b messages many × (length progress.words ≡ 192)) }
     ensures { (records : List ℕ) → Flattens progress records
         → answer result (state_of memory.now mail.new records marks.new)
-        ≡ arrivesOr (plan_of sizes.route nest) b (state_of memory.now mail.old records marks.old) m
+        ≡ arrives_or (plan_of sizes.route nest) b (state_of memory.now mail.old records marks.old) m
         words.now }
 {
     if !as_long(nest, sizes, lens, m, words.len()) {
@@ -328,7 +328,7 @@ fn arrive_part(
     requires { Sized nest sizes × (Routed nest sizes × ((b < processors nest) × (length progress.words ≡ 192))) }
     ensures { (records : List ℕ) → Flattens progress records
         → answer result (state_of memory.now mail.new records marks.new)
-        ≡ arrivesOr (plan_of sizes.route nest) b (state_of memory.now mail.old records marks.old) m
+        ≡ arrives_or (plan_of sizes.route nest) b (state_of memory.now mail.old records marks.old) m
         words.now }
 {
     let mut lens = [0u16; TABLE_WORDS];
@@ -357,7 +357,7 @@ pub fn arrive(
     requires { length progress.words ≡ 192 }
     ensures { (records : List ℕ) → Flattens progress records
         → answer result (state_of memory.now mail.new records marks.new)
-        ≡ partArriveCall encoded.now route (state_of memory.now mail.old records marks.old) processor message
+        ≡ part_arrive_call encoded.now route (state_of memory.now mail.old records marks.old) processor message
         words.now }
 {
     let board = open(encoded, route, processor);
@@ -395,7 +395,7 @@ pub fn collect(
     requires { length progress.words ≡ 192 }
     ensures { (records : List ℕ) → Flattens progress records
         → answer result grid.new
-        ≡ partCollectCall encoded.now route (state_of memory.now [] records []) processor grid.old }
+        ≡ part_collect_call encoded.now route (state_of memory.now [] records []) processor grid.old }
 {
     let board = open(encoded, route, processor);
     let number = board.number;

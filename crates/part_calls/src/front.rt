@@ -4,15 +4,15 @@
 ghost use Rattle.core.specs.Prelude.{◌≡◌, ℕ, ◌<◌, ◌≤◌, List, length};
 ghost use Rattle.base.specs.Numbers.{first_of};
 ghost use Rattle.machine.specs.Plan.{count};
-ghost use Rattle.machine.specs.Machine.{State, state_of, finishedOf, stageOf, sentOf, fitRecord};
+ghost use Rattle.machine.specs.Machine.{State, state_of, finished_of, stage_of, sent_of, fit_record};
 ghost use Rattle.nest.specs.Nest.{cells, processors};
 ghost use Rattle.plan.specs.Shaped.{plan_of};
 ghost use Rattle.layout.specs.Sizes.{Sized};
 ghost use Rattle.tables.specs.Tables.{Routed, Planned};
 ghost use Rattle.records.specs.Records.{Flattens};
-ghost use Rattle.network.specs.Own.{owns, keeps, ownCells, keptCells};
-ghost use Rattle.part.specs.Part.{partFits};
-ghost use Rattle.part_calls.specs.front.Given.{OpensFor, Known, Cells, Many, unfitLines};
+ghost use Rattle.network.specs.Own.{owns, keeps, own_cells, kept_cells};
+ghost use Rattle.part.specs.Part.{part_fits};
+ghost use Rattle.part_calls.specs.front.Given.{OpensFor, Known, Cells, Many, unfit_lines};
 
 use base::{refusals, word_index};
 use layout::Sizes;
@@ -74,7 +74,7 @@ pub fn keep_cells(
 ) -> usize
     requires { Planned nest sizes lens.now × ((b < processors nest) × ((length kept.old ≡ cells nest) × (length counts.old ≡ 257))) }
     ensures { Cells nest (keeps (plan_of sizes.route nest) b) kept.new counts.new
-        × (result ≡ length (keptCells (plan_of sizes.route nest) b)) }
+        × (result ≡ length (kept_cells (plan_of sizes.route nest) b)) }
 {
     part::mark_kept(nest, sizes, lens, b, kept);
     fill_counts(kept, counts);
@@ -92,7 +92,7 @@ pub fn own_cells(
     requires sized { Sized nest sizes × (Routed nest sizes × (b < processors nest)) }
     requires owned_len { (length owned.old ≡ cells nest) × (length counts.old ≡ 257) }
     ensures { Cells nest (owns (plan_of sizes.route nest) b) owned.new counts.new
-        × (result ≡ length (ownCells (plan_of sizes.route nest) b)) }
+        × (result ≡ length (own_cells (plan_of sizes.route nest) b)) }
 {
     part::mark_own(nest, sizes, b, owned);
     fill_counts(owned, counts);
@@ -102,7 +102,7 @@ pub fn own_cells(
 // How many cells the processor keeps: the words of its memory.
 pub fn kept_count(nest: Nest, sizes: Sizes, lens: &[u16; TABLE_WORDS], b: usize) -> usize
     requires { Planned nest sizes lens.now × (b < processors nest) }
-    ensures { (result ≡ length (keptCells (plan_of sizes.route nest) b)) × (result ≤ 16384) }
+    ensures { (result ≡ length (kept_cells (plan_of sizes.route nest) b)) × (result ≤ 16384) }
 {
     let cells = sizes.cells;
     let mut kept = [0u8; MOST_CELLS];
@@ -113,7 +113,7 @@ pub fn kept_count(nest: Nest, sizes: Sizes, lens: &[u16; TABLE_WORDS], b: usize)
 // How many cells the processor's tiles have: the words of its source.
 pub fn own_count(nest: Nest, sizes: Sizes, b: usize) -> usize
     requires { Sized nest sizes × (Routed nest sizes × (b < processors nest)) }
-    ensures { (result ≡ length (ownCells (plan_of sizes.route nest) b)) × (result ≤ 16384) }
+    ensures { (result ≡ length (own_cells (plan_of sizes.route nest) b)) × (result ≤ 16384) }
 {
     let cells = sizes.cells;
     let mut owned = [0u8; MOST_CELLS];
@@ -140,7 +140,7 @@ pub fn part_fits(
 ) -> bool
     requires { Known nest sizes b lens.now ordinals.now starts.now × Many nest sizes b messages many }
     ensures { (records : List ℕ) → words ≡ length records
-        → result ≡ partFits (plan_of sizes.route nest) b (state_of memory.now mail.now records marks.now) }
+        → result ≡ part_fits (plan_of sizes.route nest) b (state_of memory.now mail.now records marks.now) }
 {
     if memory.len() != many {
         false
@@ -164,8 +164,8 @@ pub fn fit_own(
     sent: u32,
 ) -> bool
     requires { Planned nest sizes lens.now }
-    ensures { (s : State) → finished ≡ finishedOf s b → stage ≡ stageOf s b → sent ≡ sentOf s b
-        → result ≡ fitRecord (plan_of sizes.route nest) s b }
+    ensures { (s : State) → finished ≡ finished_of s b → stage ≡ stage_of s b → sent ≡ sent_of s b
+        → result ≡ fit_record (plan_of sizes.route nest) s b }
 {
     let f = word_index(finished);
     let k = word_index(sent);
@@ -207,7 +207,7 @@ pub fn refusal_of_areas(
 ) -> u32
     requires { Known nest sizes b lens.now ordinals.now starts.now × (Many nest sizes b messages many × (length progress.words ≡ 192)) }
     ensures { ((records : List ℕ) → Flattens progress records
-        → result ≡ first_of (unfitLines (plan_of sizes.route nest) b (state_of memory.now mail.now records marks.now)))
+        → result ≡ first_of (unfit_lines (plan_of sizes.route nest) b (state_of memory.now mail.now records marks.now)))
         × (result ≡ 0 → progress.count ≡ 3) }
 {
     let count = progress.count;

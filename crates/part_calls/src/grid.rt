@@ -10,10 +10,10 @@ ghost use Rattle.layout.specs.Sizes.{Sized};
 ghost use Rattle.tables.specs.Tables.{Routed, Planned};
 ghost use Rattle.records.specs.Records.{Flattens};
 ghost use Rattle.engine.specs.Calls.{answer};
-ghost use Rattle.network.specs.Own.{keeps, keptCells};
-ghost use Rattle.part_calls.specs.front.Calls.{partCollected};
+ghost use Rattle.network.specs.Own.{keeps, kept_cells};
+ghost use Rattle.part_calls.specs.front.Calls.{part_collected};
 ghost use Rattle.part_calls.specs.front.Given.{Cells};
-ghost use Rattle.part_calls.specs.Given.{outsideWord, gridWord, Within, collectLines, collectedOr};
+ghost use Rattle.part_calls.specs.Given.{outside_word, grid_word, Within, collect_lines, collected_or};
 
 use crate::front::{fit_own, keep_cells};
 use base::word_index;
@@ -54,7 +54,7 @@ fn outside_row(row: &mut [u32], s: Interval, boundary: u32)
 // The boundary's word where a cell is outside the shape, row by row.
 fn put_outside(nest: Nest, sizes: Sizes, grid: &mut [u32])
     requires { Sized nest sizes × (length grid.old ≡ cells nest) }
-    ensures { grid.new ≡ tabulate (outsideWord nest grid.old) (cells nest) }
+    ensures { grid.new ≡ tabulate (outside_word nest grid.old) (cells nest) }
 {
     let boundary = nest.boundary as u32;
     let width = nest.lengths[nest.dimensions - 1];
@@ -84,7 +84,7 @@ fn own_word(mark: u8, word: u32, old: u32) -> u32
 fn put_cells(owned: &[u8], kept: &[u8], memory: &[u32], grid: &mut [u32])
     requires { Within owned.now kept.now memory.now grid.old }
     ensures { grid.new
-        ≡ tabulate (gridWord owned.now kept.now memory.now grid.old) (length grid.old) }
+        ≡ tabulate (grid_word owned.now kept.now memory.now grid.old) (length grid.old) }
 {
     let mut c = 0;
     let mut n = 0;
@@ -109,9 +109,9 @@ fn put_own(
 )
     requires sized { Sized nest sizes × (Routed nest sizes × ((b < processors nest)
         × Cells nest (keeps (plan_of sizes.route nest) b) kept.now counts.now)) }
-    requires memory_len { (length memory.now ≡ length (keptCells (plan_of sizes.route nest) b)) × (length grid.old ≡ cells nest) }
+    requires memory_len { (length memory.now ≡ length (kept_cells (plan_of sizes.route nest) b)) × (length grid.old ≡ cells nest) }
     ensures { (records : List ℕ) → grid.new
-        ≡ partCollected (plan_of sizes.route nest) b (state_of memory.now [] records []) grid.old }
+        ≡ part_collected (plan_of sizes.route nest) b (state_of memory.now [] records []) grid.old }
 {
     let cells = sizes.cells;
     let mut owned = [0u8; MOST_CELLS];
@@ -132,10 +132,10 @@ fn uncollected(
     grid: &[u32],
 ) -> u32
     requires { Planned nest sizes lens.now × ((b < processors nest)
-        × ((many ≡ length (keptCells (plan_of sizes.route nest) b)) × (length progress.words ≡ 192))) }
+        × ((many ≡ length (kept_cells (plan_of sizes.route nest) b)) × (length progress.words ≡ 192))) }
     ensures { ((records : List ℕ) → Flattens progress records
-        → result ≡ first_of (collectLines (plan_of sizes.route nest) b (state_of memory.now [] records []) grid.now))
-        × (result ≡ 0 → (length memory.now ≡ length (keptCells (plan_of sizes.route nest) b)) × (length grid.now ≡ cells nest)) }
+        → result ≡ first_of (collect_lines (plan_of sizes.route nest) b (state_of memory.now [] records []) grid.now))
+        × (result ≡ 0 → (length memory.now ≡ length (kept_cells (plan_of sizes.route nest) b)) × (length grid.now ≡ cells nest)) }
 {
     let words = progress.words;
     if memory.len() != many {
@@ -165,7 +165,7 @@ pub fn collect_part(
     requires { Sized nest sizes × (Routed nest sizes × ((b < processors nest) × (length progress.words ≡ 192))) }
     ensures { (records : List ℕ) → Flattens progress records
         → answer result grid.new
-        ≡ collectedOr (plan_of sizes.route nest) b (state_of memory.now [] records []) grid.old }
+        ≡ collected_or (plan_of sizes.route nest) b (state_of memory.now [] records []) grid.old }
 {
     let cells = sizes.cells;
     let mut lens = [0u16; TABLE_WORDS];

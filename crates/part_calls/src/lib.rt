@@ -4,7 +4,7 @@
 ghost use Rattle.core.specs.Prelude.{◌≡◌, []};
 ghost use Rattle.machine.specs.Machine.{state_of};
 ghost use Rattle.engine.specs.Calls.{answer};
-ghost use Rattle.part_calls.specs.front.Calls.{partSizesCall, partMessagesCall, partFreshCall, partPostCall, partArriveCall, partCollectCall};
+ghost use Rattle.part_calls.specs.front.Calls.{part_sizes_call, part_messages_call, part_fresh_call, part_post_call, part_arrive_call, part_collect_call};
 
 pub mod core; // core.rt: the calls without the form of the record
 pub mod grid; // grid.rt: its cells' words into the grid
@@ -29,7 +29,7 @@ pub struct AreaLengths {
 
 // How long its areas are.
 pub fn sizes(encoded: &[u8], route: u32, processor: u32) -> AreaLengths
-    ensures { result ≡ partSizesCall encoded.now route processor }
+    ensures { result ≡ part_sizes_call encoded.now route processor }
 {
     let board = front::open(encoded, route, processor);
     let number = board.number;
@@ -41,7 +41,7 @@ pub fn sizes(encoded: &[u8], route: u32, processor: u32) -> AreaLengths
 
 // The messages that it handles, seven words each: number, sending tile, taking tile, sending processor, taking processor, words, their place in its mail.
 pub fn messages(encoded: &[u8], route: u32, processor: u32, out: &mut [u32]) -> u32
-    ensures { answer result out.new ≡ partMessagesCall encoded.now route processor out.old }
+    ensures { answer result out.new ≡ part_messages_call encoded.now route processor out.old }
 {
     let board = front::open(encoded, route, processor);
     let number = board.number;
@@ -63,7 +63,7 @@ pub fn fresh(
     processor: u32,
 ) -> u32
     ensures { answer result (state_of memory.new mail.new progress.new marks.new)
-        ≡ partFreshCall encoded.now route
+        ≡ part_fresh_call encoded.now route
         (state_of memory.old mail.old progress.old marks.old) processor }
 {
     let number = core::fresh(
@@ -95,7 +95,7 @@ pub fn post(
     message: u32,
 ) -> u32
     ensures { answer result (state_of memory.now mail.now progress.now marks.new)
-        ≡ partPostCall encoded.now route
+        ≡ part_post_call encoded.now route
         (state_of memory.now mail.now progress.now marks.old) processor message }
 {
     core::post(
@@ -123,7 +123,7 @@ pub fn arrive(
     words: &[u32],
 ) -> u32
     ensures { answer result (state_of memory.now mail.new progress.now marks.new)
-        ≡ partArriveCall encoded.now route
+        ≡ part_arrive_call encoded.now route
         (state_of memory.now mail.old progress.now marks.old) processor message words.now }
 {
     core::arrive(
@@ -149,7 +149,7 @@ pub fn collect(
     grid: &mut [u32],
 ) -> u32
     ensures { answer result grid.new
-        ≡ partCollectCall encoded.now route (state_of memory.now [] progress.now []) processor grid.old }
+        ≡ part_collect_call encoded.now route (state_of memory.now [] progress.now []) processor grid.old }
 {
     core::collect(encoded, route, memory, flat_of(progress), processor, grid)
 }

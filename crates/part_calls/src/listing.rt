@@ -10,9 +10,9 @@ ghost use Rattle.tables.specs.Tables.{Routed};
 ghost use Rattle.engine.specs.Calls.{answer};
 ghost use Rattle.network.specs.Own.{handles, handled};
 ghost use Rattle.part.specs.Part.{rank_of};
-ghost use Rattle.part_calls.specs.front.Calls.{partRow, partRows};
+ghost use Rattle.part_calls.specs.front.Calls.{part_row, part_rows};
 ghost use Rattle.part_calls.specs.front.Given.{Known};
-ghost use Rattle.part_calls.specs.Given.{rowsOr};
+ghost use Rattle.part_calls.specs.Given.{rows_or};
 
 use crate::front::prepare;
 use base::word_index;
@@ -51,7 +51,7 @@ fn put_row(
     requires out_len { length out.old ≡ 7 * length (handled (plan_of sizes.route nest) b) }
     ensures { out.new
         ≡ pick (handles (plan_of sizes.route nest) b m)
-        (put out.old (7 * rank_of (plan_of sizes.route nest) b m) (partRow (plan_of sizes.route nest) b m)) out.old }
+        (put out.old (7 * rank_of (plan_of sizes.route nest) b m) (part_row (plan_of sizes.route nest) b m)) out.old }
 {
     let rank = word_index(ordinals[m]);
     let next = word_index(ordinals[m + 1]);
@@ -77,7 +77,7 @@ fn put_rows(
 )
     requires known { Known nest sizes b lens.now ordinals.now starts.now × (messages ≡ count (plan_of sizes.route nest)) }
     requires out_len { length out.old ≡ 7 * length (handled (plan_of sizes.route nest) b) }
-    ensures { out.new ≡ partRows (plan_of sizes.route nest) b (handled (plan_of sizes.route nest) b) }
+    ensures { out.new ≡ part_rows (plan_of sizes.route nest) b (handled (plan_of sizes.route nest) b) }
 {
     let mut m = 0;
     while m < messages {
@@ -89,7 +89,7 @@ fn put_rows(
 // Line 9, then the rows.
 pub fn messages_part(nest: Nest, sizes: Sizes, b: usize, out: &mut [u32]) -> u32
     requires { Sized nest sizes × (Routed nest sizes × (b < processors nest)) }
-    ensures { answer result out.new ≡ rowsOr (plan_of sizes.route nest) b out.old }
+    ensures { answer result out.new ≡ rows_or (plan_of sizes.route nest) b out.old }
 {
     let mut lens = [0u16; TABLE_WORDS];
     let mut ordinals = [0u32; MESSAGE_ENDS];

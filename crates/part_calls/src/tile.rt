@@ -3,18 +3,18 @@
 // Cells side by side that are all kept stand side by side there too: so a row is stored as in a memory of all cells, from the rank of its first cell on,
 // and in a row each distance reads so many words back.
 ghost use Rattle.core.specs.Prelude.{◌≡◌, ℕ, ◌+◌, ◌<◌, ◌≤◌, length, slice_index};
-ghost use Rattle.base.specs.Lists.{storeAll, pack};
+ghost use Rattle.base.specs.Lists.{store_all, pack};
 ghost use Rattle.nest.specs.Accepted.{Accepted};
 ghost use Rattle.nest.specs.Nest.{length_of};
 ghost use Rattle.nest.specs.Spans.{last, Narrow};
-ghost use Rattle.plan.specs.Shaped.{shapedCells, shapedValue, plan_of};
+ghost use Rattle.plan.specs.Shaped.{shaped_cells, shaped_value, plan_of};
 ghost use Rattle.layout.specs.Sizes.{Sized};
 ghost use Rattle.layout.specs.Places.{Located};
 ghost use Rattle.layout.specs.CellRows.{row_of};
 ghost use Rattle.values.specs.row_values.Reads.{Backs};
-ghost use Rattle.values.specs.shaped_values.Rows.{mixedAlong, Readable};
-ghost use Rattle.network.specs.Own.{keptCells, source_of};
-ghost use Rattle.rank_index.specs.Ranks.{spreadOut};
+ghost use Rattle.values.specs.shaped_values.Rows.{mixed_along, Readable};
+ghost use Rattle.network.specs.Own.{kept_cells, source_of};
+ghost use Rattle.rank_index.specs.Ranks.{spread_out};
 ghost use Rattle.part.specs.Part.{all_of};
 ghost use Rattle.part_calls.specs.tile.Rows.{Marks, WorkedIn, KeptRow, KeptBehind, Behind, Behinds, WorkedRow, RowAt, StoresRow, GivenBox, GivenTile};
 
@@ -182,7 +182,7 @@ fn row_in(
 fn store(nest: Nest, row: Row, source: &[u32], memory: &mut [u32])
     requires { Readable nest.distances row.firsts row.ends row.backs nest.weights nest.boundary nest.shift row.from row.first
         row.component row.few (length source.now) (length memory.old) }
-    ensures { memory.new ≡ storeAll (mixedAlong nest.distances row.firsts row.ends row.backs nest.weights nest.boundary
+    ensures { memory.new ≡ store_all (mixed_along nest.distances row.firsts row.ends row.backs nest.weights nest.boundary
         nest.shift source.now row.from row.first row.component) memory.old (row_of row.first row.few) }
 {
     let firsts = row.firsts;
@@ -221,9 +221,9 @@ fn calculate_box(
     tile: usize,
 )
     requires { Sized nest sizes × GivenBox nest kept.now counts.now owned.now tally.now (length source.now) (length memory.old) tile }
-    ensures { (length memory.new ≡ length memory.old) × (spreadOut kept.now memory.new
-        ≡ storeAll (shapedValue nest (spreadOut owned.now source.now)) (spreadOut kept.now memory.old)
-        (shapedCells nest tile)) }
+    ensures { (length memory.new ≡ length memory.old) × (spread_out kept.now memory.new
+        ≡ store_all (shaped_value nest (spread_out owned.now source.now)) (spread_out kept.now memory.old)
+        (shaped_cells nest tile)) }
 {
     let bounds = layout::bounds_of(nest, sizes, tile);
     let components = nest.components;
@@ -255,9 +255,9 @@ pub fn calculate(
 )
     requires { GivenTile nest sizes lens.now kept.now counts.now owned.now tally.now (length source.now) (length memory.old) b tile }
     ensures { memory.new
-        ≡ pack (storeAll ((plan_of sizes.route nest).value (source_of (plan_of sizes.route nest) b source.now))
+        ≡ pack (store_all ((plan_of sizes.route nest).value (source_of (plan_of sizes.route nest) b source.now))
         (all_of (plan_of sizes.route nest) b memory.old) ((plan_of sizes.route nest).cells_of tile))
-        (keptCells (plan_of sizes.route nest) b) }
+        (kept_cells (plan_of sizes.route nest) b) }
 {
     let number = part::box_tile(nest, sizes, lens, tile);
     calculate_box(

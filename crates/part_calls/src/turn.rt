@@ -6,12 +6,12 @@ ghost use Rattle.plan.specs.Shaped.{plan_of};
 ghost use Rattle.layout.specs.Sizes.{Sized};
 ghost use Rattle.tables.specs.Tables.{Routed};
 ghost use Rattle.records.specs.Records.{Flattens};
-ghost use Rattle.engine.specs.Given.{recordsAfter};
+ghost use Rattle.engine.specs.Given.{records_after};
 ghost use Rattle.engine.specs.Calls.{answer};
-ghost use Rattle.network.specs.Own.{ownCells};
-ghost use Rattle.part_calls.specs.front.Calls.{partTurnCall};
+ghost use Rattle.network.specs.Own.{own_cells};
+ghost use Rattle.part_calls.specs.front.Calls.{part_turn_call};
 ghost use Rattle.part_calls.specs.front.Given.{Many, PartLengths};
-ghost use Rattle.part_calls.specs.turn.Step.{Tables, Stands, MayStep, steppedOr, turnedOr};
+ghost use Rattle.part_calls.specs.turn.Step.{Tables, Stands, MayStep, stepped_or, turned_or};
 
 pub mod on_part; // on_part.rt: the stages
 
@@ -48,8 +48,8 @@ fn first_stage(
     ensures { (source : List ℕ)
         → MayStep (plan_of sizes.route nest) source (state_of memory.old mail.now progress.now marks.old) b
         → slice_index progress.now 1 ≡ 0
-        → answer result.number (state_of memory.new mail.now (recordsAfter progress.now 0 result) marks.new)
-        ≡ steppedOr (plan_of sizes.route nest) source
+        → answer result.number (state_of memory.new mail.now (records_after progress.now 0 result) marks.new)
+        ≡ stepped_or (plan_of sizes.route nest) source
         (state_of memory.old mail.now progress.now marks.old) b }
 {
     if !ready(nest, sizes, lens, ordinals, marks, tile) {
@@ -84,8 +84,8 @@ fn later_stage(
     requires tables { Tables nest sizes b lens.now kept.now counts.now ordinals.now starts.now }
     requires may_step { MayStep (plan_of sizes.route nest) source.now (state_of memory.old mail.old progress.now marks.old) b
         × (Stands (plan_of sizes.route nest) progress.now b tile × (slice_index progress.now 1 ≢ 0)) }
-    ensures { answer result.number (state_of memory.new mail.new (recordsAfter progress.now 0 result) marks.new)
-        ≡ steppedOr (plan_of sizes.route nest) source.now
+    ensures { answer result.number (state_of memory.new mail.new (records_after progress.now 0 result) marks.new)
+        ≡ stepped_or (plan_of sizes.route nest) source.now
         (state_of memory.old mail.old progress.now marks.old) b }
 {
     let finished = progress[0];
@@ -122,8 +122,8 @@ fn step(
 ) -> Turned
     requires tables { Tables nest sizes b lens.now kept.now counts.now ordinals.now starts.now }
     requires may_step { MayStep (plan_of sizes.route nest) source.now (state_of memory.old mail.old progress.now marks.old) b }
-    ensures { answer result.number (state_of memory.new mail.new (recordsAfter progress.now 0 result) marks.new)
-        ≡ steppedOr (plan_of sizes.route nest) source.now
+    ensures { answer result.number (state_of memory.new mail.new (records_after progress.now 0 result) marks.new)
+        ≡ stepped_or (plan_of sizes.route nest) source.now
         (state_of memory.old mail.old progress.now marks.old) b }
 {
     let finished = word_index(progress[0]);
@@ -164,10 +164,10 @@ fn turn_in(
 ) -> Turned
     requires tables { Tables nest sizes b lens.now kept.now counts.now ordinals.now starts.now
         × (Many nest sizes b messages many × (length progress.words ≡ 192)) }
-    requires source_len { length source.now ≡ length (ownCells (plan_of sizes.route nest) b) }
+    requires source_len { length source.now ≡ length (own_cells (plan_of sizes.route nest) b) }
     ensures { (records : List ℕ) → Flattens progress records
-        → answer result.number (state_of memory.new mail.new (recordsAfter records 0 result) marks.new)
-        ≡ turnedOr (plan_of sizes.route nest) source.now (state_of memory.old mail.old records marks.old) b }
+        → answer result.number (state_of memory.new mail.new (records_after records 0 result) marks.new)
+        ≡ turned_or (plan_of sizes.route nest) source.now (state_of memory.old mail.old records marks.old) b }
 {
     let n = refusal_of_areas(
         nest, sizes, lens, ordinals, starts, messages, many, memory, mail, progress, marks, b,
@@ -208,8 +208,8 @@ fn take_turn(
     requires sized { Sized nest sizes × (Routed nest sizes × (b < processors nest)) }
     requires words_len { length progress.words ≡ 192 }
     ensures { (records : List ℕ) → Flattens progress records
-        → answer result.number (state_of memory.new mail.new (recordsAfter records 0 result) marks.new)
-        ≡ turnedOr (plan_of sizes.route nest) source.now (state_of memory.old mail.old records marks.old) b }
+        → answer result.number (state_of memory.new mail.new (records_after records 0 result) marks.new)
+        ≡ turned_or (plan_of sizes.route nest) source.now (state_of memory.old mail.old records marks.old) b }
 {
     if source.len() != own_count(nest, sizes, b) {
         refused(refusals::AREA)
@@ -255,8 +255,8 @@ pub fn turn(
 ) -> Turned
     requires { length progress.words ≡ 192 }
     ensures { (records : List ℕ) → Flattens progress records
-        → answer result.number (state_of memory.new mail.new (recordsAfter records 0 result) marks.new)
-        ≡ partTurnCall encoded.now route source.now
+        → answer result.number (state_of memory.new mail.new (records_after records 0 result) marks.new)
+        ≡ part_turn_call encoded.now route source.now
         (state_of memory.old mail.old records marks.old) processor }
 {
     let board = open(encoded, route, processor);

@@ -13,9 +13,9 @@ use lib.Seq.{get_or-append_seam}
 use lib.Dec.{ltb}
 use borrow.Author.Tests.{lt-ltb, le-ltb, ltb-true, ltb-false}
 use Rattle.base.specs.Tests.{pick, sum}
-use Rattle.machine.specs.Plan.{Message, noMessage, offset}
+use Rattle.machine.specs.Plan.{Message, no_message, offset}
 use Rattle.nest.specs.Nest.{cells}
-use Rattle.plan.specs.Messages.{messagesOf}
+use Rattle.plan.specs.Messages.{messages_of}
 
 -- ---- lists of messages
 
@@ -23,142 +23,142 @@ use Rattle.plan.specs.Messages.{messagesOf}
 abbrev pub total : List Message → ℕ
 total xs = offset xs (length xs)
 
-pub offset-append : (xs ys : List Message) → offset (xs ++ ys) (length xs) ≡ total xs
+pub offset_append : (xs ys : List Message) → offset (xs ++ ys) (length xs) ≡ total xs
 unfolding offset
-offset-append [] [] = refl
-offset-append [] (y ∷ ys) = refl
-offset-append (x ∷ xs) ys = ap (λ (k : ℕ). length x.cells + k) (offset-append xs ys)
+offset_append [] [] = refl
+offset_append [] (y ∷ ys) = refl
+offset_append (x ∷ xs) ys = ap (λ (k : ℕ). length x.cells + k) (offset_append xs ys)
 
-pub total-append : (xs ys : List Message) → total (xs ++ ys) ≡ total xs + total ys
+pub total_append : (xs ys : List Message) → total (xs ++ ys) ≡ total xs + total ys
 unfolding offset
-total-append [] ys = omega arith
-total-append (x ∷ xs) ys = let h = total-append xs ys in omega arith
+total_append [] ys = omega arith
+total_append (x ∷ xs) ys = let h = total_append xs ys in omega arith
 
-pub total-none : total [] ≡ 0
+pub total_none : total [] ≡ 0
 unfolding offset
-total-none = refl
+total_none = refl
 
-pub total-one : (x : Message) → total (x ∷ []) ≡ length x.cells
+pub total_one : (x : Message) → total (x ∷ []) ≡ length x.cells
 unfolding offset
-total-one x = omega arith
+total_one x = omega arith
 
 module _ (slot : ℕ → Message) where
   -- ---- one slot more
 
-  pub step-none : (s : ℕ) → length (slot s).cells ≡ 0 → messagesOf slot (s + 1) ≡ messagesOf slot s
-  unfolding messagesOf pick
-  step-none s h = rw (add-one s, le-ltb 0 (length (slot s).cells) (omega arith)) (append-nil (messagesOf slot s))
+  pub step_none : (s : ℕ) → length (slot s).cells ≡ 0 → messages_of slot (s + 1) ≡ messages_of slot s
+  unfolding messages_of pick
+  step_none s h = rw (add-one s, le-ltb 0 (length (slot s).cells) (omega arith)) (append-nil (messages_of slot s))
 
-  pub step-one : (s : ℕ) → 0 < length (slot s).cells → messagesOf slot (s + 1) ≡ messagesOf slot s ++ (slot s ∷ [])
-  unfolding messagesOf pick
-  step-one s h = ap (messagesOf slot) (add-one s) ∙ rw (lt-ltb 0 (length (slot s).cells) h)
+  pub step_one : (s : ℕ) → 0 < length (slot s).cells → messages_of slot (s + 1) ≡ messages_of slot s ++ (slot s ∷ [])
+  unfolding messages_of pick
+  step_one s h = ap (messages_of slot) (add-one s) ∙ rw (lt-ltb 0 (length (slot s).cells) h)
 
   -- the messages of more slots go on from those of fewer
-  pub prefix : (n s : ℕ) → s ≤ n → (rest : List Message) × (messagesOf slot n ≡ messagesOf slot s ++ rest)
-  unfolding messagesOf
+  pub prefix : (n s : ℕ) → s ≤ n → (rest : List Message) × (messages_of slot n ≡ messages_of slot s ++ rest)
+  unfolding messages_of
   prefix zero s h = let e : s ≡ 0 = omega arith in ([], rw e)
   prefix (suc n) s h = go (prefix n s) (eq-or-lt_of_le h)
     where
-      go : (s ≤ n → (rest : List Message) × (messagesOf slot n ≡ messagesOf slot s ++ rest)) → (s ≡ suc n) ⊎ (s < suc n)
-          → (rest : List Message) × (messagesOf slot (suc n) ≡ messagesOf slot s ++ rest)
-      go ih (inl e) = ([], rw e (sym (append-nil (messagesOf slot (suc n)))))
+      go : (s ≤ n → (rest : List Message) × (messages_of slot n ≡ messages_of slot s ++ rest)) → (s ≡ suc n) ⊎ (s < suc n)
+          → (rest : List Message) × (messages_of slot (suc n) ≡ messages_of slot s ++ rest)
+      go ih (inl e) = ([], rw e (sym (append-nil (messages_of slot (suc n)))))
       go ih (inr l) =
           let r = ih (le_of_suc-le-suc l) in
-          (r.0 ++ pick (ltb 0 (length (slot n).cells)) (slot n ∷ []) [], rw r.1 (append_assoc (messagesOf slot s) r.0 _))
+          (r.0 ++ pick (ltb 0 (length (slot n).cells)) (slot n ∷ []) [], rw r.1 (append_assoc (messages_of slot s) r.0 _))
 
-  pub few : (s : ℕ) → length (messagesOf slot s) ≤ s
-  unfolding messagesOf pick
+  pub few : (s : ℕ) → length (messages_of slot s) ≤ s
+  unfolding messages_of pick
   few zero = omega arith
   few (suc s) = go (few s) (ltb 0 (length (slot s).cells))
     where
-      go : length (messagesOf slot s) ≤ s → (t : Bool) → length (messagesOf slot s ++ pick t (slot s ∷ []) []) ≤ suc s
+      go : length (messages_of slot s) ≤ s → (t : Bool) → length (messages_of slot s ++ pick t (slot s ∷ []) []) ≤ suc s
       go h true = simp length-append (omega arith)
       go h false = simp length-append (omega arith)
 
   -- all words are the lengths of the slots' parcels together
-  pub total-sum : (s : ℕ) → total (messagesOf slot s) ≡ sum (λ q. length (slot q).cells) s
-  unfolding messagesOf sum pick
-  total-sum zero = total-none
-  total-sum (suc s) = go (total-sum s) (ltb 0 (length (slot s).cells)) refl
+  pub total_sum : (s : ℕ) → total (messages_of slot s) ≡ sum (λ q. length (slot q).cells) s
+  unfolding messages_of sum pick
+  total_sum zero = total_none
+  total_sum (suc s) = go (total_sum s) (ltb 0 (length (slot s).cells)) refl
     where
-      go : total (messagesOf slot s) ≡ sum (λ q. length (slot q).cells) s → (t : Bool) → ltb 0 (length (slot s).cells) ≡ t
-          → total (messagesOf slot s ++ pick t (slot s ∷ []) []) ≡ sum (λ q. length (slot q).cells) s + length (slot s).cells
-      go ih true e = rw (total-append (messagesOf slot s) (slot s ∷ []), total-one (slot s), ih) refl
-      go ih false e = rw (append-nil (messagesOf slot s), ih) (omega (arith, ltb-false 0 (length (slot s).cells) e))
+      go : total (messages_of slot s) ≡ sum (λ q. length (slot q).cells) s → (t : Bool) → ltb 0 (length (slot s).cells) ≡ t
+          → total (messages_of slot s ++ pick t (slot s ∷ []) []) ≡ sum (λ q. length (slot q).cells) s + length (slot s).cells
+      go ih true e = rw (total_append (messages_of slot s) (slot s ∷ []), total_one (slot s), ih) refl
+      go ih false e = rw (append-nil (messages_of slot s), ih) (omega (arith, ltb-false 0 (length (slot s).cells) e))
 
   -- slot s, not empty, among n
   module _ (n s : ℕ) (low : s < n) (full : 0 < length (slot s).cells) where
-    pub split : (rest : List Message) × (messagesOf slot n ≡ messagesOf slot s ++ (slot s ∷ rest))
+    pub split : (rest : List Message) × (messages_of slot n ≡ messages_of slot s ++ (slot s ∷ rest))
     split =
         let r = prefix n (s + 1) (omega arith) in
-        (r.0, r.1 ∙ rw (step-one s full) (append_assoc (messagesOf slot s) (slot s ∷ []) r.0))
+        (r.0, r.1 ∙ rw (step_one s full) (append_assoc (messages_of slot s) (slot s ∷ []) r.0))
 
-    pub at-number : get_or (messagesOf slot n) (length (messagesOf slot s)) noMessage ≡ slot s
-    at-number = rw split.1 (get_or-append_seam (messagesOf slot s) (slot s) split.0 noMessage)
+    pub at_number : get_or (messages_of slot n) (length (messages_of slot s)) no_message ≡ slot s
+    at_number = rw split.1 (get_or-append_seam (messages_of slot s) (slot s) split.0 no_message)
 
-    pub number-low : length (messagesOf slot s) < length (messagesOf slot n)
-    number-low = rw split.1 (simp length-append (omega arith))
+    pub number_low : length (messages_of slot s) < length (messages_of slot n)
+    number_low = rw split.1 (simp length-append (omega arith))
 
-    pub offset-is : offset (messagesOf slot n) (length (messagesOf slot s)) ≡ total (messagesOf slot s)
-    offset-is = rw split.1 (offset-append (messagesOf slot s) (slot s ∷ split.0))
+    pub offset_is : offset (messages_of slot n) (length (messages_of slot s)) ≡ total (messages_of slot s)
+    offset_is = rw split.1 (offset_append (messages_of slot s) (slot s ∷ split.0))
 
-    pub room-is : total (messagesOf slot s) + length (slot s).cells ≤ total (messagesOf slot n)
+    pub room_is : total (messages_of slot s) + length (slot s).cells ≤ total (messages_of slot n)
     unfolding offset
-    room-is = rw (split.1, total-append (messagesOf slot s) (slot s ∷ split.0)) (omega arith)
+    room_is = rw (split.1, total_append (messages_of slot s) (slot s ∷ split.0)) (omega arith)
 
   -- messages are numbered in the order of their slots
-  pub number-order : (s s' : ℕ) → 0 < length (slot s).cells → 0 < length (slot s').cells
-      → (length (messagesOf slot s) < length (messagesOf slot s')) ↔ (s < s')
-  number-order s s' f g = ((λ h. go h (dec_lt s s') (dec_lt s' s)), (λ h. number-low s' s h f))
+  pub number_order : (s s' : ℕ) → 0 < length (slot s).cells → 0 < length (slot s').cells
+      → (length (messages_of slot s) < length (messages_of slot s')) ↔ (s < s')
+  number_order s s' f g = ((λ h. go h (dec_lt s s') (dec_lt s' s)), (λ h. number_low s' s h f))
     where
-      go : length (messagesOf slot s) < length (messagesOf slot s') → Dec (s < s') → Dec (s' < s) → s < s'
+      go : length (messages_of slot s) < length (messages_of slot s') → Dec (s < s') → Dec (s' < s) → s < s'
       go l (yes h) d = h
-      go l (no h) (yes k) = absurd (omega (arith, number-low s s' k g))
+      go l (no h) (yes k) = absurd (omega (arith, number_low s s' k g))
       go l (no h) (no k) =
           let e : s ≡ s' = omega arith in
-          absurd (omega (arith, ap (λ (u : ℕ). length (messagesOf slot u)) e))
+          absurd (omega (arith, ap (λ (u : ℕ). length (messages_of slot u)) e))
 
   -- each message is a slot's
-  pub message-slot : (n m : ℕ) → m < length (messagesOf slot n)
-      → (s : ℕ) × (s < n) × (0 < length (slot s).cells) × (length (messagesOf slot s) ≡ m)
-      × (get_or (messagesOf slot n) m noMessage ≡ slot s)
-  unfolding messagesOf pick
-  message-slot zero m h = absurd (omega arith)
-  message-slot (suc n) m h = go (message-slot n m) (ltb 0 (length (slot n).cells)) refl (dec_lt m (length (messagesOf slot n))) h
+  pub message_slot : (n m : ℕ) → m < length (messages_of slot n)
+      → (s : ℕ) × (s < n) × (0 < length (slot s).cells) × (length (messages_of slot s) ≡ m)
+      × (get_or (messages_of slot n) m no_message ≡ slot s)
+  unfolding messages_of pick
+  message_slot zero m h = absurd (omega arith)
+  message_slot (suc n) m h = go (message_slot n m) (ltb 0 (length (slot n).cells)) refl (dec_lt m (length (messages_of slot n))) h
     where
-      go : (m < length (messagesOf slot n)
-          → (s : ℕ) × (s < n) × (0 < length (slot s).cells) × (length (messagesOf slot s) ≡ m)
-          × (get_or (messagesOf slot n) m noMessage ≡ slot s))
+      go : (m < length (messages_of slot n)
+          → (s : ℕ) × (s < n) × (0 < length (slot s).cells) × (length (messages_of slot s) ≡ m)
+          × (get_or (messages_of slot n) m no_message ≡ slot s))
           → (t : Bool) → ltb 0 (length (slot n).cells) ≡ t
-          → Dec (m < length (messagesOf slot n)) → m < length (messagesOf slot n ++ pick t (slot n ∷ []) [])
-          → (s : ℕ) × (s < suc n) × (0 < length (slot s).cells) × (length (messagesOf slot s) ≡ m)
-          × (get_or (messagesOf slot n ++ pick t (slot n ∷ []) []) m noMessage ≡ slot s)
+          → Dec (m < length (messages_of slot n)) → m < length (messages_of slot n ++ pick t (slot n ∷ []) [])
+          → (s : ℕ) × (s < suc n) × (0 < length (slot s).cells) × (length (messages_of slot s) ≡ m)
+          × (get_or (messages_of slot n ++ pick t (slot n ∷ []) []) m no_message ≡ slot s)
       go ih t e (yes q) k =
           let r = ih q in
-          (r.0, omega arith, r.2, r.3, get_or-append (messagesOf slot n) _ noMessage m q ∙ r.4)
+          (r.0, omega arith, r.2, r.3, get_or-append (messages_of slot n) _ no_message m q ∙ r.4)
       go ih true e (no q) k =
           let k' = simp length-append at k in
-          let z : m ≡ length (messagesOf slot n) = omega arith in
-          (n, omega arith, ltb-true _ _ e, sym z, rw z (get_or-append_seam (messagesOf slot n) (slot n) [] noMessage))
+          let z : m ≡ length (messages_of slot n) = omega arith in
+          (n, omega arith, ltb-true _ _ e, sym z, rw z (get_or-append_seam (messages_of slot n) (slot n) [] no_message))
       go ih false e (no q) k = let k' = simp length-append at k in absurd (q (omega arith))
 
 -- the same messages from slots that are the same or both empty
-pub messages-same : (f g : ℕ → Message) (n : ℕ)
-    → ((s : ℕ) → s < n → ((length (f s).cells ≡ 0) × (length (g s).cells ≡ 0)) ⊎ (f s ≡ g s)) → messagesOf f n ≡ messagesOf g n
-unfolding messagesOf pick
-messages-same f g zero h = refl
-messages-same f g (suc n) h = go (messages-same f g n (λ s l. h s (omega arith))) (h n (omega arith))
+pub messages_same : (f g : ℕ → Message) (n : ℕ)
+    → ((s : ℕ) → s < n → ((length (f s).cells ≡ 0) × (length (g s).cells ≡ 0)) ⊎ (f s ≡ g s)) → messages_of f n ≡ messages_of g n
+unfolding messages_of pick
+messages_same f g zero h = refl
+messages_same f g (suc n) h = go (messages_same f g n (λ s l. h s (omega arith))) (h n (omega arith))
   where
-    go : messagesOf f n ≡ messagesOf g n → ((length (f n).cells ≡ 0) × (length (g n).cells ≡ 0)) ⊎ (f n ≡ g n)
-        → messagesOf f n ++ pick (ltb 0 (length (f n).cells)) (f n ∷ []) []
-        ≡ messagesOf g n ++ pick (ltb 0 (length (g n).cells)) (g n ∷ []) []
+    go : messages_of f n ≡ messages_of g n → ((length (f n).cells ≡ 0) × (length (g n).cells ≡ 0)) ⊎ (f n ≡ g n)
+        → messages_of f n ++ pick (ltb 0 (length (f n).cells)) (f n ∷ []) []
+        ≡ messages_of g n ++ pick (ltb 0 (length (g n).cells)) (g n ∷ []) []
     go ih (inl (p, q)) =
         rw (le-ltb 0 (length (f n).cells) (omega arith), le-ltb 0 (length (g n).cells) (omega arith)) (ap (λ (l : List Message). l ++ []) ih)
-    go ih (inr e) = rw ih (ap (λ (m : Message). messagesOf g n ++ pick (ltb 0 (length m.cells)) (m ∷ []) []) e)
+    go ih (inr e) = rw ih (ap (λ (m : Message). messages_of g n ++ pick (ltb 0 (length m.cells)) (m ∷ []) []) e)
 
 -- slots by tile, then by way, of d ways each
-pub slot-order : (d t i u k : ℕ) → i < d → k < d → (t * d + i < u * d + k) ↔ ((t < u) ⊎ ((t ≡ u) × (i < k)))
-slot-order d t i u k li lk = ((λ h. go h (dec_lt t u) (dec_lt u t)), back)
+pub slot_order : (d t i u k : ℕ) → i < d → k < d → (t * d + i < u * d + k) ↔ ((t < u) ⊎ ((t ≡ u) × (i < k)))
+slot_order d t i u k li lk = ((λ h. go h (dec_lt t u) (dec_lt u t)), back)
   where
     more : (a b : ℕ) → a < b → a * d + d ≤ b * d
     more a b h = omega (arith, mul-le-mul_right d h, suc-mul a d)

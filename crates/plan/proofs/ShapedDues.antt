@@ -12,46 +12,46 @@ use Rattle.nest.specs.declared.Nest.{Nest}
 use Rattle.nest.specs.Accepted.{Accepted}
 use Rattle.nest.specs.Shape.{exists, tiles}
 use Rattle.plan.specs.declared.Route.TheVariants.{Direct}
-use Rattle.plan.specs.Geometry.{processorOf}
-use Rattle.plan.specs.Messages.{taker, slotTile, slotDirection}
+use Rattle.plan.specs.Geometry.{processor_of}
+use Rattle.plan.specs.Messages.{taker, slot_tile, slot_direction}
 use Rattle.plan.specs.Hops.{hops, alone}
-use Rattle.plan.specs.Shaped.{boxTile, shapedParcel, shapedTaker, slotBox, shapedSlotTaker, shapedHome, shapedSlotParcel, shapedSlots}
-use Rattle.plan.proofs.Homes.{unless-same, home-direct}
-use Rattle.plan.proofs.ShapedTiles.{boxTile-low}
-use Rattle.plan.proofs.ShapedParcels.{parcel-crossed}
-use Rattle.plan.proofs.ShapedTaker.{step_of, taker-step, counted-upto, counted-above, counted_is, taker-counts, taker-processor}
-use Rattle.plan.proofs.ShapedSlots.{shapedTile-low}
+use Rattle.plan.specs.Shaped.{box_tile, shaped_parcel, shaped_taker, slot_box, shaped_slot_taker, shaped_home, shaped_slot_parcel, shaped_slots}
+use Rattle.plan.proofs.Homes.{unless_same, home_direct}
+use Rattle.plan.proofs.ShapedTiles.{box_tile_low}
+use Rattle.plan.proofs.ShapedParcels.{parcel_crossed}
+use Rattle.plan.proofs.ShapedTaker.{step_of, taker_step, counted_upto, counted_above, counted_is, taker_counts, taker_processor}
+use Rattle.plan.proofs.ShapedSlots.{shaped_tile_low}
 
 module _ (x : Nest) (ok : Accepted x) (s : ℕ) where
   -- a slot's cells are a message's unless its direction has no step between processors
-  pub shapedSlotParcel-is : shapedSlotParcel x s ≡ pick (alone Direct x s) [] (shapedParcel x (slotBox x s) (slotDirection x s))
-  unfolding shapedSlotParcel shapedHome shapedSlotTaker
-  shapedSlotParcel-is =
-      unless-same (shapedHome x s) (alone Direct x s) (shapedParcel x (slotBox x s) (slotDirection x s))
-      (λ c i. let g = parcel-crossed x (slotBox x s) (slotDirection x s) c i in
-      ap (eqb (processorOf x (slotBox x s))) (taker-processor x ok (slotBox x s) (slotDirection x s) c g.0 g.1)
-      ∙ home-direct x ok (slotBox x s) (slotDirection x s) c g.0 g.1.held)
+  pub shaped_slot_parcel_is : shaped_slot_parcel x s ≡ pick (alone Direct x s) [] (shaped_parcel x (slot_box x s) (slot_direction x s))
+  unfolding shaped_slot_parcel shaped_home shaped_slot_taker
+  shaped_slot_parcel_is =
+      unless_same (shaped_home x s) (alone Direct x s) (shaped_parcel x (slot_box x s) (slot_direction x s))
+      (λ c i. let g = parcel_crossed x (slot_box x s) (slot_direction x s) c i in
+      ap (eqb (processor_of x (slot_box x s))) (taker_processor x ok (slot_box x s) (slot_direction x s) c g.0 g.1)
+      ∙ home_direct x ok (slot_box x s) (slot_direction x s) c g.0 g.1.held)
 
-  module _ (low : s < shapedSlots x) (c : ℕ) (i : In c (shapedParcel x (slotBox x s) (slotDirection x s))) where
+  module _ (low : s < shaped_slots x) (c : ℕ) (i : In c (shaped_parcel x (slot_box x s) (slot_direction x s))) where
     -- the box's number of the slot's tile plus its direction
     abbrev pub onward : ℕ
-    onward = slotBox x s + step_of x (slotDirection x s)
+    onward = slot_box x s + step_of x (slot_direction x s)
 
-    step : taker x (slotBox x s) (slotDirection x s) ≡ onward
-    step = taker-step x ok (slotBox x s) (slotDirection x s) (boxTile-low x (slotTile Direct x s) (shapedTile-low x s low))
+    step : taker x (slot_box x s) (slot_direction x s) ≡ onward
+    step = taker_step x ok (slot_box x s) (slot_direction x s) (box_tile_low x (slot_tile Direct x s) (shaped_tile_low x s low))
 
     -- its taker is the tile before which so many exist
-    pub shapedSlotTaker-is : shapedSlotTaker x s ≡ length (keep (exists x) onward)
-    unfolding shapedSlotTaker
-    shapedSlotTaker-is =
-        let g = parcel-crossed x (slotBox x s) (slotDirection x s) c i in
-        taker-counts x ok (slotBox x s) (slotDirection x s) c g.0 g.1 ∙ ap (λ (n : ℕ). length (keep (exists x) n)) step
+    pub shaped_slot_taker_is : shaped_slot_taker x s ≡ length (keep (exists x) onward)
+    unfolding shaped_slot_taker
+    shaped_slot_taker_is =
+        let g = parcel_crossed x (slot_box x s) (slot_direction x s) c i in
+        taker_counts x ok (slot_box x s) (slot_direction x s) c g.0 g.1 ∙ ap (λ (n : ℕ). length (keep (exists x) n)) step
 
     -- so it is due at tile t just where that number is not above t's, and above that of the tile before
-    pub due-at : (t : ℕ) → t < tiles x
-        → (shapedSlotTaker x s ≡ t) ↔ ((onward ≤ boxTile x t) × ((w : ℕ) → suc w ≡ t → boxTile x w < onward))
-    due-at t h = (
-      (λ e. let k = sym shapedSlotTaker-is ∙ e in
-          (counted-upto x onward t h k, λ w l. counted-above x onward t h k w (omega arith))),
-      (λ p. shapedSlotTaker-is ∙ counted_is x onward t h p.0 p.1),
+    pub due_at : (t : ℕ) → t < tiles x
+        → (shaped_slot_taker x s ≡ t) ↔ ((onward ≤ box_tile x t) × ((w : ℕ) → suc w ≡ t → box_tile x w < onward))
+    due_at t h = (
+      (λ e. let k = sym shaped_slot_taker_is ∙ e in
+          (counted_upto x onward t h k, λ w l. counted_above x onward t h k w (omega arith))),
+      (λ p. shaped_slot_taker_is ∙ counted_is x onward t h p.0 p.1),
     )

@@ -9,39 +9,39 @@ use lib.Dec.{eqb}
 use borrow.Author.Tests.{eqb-true, eq-eqb, ltb-true, lt-ltb, leb-true, le-leb}
 use Rattle.base.specs.Tests.{◌and◌, some, keep}
 use Rattle.base.specs.Lists.{In, Rising}
-use Rattle.base.proofs.Tests.{both, and-true, every-at, every-all, some_at, some_one}
-use Rattle.base.proofs.Select.{keep-in, in-keep, keep-rising}
+use Rattle.base.proofs.Tests.{both, and_true, every_at, every_all, some_at, some_one}
+use Rattle.base.proofs.Select.{keep_in, in_keep, keep_rising}
 use Rattle.nest.specs.declared.Nest.{Nest}
 use Rattle.nest.specs.Accepted.{Accepted}
-use Rattle.nest.specs.Nest.{tileLength, component, cells, boxTiles}
-use Rattle.nest.specs.Places.{cell_at, cellPlace, tileAt, tilePlace, boxTileOf}
-use Rattle.nest.specs.Shape.{inShape, tiles}
+use Rattle.nest.specs.Nest.{tile_length, component, cells, box_tiles}
+use Rattle.nest.specs.Places.{cell_at, cell_place, tile_at, tile_place, box_tile_of}
+use Rattle.nest.specs.Shape.{in_shape, tiles}
 use Rattle.plan.specs.Geometry.{inside}
 use Rattle.plan.specs.Messages.{directions, ahead, reaches, taker}
-use Rattle.plan.specs.Shaped.{boxTile, tileOf, reachesShape, shapedParcel, follows, shapedTaker}
-use Rattle.nest.proofs.Rank.{div-le}
-use Rattle.plan.proofs.Tiles.{cellAt-low, cellPlace-cellAt, tileAt-le, tileAt-tilePlace, boxTileOf-low, tilePlace-boxTileOf}
-use Rattle.plan.proofs.Parcels.{Held, ahead-beyond, taker-after}
-use Rattle.plan.proofs.ShapedTiles.{first-kept, number_lt, tileOf-low, boxTile-tileOf}
+use Rattle.plan.specs.Shaped.{box_tile, tile_of, reaches_shape, shaped_parcel, follows, shaped_taker}
+use Rattle.nest.proofs.Rank.{div_le}
+use Rattle.plan.proofs.Tiles.{cell_at_low, cell_place_cell_at, tile_at_le, tile_at_tile_place, box_tile_of_low, tile_place_box_tile_of}
+use Rattle.plan.proofs.Parcels.{Held, ahead_beyond, taker_after}
+use Rattle.plan.proofs.ShapedTiles.{first_kept, number_lt, tile_of_low, box_tile_tile_of}
 
 -- where distance e puts cell c
 abbrev pub moved : Nest → ℕ → ℕ → ℕ → ℕ
-moved x c e j = cellPlace x c j + component x e j
+moved x c e j = cell_place x c j + component x e j
 
 -- what it means that cell c is in the set of tile u and direction v: it is in the box's, and both cells are in the shape
 pub record Crossed (x : Nest) (u v c e : ℕ) : Type 0 where
   pub held : Held x u v c e
-  pub here : inShape x c ≡ true
-  pub lands : inShape x (cell_at x (moved x c e)) ≡ true
+  pub here : in_shape x c ≡ true
+  pub lands : in_shape x (cell_at x (moved x c e)) ≡ true
 
 module _ (x : Nest) where
-  pub parcel-crossed : (u v c : ℕ) → In c (shapedParcel x u v) → (e : ℕ) × Crossed x u v c e
-  unfolding shapedParcel reachesShape reaches inside
-  parcel-crossed u v c h =
-      let r = keep-in (λ c. inShape x c and eqb (boxTileOf x c) u and some (reachesShape x u v c) x.distances) (cells x) c h in
+  pub parcel_crossed : (u v c : ℕ) → In c (shaped_parcel x u v) → (e : ℕ) × Crossed x u v c e
+  unfolding shaped_parcel reaches_shape reaches inside
+  parcel_crossed u v c h =
+      let r = keep_in (λ c. in_shape x c and eqb (box_tile_of x c) u and some (reaches_shape x u v c) x.distances) (cells x) c h in
       let b = both r.1 in
       let g = both b.1 in
-      let s = some_at (reachesShape x u v c) x.distances g.1 in
+      let s = some_at (reaches_shape x u v c) x.distances g.1 in
       let d = both s.2 in
       let k = both d.0 in (
         s.0,
@@ -50,109 +50,109 @@ module _ (x : Nest) where
             cell = r.0;
             own = eqb-true _ _ g.0;
             distance = s.1;
-            stays = λ j l. ltb-true _ _ (every-at _ x.dimensions k.0 j l);
-            steps = λ j l. eqb-true _ _ (every-at _ x.spread k.1 j l);
+            stays = λ j l. ltb-true _ _ (every_at _ x.dimensions k.0 j l);
+            steps = λ j l. eqb-true _ _ (every_at _ x.spread k.1 j l);
           };
           here = b.0;
           lands = d.1;
         },
       )
 
-  pub crossed-parcel : (u v c e : ℕ) → Crossed x u v c e → In c (shapedParcel x u v)
-  unfolding shapedParcel reachesShape reaches inside
-  crossed-parcel u v c e h =
-      in-keep (λ c. inShape x c and eqb (boxTileOf x c) u and some (reachesShape x u v c) x.distances) (cells x) c h.held.cell
-      (and-true h.here (and-true (eq-eqb _ _ h.held.own)
-      (some_one (reachesShape x u v c) x.distances e h.held.distance
-      (and-true (and-true (every-all _ x.dimensions (λ j l. lt-ltb _ _ (h.held.stays j l)))
-      (every-all _ x.spread (λ j l. eq-eqb _ _ (h.held.steps j l)))) h.lands))))
+  pub crossed_parcel : (u v c e : ℕ) → Crossed x u v c e → In c (shaped_parcel x u v)
+  unfolding shaped_parcel reaches_shape reaches inside
+  crossed_parcel u v c e h =
+      in_keep (λ c. in_shape x c and eqb (box_tile_of x c) u and some (reaches_shape x u v c) x.distances) (cells x) c h.held.cell
+      (and_true h.here (and_true (eq-eqb _ _ h.held.own)
+      (some_one (reaches_shape x u v c) x.distances e h.held.distance
+      (and_true (and_true (every_all _ x.dimensions (λ j l. lt-ltb _ _ (h.held.stays j l)))
+      (every_all _ x.spread (λ j l. eq-eqb _ _ (h.held.steps j l)))) h.lands))))
 
-  pub shapedParcel-rising : (u v : ℕ) → Rising (shapedParcel x u v)
-  unfolding shapedParcel
-  shapedParcel-rising u v = keep-rising _ (cells x)
+  pub shaped_parcel_rising : (u v : ℕ) → Rising (shaped_parcel x u v)
+  unfolding shaped_parcel
+  shaped_parcel_rising u v = keep_rising _ (cells x)
 
   -- ---- the taker: the reader's tile exists and follows, so the first that follows is there, and not after it
   module _ (ok : Accepted x) (u v c e : ℕ) (h : Crossed x u v c e) where
     abbrev pub reader : ℕ
     reader = cell_at x (moved x c e)
 
-    pub reader-low : reader < cells x
-    reader-low = cellAt-low x ok (moved x c e) h.held.stays
+    pub reader_low : reader < cells x
+    reader_low = cell_at_low x ok (moved x c e) h.held.stays
 
-    reader-place : (j : ℕ) → j < x.dimensions → tilePlace x (boxTileOf x reader) j ≡ moved x c e j / tileLength x j
-    reader-place j l =
-        tilePlace-boxTileOf x ok reader j l ∙ ap (λ (i : ℕ). i / tileLength x j) (cellPlace-cellAt x ok (moved x c e) h.held.stays j l)
+    reader_place : (j : ℕ) → j < x.dimensions → tile_place x (box_tile_of x reader) j ≡ moved x c e j / tile_length x j
+    reader_place j l =
+        tile_place_box_tile_of x ok reader j l ∙ ap (λ (i : ℕ). i / tile_length x j) (cell_place_cell_at x ok (moved x c e) h.held.stays j l)
 
-    own-place : (j : ℕ) → j < x.dimensions → tilePlace x u j ≡ cellPlace x c j / tileLength x j
-    own-place j l = ap (λ (w : ℕ). tilePlace x w j) (sym h.held.own) ∙ tilePlace-boxTileOf x ok c j l
+    own_place : (j : ℕ) → j < x.dimensions → tile_place x u j ≡ cell_place x c j / tile_length x j
+    own_place j l = ap (λ (w : ℕ). tile_place x w j) (sym h.held.own) ∙ tile_place_box_tile_of x ok c j l
 
-    pub reader-column : (j : ℕ) → j < x.spread → tilePlace x (boxTileOf x reader) j ≡ tilePlace x u j + ahead x v j
-    reader-column j l = reader-place j (omega (arith, ok.spread-low)) ∙ h.held.steps j l
+    pub reader_column : (j : ℕ) → j < x.spread → tile_place x (box_tile_of x reader) j ≡ tile_place x u j + ahead x v j
+    reader_column j l = reader_place j (omega (arith, ok.spread_low)) ∙ h.held.steps j l
 
-    reader-after : (j : ℕ) → j < x.dimensions → tilePlace x u j + ahead x v j ≤ tilePlace x (boxTileOf x reader) j
-    reader-after j l = go (dec_lt j x.spread)
+    reader_after : (j : ℕ) → j < x.dimensions → tile_place x u j + ahead x v j ≤ tile_place x (box_tile_of x reader) j
+    reader_after j l = go (dec_lt j x.spread)
       where
-        go : Dec (j < x.spread) → tilePlace x u j + ahead x v j ≤ tilePlace x (boxTileOf x reader) j
-        go (yes k) = omega (arith, reader-column j k)
+        go : Dec (j < x.spread) → tile_place x u j + ahead x v j ≤ tile_place x (box_tile_of x reader) j
+        go (yes k) = omega (arith, reader_column j k)
         go (no k) =
             omega (
               arith,
-              ahead-beyond x v j (omega arith),
-              own-place j l,
-              reader-place j l,
-              div-le (tileLength x j) (cellPlace x c j) (moved x c e j) (ok.tiled j l) (omega arith),
+              ahead_beyond x v j (omega arith),
+              own_place j l,
+              reader_place j l,
+              div_le (tile_length x j) (cell_place x c j) (moved x c e j) (ok.tiled j l) (omega arith),
             )
 
     -- u plus v stands at or before the reader's tile
-    pub taker-le-reader : taker x u v ≤ boxTileOf x reader
+    pub taker_le_reader : taker x u v ≤ box_tile_of x reader
     unfolding taker
-    taker-le-reader =
-        let b = tileAt-tilePlace x ok (boxTileOf x reader) (boxTileOf-low x ok reader) in
-        omega (arith, tileAt-le x ok (λ j. tilePlace x u j + ahead x v j) (tilePlace x (boxTileOf x reader)) reader-after)
+    taker_le_reader =
+        let b = tile_at_tile_place x ok (box_tile_of x reader) (box_tile_of_low x ok reader) in
+        omega (arith, tile_at_le x ok (λ j. tile_place x u j + ahead x v j) (tile_place x (box_tile_of x reader)) reader_after)
 
     abbrev pub readerTile : ℕ
-    readerTile = tileOf x reader
+    readerTile = tile_of x reader
 
-    pub readerTile-low : readerTile < tiles x
-    readerTile-low = tileOf-low x ok reader reader-low h.lands
+    pub reader_tile_low : readerTile < tiles x
+    reader_tile_low = tile_of_low x ok reader reader_low h.lands
 
-    pub readerTile-box : boxTile x readerTile ≡ boxTileOf x reader
-    readerTile-box = boxTile-tileOf x ok reader reader-low h.lands
+    pub reader_tile_box : box_tile x readerTile ≡ box_tile_of x reader
+    reader_tile_box = box_tile_tile_of x ok reader reader_low h.lands
 
-    reader-follows : follows x u v readerTile ≡ true
+    reader_follows : follows x u v readerTile ≡ true
     unfolding follows
-    reader-follows =
-        and-true (le-leb (taker x u v) (boxTile x readerTile) (rw readerTile-box taker-le-reader))
-        (every-all _ x.spread (λ j l. eq-eqb _ _ (ap (λ (w : ℕ). tilePlace x w j) readerTile-box ∙ reader-column j l)))
+    reader_follows =
+        and_true (le-leb (taker x u v) (box_tile x readerTile) (rw reader_tile_box taker_le_reader))
+        (every_all _ x.spread (λ j l. eq-eqb _ _ (ap (λ (w : ℕ). tile_place x w j) reader_tile_box ∙ reader_column j l)))
 
-    found : (shapedTaker x u v < tiles x) × (follows x u v (shapedTaker x u v) ≡ true) × (shapedTaker x u v ≤ readerTile)
-    unfolding shapedTaker
-    found = first-kept (follows x u v) (tiles x) readerTile readerTile-low reader-follows
+    found : (shaped_taker x u v < tiles x) × (follows x u v (shaped_taker x u v) ≡ true) × (shaped_taker x u v ≤ readerTile)
+    unfolding shaped_taker
+    found = first_kept (follows x u v) (tiles x) readerTile reader_tile_low reader_follows
 
-    pub shapedTaker-low : shapedTaker x u v < tiles x
-    shapedTaker-low = found.0
+    pub shaped_taker_low : shaped_taker x u v < tiles x
+    shaped_taker_low = found.0
 
-    pub shapedTaker-le : shapedTaker x u v ≤ readerTile
-    shapedTaker-le = found.2
+    pub shaped_taker_le : shaped_taker x u v ≤ readerTile
+    shaped_taker_le = found.2
 
-    pub shapedTaker-from : taker x u v ≤ boxTile x (shapedTaker x u v)
+    pub shaped_taker_from : taker x u v ≤ box_tile x (shaped_taker x u v)
     unfolding follows
-    shapedTaker-from = leb-true _ _ (both found.1).0
+    shaped_taker_from = leb-true _ _ (both found.1).0
 
-    pub shapedTaker-column : (j : ℕ) → j < x.spread → tilePlace x (boxTile x (shapedTaker x u v)) j ≡ tilePlace x u j + ahead x v j
+    pub shaped_taker_column : (j : ℕ) → j < x.spread → tile_place x (box_tile x (shaped_taker x u v)) j ≡ tile_place x u j + ahead x v j
     unfolding follows
-    shapedTaker-column j l = eqb-true _ _ (every-at _ x.spread (both found.1).1 j l)
+    shaped_taker_column j l = eqb-true _ _ (every_at _ x.spread (both found.1).1 j l)
 
     -- and no tile that exists follows before it
-    pub shapedTaker-first : (w : ℕ) → w < tiles x → taker x u v ≤ boxTile x w
-        → ((j : ℕ) → j < x.spread → tilePlace x (boxTile x w) j ≡ tilePlace x u j + ahead x v j) → shapedTaker x u v ≤ w
-    unfolding shapedTaker follows
-    shapedTaker-first w l from column =
-        (first-kept (follows x u v) (tiles x) w l (and-true (le-leb _ _ from) (every-all _ x.spread (λ j k. eq-eqb _ _ (column j k))))).2
+    pub shaped_taker_first : (w : ℕ) → w < tiles x → taker x u v ≤ box_tile x w
+        → ((j : ℕ) → j < x.spread → tile_place x (box_tile x w) j ≡ tile_place x u j + ahead x v j) → shaped_taker x u v ≤ w
+    unfolding shaped_taker follows
+    shaped_taker_first w l from column =
+        (first_kept (follows x u v) (tiles x) w l (and_true (le-leb _ _ from) (every_all _ x.spread (λ j k. eq-eqb _ _ (column j k))))).2
 
   -- it comes after the tile that sends
-  pub shapedTaker-after : (ok : Accepted x) (t v c e : ℕ) → Crossed x (boxTile x t) v c e → t < tiles x → boxTile x t < boxTiles x
-      → 1 ≤ v → v ≤ directions x → t < shapedTaker x (boxTile x t) v
-  shapedTaker-after ok t v c e h l b p q =
-      number_lt x t (shapedTaker x (boxTile x t) v) l (shapedTaker-low ok (boxTile x t) v c e h)
-      (omega (arith, taker-after x ok (boxTile x t) v c e h.held b p q, shapedTaker-from ok (boxTile x t) v c e h))
+  pub shaped_taker_after : (ok : Accepted x) (t v c e : ℕ) → Crossed x (box_tile x t) v c e → t < tiles x → box_tile x t < box_tiles x
+      → 1 ≤ v → v ≤ directions x → t < shaped_taker x (box_tile x t) v
+  shaped_taker_after ok t v c e h l b p q =
+      number_lt x t (shaped_taker x (box_tile x t) v) l (shaped_taker_low ok (box_tile x t) v c e h)
+      (omega (arith, taker_after x ok (box_tile x t) v c e h.held b p q, shaped_taker_from ok (box_tile x t) v c e h))

@@ -11,92 +11,92 @@ use lib.Dec.{eqb}
 use borrow.Author.Tests.{eqb-false, ne_eqb}
 use Rattle.base.specs.Tests.{pick}
 use Rattle.base.specs.Lists.{In}
-use Rattle.base.proofs.Tests.{pick-false}
-use Rattle.machine.specs.Plan.{Message, message, count, senderOf, takerOf, heldBy}
+use Rattle.base.proofs.Tests.{pick_false}
+use Rattle.machine.specs.Plan.{Message, message, count, sender_of, taker_of, held_by}
 use Rattle.nest.specs.declared.Nest.{Nest}
 use Rattle.nest.specs.Shape.{tiles}
 use Rattle.plan.specs.declared.Route.TheVariants.{Direct}
-use Rattle.plan.specs.Geometry.{processorOf}
-use Rattle.plan.specs.Messages.{directions, slots, slotTile, slotDirection, messagesOf}
-use Rattle.plan.specs.Shaped.{boxTile, shapedParcel, shapedTaker, slotBox, shapedSlotTaker, shapedHome, shapedSlotParcel, shapedMessage}
-use Rattle.plan.specs.Shaped.{shapedSlots, plan_of}
-use Rattle.nest.proofs.Boxes.{tiles-few}
-use Rattle.plan.proofs.Listed.{at-number, number-low, message-slot}
-use Rattle.plan.proofs.Slots.{in-full, full-in, unless-in}
-use Rattle.plan.proofs.Parcels.{slotDirection-low, slotDirection-pos, slot-tile, slot-way}
+use Rattle.plan.specs.Geometry.{processor_of}
+use Rattle.plan.specs.Messages.{directions, slots, slot_tile, slot_direction, messages_of}
+use Rattle.plan.specs.Shaped.{box_tile, shaped_parcel, shaped_taker, slot_box, shaped_slot_taker, shaped_home, shaped_slot_parcel, shaped_message}
+use Rattle.plan.specs.Shaped.{shaped_slots, plan_of}
+use Rattle.nest.proofs.Boxes.{tiles_few}
+use Rattle.plan.proofs.Listed.{at_number, number_low, message_slot}
+use Rattle.plan.proofs.Slots.{in_full, full_in, unless_in}
+use Rattle.plan.proofs.Parcels.{slot_direction_low, slot_direction_pos, slot_tile_lem, slot_way}
 
 module _ (x : Nest) where
   -- ---- a slot's tile and direction
-  pub in-box : (s : ℕ) → s < shapedSlots x → s < slots Direct x
-  in-box s h = omega (arith, mul-le-mul_right (directions x) (tiles-few x))
+  pub in_box : (s : ℕ) → s < shaped_slots x → s < slots Direct x
+  in_box s h = omega (arith, mul-le-mul_right (directions x) (tiles_few x))
 
-  pub shapedDirection-low : (s : ℕ) → s < shapedSlots x → slotDirection x s ≤ directions x
-  shapedDirection-low s h = slotDirection-low x s (in-box s h)
+  pub shaped_direction_low : (s : ℕ) → s < shaped_slots x → slot_direction x s ≤ directions x
+  shaped_direction_low s h = slot_direction_low x s (in_box s h)
 
-  pub shapedTile-low : (s : ℕ) → s < shapedSlots x → slotTile Direct x s < tiles x
-  shapedTile-low s h = let p : 0 < directions x = omega (arith, shapedDirection-low s h) in (div-lt_iff_lt-mul p).1 h
+  pub shaped_tile_low : (s : ℕ) → s < shaped_slots x → slot_tile Direct x s < tiles x
+  shaped_tile_low s h = let p : 0 < directions x = omega (arith, shaped_direction_low s h) in (div-lt_iff_lt-mul p).1 h
 
   -- ---- the slot of tile t and direction v
   abbrev pub slot_at : ℕ → ℕ → ℕ
   slot_at t v = t * directions x + (v - 1)
 
   module _ (t v : ℕ) (h : t < tiles x) (l : 1 ≤ v) (m : v ≤ directions x) where
-    pub slotAt-low : slot_at t v < shapedSlots x
-    slotAt-low = omega (arith, mul-le-mul_right (directions x) h, suc-mul t (directions x))
+    pub slot_at_low : slot_at t v < shaped_slots x
+    slot_at_low = omega (arith, mul-le-mul_right (directions x) h, suc-mul t (directions x))
 
-    pub slotAt-tile : slotTile Direct x (slot_at t v) ≡ t
-    slotAt-tile = slot-tile x Direct t (v - 1) (omega (arith, tiles-few x)) (omega arith)
+    pub slot_at_tile : slot_tile Direct x (slot_at t v) ≡ t
+    slot_at_tile = slot_tile_lem x Direct t (v - 1) (omega (arith, tiles_few x)) (omega arith)
 
-    pub slotAt-direction : slotDirection x (slot_at t v) ≡ v
-    slotAt-direction = let e = slot-way x Direct t (v - 1) (omega (arith, tiles-few x)) (omega arith) in omega arith
+    pub slot_at_direction : slot_direction x (slot_at t v) ≡ v
+    slot_at_direction = let e = slot_way x Direct t (v - 1) (omega (arith, tiles_few x)) (omega arith) in omega arith
 
-    pub slotAt-taker : shapedSlotTaker x (slot_at t v) ≡ shapedTaker x (boxTile x t) v
-    unfolding shapedSlotTaker
-    slotAt-taker = rw (slotAt-tile, slotAt-direction)
+    pub slot_at_taker : shaped_slot_taker x (slot_at t v) ≡ shaped_taker x (box_tile x t) v
+    unfolding shaped_slot_taker
+    slot_at_taker = rw (slot_at_tile, slot_at_direction)
 
-    pub slotAt-parcel : shapedSlotParcel x (slot_at t v)
-        ≡ pick (eqb (processorOf x (boxTile x t)) (processorOf x (boxTile x (shapedTaker x (boxTile x t) v)))) [] (shapedParcel x (boxTile x t) v)
-    unfolding shapedSlotParcel shapedHome
-    slotAt-parcel = rw (slotAt-taker, slotAt-tile, slotAt-direction)
+    pub slot_at_parcel : shaped_slot_parcel x (slot_at t v)
+        ≡ pick (eqb (processor_of x (box_tile x t)) (processor_of x (box_tile x (shaped_taker x (box_tile x t) v)))) [] (shaped_parcel x (box_tile x t) v)
+    unfolding shaped_slot_parcel shaped_home
+    slot_at_parcel = rw (slot_at_taker, slot_at_tile, slot_at_direction)
 
     -- its cells, where the taker is on another processor, are a message
-    module _ (c : ℕ) (i : In c (shapedParcel x (boxTile x t) v))
-        (away : processorOf x (boxTile x t) ≢ processorOf x (boxTile x (shapedTaker x (boxTile x t) v))) where
-      holds : shapedSlotParcel x (slot_at t v) ≡ shapedParcel x (boxTile x t) v
-      holds = slotAt-parcel ∙ pick-false _ [] (shapedParcel x (boxTile x t) v) (ne_eqb _ _ away)
+    module _ (c : ℕ) (i : In c (shaped_parcel x (box_tile x t) v))
+        (away : processor_of x (box_tile x t) ≢ processor_of x (box_tile x (shaped_taker x (box_tile x t) v))) where
+      holds : shaped_slot_parcel x (slot_at t v) ≡ shaped_parcel x (box_tile x t) v
+      holds = slot_at_parcel ∙ pick_false _ [] (shaped_parcel x (box_tile x t) v) (ne_eqb _ _ away)
 
-      pub slotAt-full : 0 < length (shapedSlotParcel x (slot_at t v))
-      slotAt-full = rw holds (in-full c (shapedParcel x (boxTile x t) v) i)
+      pub slot_at_full : 0 < length (shaped_slot_parcel x (slot_at t v))
+      slot_at_full = rw holds (in_full c (shaped_parcel x (box_tile x t) v) i)
 
-      pub slotAt-sent : (m : ℕ) × (m < count (plan_of Direct x)) × (senderOf (plan_of Direct x) m ≡ t)
-          × (takerOf (plan_of Direct x) m ≡ shapedTaker x (boxTile x t) v) × (heldBy (plan_of Direct x) m ≡ shapedParcel x (boxTile x t) v)
-      slotAt-sent =
-          let is = at-number (shapedMessage x) (shapedSlots x) (slot_at t v) slotAt-low slotAt-full in (
-            length (messagesOf (shapedMessage x) (slot_at t v)),
-            number-low (shapedMessage x) (shapedSlots x) (slot_at t v) slotAt-low slotAt-full,
-            ap (λ (y : Message). y.sender) is ∙ slotAt-tile,
-            ap (λ (y : Message). y.taker) is ∙ slotAt-taker,
+      pub slot_at_sent : (m : ℕ) × (m < count (plan_of Direct x)) × (sender_of (plan_of Direct x) m ≡ t)
+          × (taker_of (plan_of Direct x) m ≡ shaped_taker x (box_tile x t) v) × (held_by (plan_of Direct x) m ≡ shaped_parcel x (box_tile x t) v)
+      slot_at_sent =
+          let is = at_number (shaped_message x) (shaped_slots x) (slot_at t v) slot_at_low slot_at_full in (
+            length (messages_of (shaped_message x) (slot_at t v)),
+            number_low (shaped_message x) (shaped_slots x) (slot_at t v) slot_at_low slot_at_full,
+            ap (λ (y : Message). y.sender) is ∙ slot_at_tile,
+            ap (λ (y : Message). y.taker) is ∙ slot_at_taker,
             ap (λ (y : Message). y.cells) is ∙ holds,
           )
 
   -- ---- the slot of message m
   pub record ShapedSent (m s : ℕ) : Type 0 where
-    pub slot : s < shapedSlots x
-    pub full : 0 < length (shapedSlotParcel x s)
-    pub number : length (messagesOf (shapedMessage x) s) ≡ m
-    pub sender : senderOf (plan_of Direct x) m ≡ slotTile Direct x s
-    pub taker : takerOf (plan_of Direct x) m ≡ shapedTaker x (slotBox x s) (slotDirection x s)
-    pub holds : heldBy (plan_of Direct x) m ≡ shapedParcel x (slotBox x s) (slotDirection x s)
-    pub away : processorOf x (slotBox x s) ≢ processorOf x (boxTile x (shapedTaker x (slotBox x s) (slotDirection x s)))
+    pub slot : s < shaped_slots x
+    pub full : 0 < length (shaped_slot_parcel x s)
+    pub number : length (messages_of (shaped_message x) s) ≡ m
+    pub sender : sender_of (plan_of Direct x) m ≡ slot_tile Direct x s
+    pub taker : taker_of (plan_of Direct x) m ≡ shaped_taker x (slot_box x s) (slot_direction x s)
+    pub holds : held_by (plan_of Direct x) m ≡ shaped_parcel x (slot_box x s) (slot_direction x s)
+    pub away : processor_of x (slot_box x s) ≢ processor_of x (box_tile x (shaped_taker x (slot_box x s) (slot_direction x s)))
 
-  pub sent-from : (m : ℕ) → m < count (plan_of Direct x) → (s : ℕ) × ShapedSent m s
-  unfolding shapedSlotTaker shapedSlotParcel shapedHome
-  sent-from m h =
-      let a = message-slot (shapedMessage x) (shapedSlots x) m h in
+  pub sent_from : (m : ℕ) → m < count (plan_of Direct x) → (s : ℕ) × ShapedSent m s
+  unfolding shaped_slot_taker shaped_slot_parcel shaped_home
+  sent_from m h =
+      let a = message_slot (shaped_message x) (shaped_slots x) m h in
       let is = a.4 in
       let s = a.0 in
-      let k = full-in (shapedSlotParcel x s) a.2 in
-      let b = unless-in (shapedHome x s) (shapedParcel x (slotBox x s) (slotDirection x s)) k.0 k.1 in (
+      let k = full_in (shaped_slot_parcel x s) a.2 in
+      let b = unless_in (shaped_home x s) (shaped_parcel x (slot_box x s) (slot_direction x s)) k.0 k.1 in (
         s,
         record {
           slot = a.1;
@@ -104,14 +104,14 @@ module _ (x : Nest) where
           number = a.3;
           sender = ap (λ (y : Message). y.sender) is;
           taker = ap (λ (y : Message). y.taker) is;
-          holds = ap (λ (y : Message). y.cells) is ∙ pick-false _ [] (shapedParcel x (slotBox x s) (slotDirection x s)) b.0;
+          holds = ap (λ (y : Message). y.cells) is ∙ pick_false _ [] (shaped_parcel x (slot_box x s) (slot_direction x s)) b.0;
           away = eqb-false _ _ b.0;
         },
       )
 
   -- a message holds a cell
-  pub shaped-held : (m : ℕ) → m < count (plan_of Direct x) → (c : ℕ) × In c (heldBy (plan_of Direct x) m)
-  shaped-held m h =
-      let a = message-slot (shapedMessage x) (shapedSlots x) m h in
-      let k = full-in (shapedSlotParcel x a.0) a.2 in
+  pub shaped_held : (m : ℕ) → m < count (plan_of Direct x) → (c : ℕ) × In c (held_by (plan_of Direct x) m)
+  shaped_held m h =
+      let a = message_slot (shaped_message x) (shaped_slots x) m h in
+      let k = full_in (shaped_slot_parcel x a.0) a.2 in
       (k.0, rw (ap (λ (y : Message). y.cells) a.4) k.1)

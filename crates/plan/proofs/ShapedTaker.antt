@@ -12,72 +12,72 @@ use lib.ListN.{length, get_or}
 use lib.Dec.{eqb, leb}
 use borrow.Author.Tests.{eqb-true, eq-eqb, le-leb}
 use Rattle.base.specs.Tests.{◌and◌, every, keep, product}
-use Rattle.base.proofs.Tests.{and-true, every-all}
-use Rattle.base.proofs.Select.{keep-lt, keep-mono}
+use Rattle.base.proofs.Tests.{and_true, every_all}
+use Rattle.base.proofs.Select.{keep_lt, keep_mono}
 use Rattle.nest.specs.declared.Nest.{Nest}
 use Rattle.nest.specs.Accepted.{Accepted}
-use Rattle.nest.specs.Nest.{tileCount, boxTiles}
-use Rattle.nest.specs.Places.{rank, place, tileAt, tilePlace, boxTileOf}
+use Rattle.nest.specs.Nest.{tile_count, box_tiles}
+use Rattle.nest.specs.Places.{rank, place, tile_at, tile_place, box_tile_of}
 use Rattle.nest.specs.Shape.{exists, tiles}
-use Rattle.plan.specs.Geometry.{processorOf}
+use Rattle.plan.specs.Geometry.{processor_of}
 use Rattle.plan.specs.Messages.{ahead, taker}
-use Rattle.plan.specs.Shaped.{boxTile, shapedTaker}
-use Rattle.nest.proofs.Rank.{Positive, rank_same, rank-place, place-before, div-le}
-use Rattle.plan.proofs.Tiles.{tileCount-pos, tileAt-tilePlace, boxTileOf-low, processorOf-same}
-use Rattle.plan.proofs.Parcels.{taker-low, taker-place}
-use Rattle.plan.proofs.ShapedTiles.{boxTile-low, boxTile-exists, before-boxTile}
-use Rattle.plan.proofs.ShapedParcels.{Crossed, reader, reader-column, taker-le-reader, readerTile, readerTile-low, readerTile-box}
-use Rattle.plan.proofs.ShapedParcels.{shapedTaker-low, shapedTaker-le, shapedTaker-from, shapedTaker-first, shapedTaker-column}
+use Rattle.plan.specs.Shaped.{box_tile, shaped_taker}
+use Rattle.nest.proofs.Rank.{Positive, rank_same, rank_place, place_before, div_le}
+use Rattle.plan.proofs.Tiles.{tile_count_pos, tile_at_tile_place, box_tile_of_low, processor_of_same}
+use Rattle.plan.proofs.Parcels.{taker_low, taker_place}
+use Rattle.plan.proofs.ShapedTiles.{box_tile_low, box_tile_exists, before_box_tile}
+use Rattle.plan.proofs.ShapedParcels.{Crossed, reader, reader_column, taker_le_reader, readerTile, reader_tile_low, reader_tile_box}
+use Rattle.plan.proofs.ShapedParcels.{shaped_taker_low, shaped_taker_le, shaped_taker_from, shaped_taker_first, shaped_taker_column}
 
 -- ---- the box's number of u plus v
 
-rank-plus : (N i k : ℕ → ℕ) (l : ℕ) → rank N (λ j. i j + k j) l ≡ rank N i l + rank N k l
+rank_plus : (N i k : ℕ → ℕ) (l : ℕ) → rank N (λ j. i j + k j) l ≡ rank N i l + rank N k l
 unfolding rank
-rank-plus N i k zero = refl
-rank-plus N i k (suc l) = rw (rank-plus N i k l) (omega (arith, add-mul (rank N i l) (rank N k l) (N l)))
+rank_plus N i k zero = refl
+rank_plus N i k (suc l) = rw (rank_plus N i k l) (omega (arith, add-mul (rank N i l) (rank N k l) (N l)))
 
-tileAt-plus : (x : Nest) (i k : ℕ → ℕ) → tileAt x (λ j. i j + k j) ≡ tileAt x i + tileAt x k
-unfolding tileAt
-tileAt-plus x i k = rank-plus (tileCount x) i k x.dimensions
+tile_at_plus : (x : Nest) (i k : ℕ → ℕ) → tile_at x (λ j. i j + k j) ≡ tile_at x i + tile_at x k
+unfolding tile_at
+tile_at_plus x i k = rank_plus (tile_count x) i k x.dimensions
 
 -- the constant of v
 abbrev pub step_of : Nest → ℕ → ℕ
-step_of x v = tileAt x (ahead x v)
+step_of x v = tile_at x (ahead x v)
 
-pub taker-step : (x : Nest) → Accepted x → (u v : ℕ) → u < boxTiles x → taker x u v ≡ u + step_of x v
+pub taker_step : (x : Nest) → Accepted x → (u v : ℕ) → u < box_tiles x → taker x u v ≡ u + step_of x v
 unfolding taker
-taker-step x ok u v h = tileAt-plus x (tilePlace x u) (ahead x v) ∙ ap (λ (a : ℕ). a + step_of x v) (tileAt-tilePlace x ok u h)
+taker_step x ok u v h = tile_at_plus x (tile_place x u) (ahead x v) ∙ ap (λ (a : ℕ). a + step_of x v) (tile_at_tile_place x ok u h)
 
 -- ---- how many tiles exist before number n of the box
 
 module _ (x : Nest) (n t : ℕ) (low : t < tiles x) where
-  pub counted-upto : length (keep (exists x) n) ≡ t → n ≤ boxTile x t
-  counted-upto e = go (dec_lt (boxTile x t) n)
+  pub counted_upto : length (keep (exists x) n) ≡ t → n ≤ box_tile x t
+  counted_upto e = go (dec_lt (box_tile x t) n)
     where
-      go : Dec (boxTile x t < n) → n ≤ boxTile x t
-      go (yes h) = absurd (omega (arith, keep-lt (exists x) n (boxTile x t) h (boxTile-exists x t low), before-boxTile x t low))
+      go : Dec (box_tile x t < n) → n ≤ box_tile x t
+      go (yes h) = absurd (omega (arith, keep_lt (exists x) n (box_tile x t) h (box_tile_exists x t low), before_box_tile x t low))
       go (no h) = omega arith
 
-  pub counted-above : length (keep (exists x) n) ≡ t → (w : ℕ) → w < t → boxTile x w < n
-  counted-above e w l = go (dec_lt (boxTile x w) n)
+  pub counted_above : length (keep (exists x) n) ≡ t → (w : ℕ) → w < t → box_tile x w < n
+  counted_above e w l = go (dec_lt (box_tile x w) n)
     where
-      go : Dec (boxTile x w < n) → boxTile x w < n
+      go : Dec (box_tile x w < n) → box_tile x w < n
       go (yes h) = h
       go (no h) =
-          absurd (omega (arith, keep-mono (exists x) (boxTile x w) n (omega arith), before-boxTile x w (omega arith)))
+          absurd (omega (arith, keep_mono (exists x) (box_tile x w) n (omega arith), before_box_tile x w (omega arith)))
 
   -- above the tile before t, and not above t
-  pub counted_is : n ≤ boxTile x t → ((w : ℕ) → suc w ≡ t → boxTile x w < n) → length (keep (exists x) n) ≡ t
+  pub counted_is : n ≤ box_tile x t → ((w : ℕ) → suc w ≡ t → box_tile x w < n) → length (keep (exists x) n) ≡ t
   counted_is upto above = go t refl
     where
       most : length (keep (exists x) n) ≤ t
-      most = omega (arith, keep-mono (exists x) (boxTile x t) n upto, before-boxTile x t low)
+      most = omega (arith, keep_mono (exists x) (box_tile x t) n upto, before_box_tile x t low)
 
       go : (k : ℕ) → k ≡ t → length (keep (exists x) n) ≡ t
       go zero e = omega (arith, most)
       go (suc w) e =
           let l : w < tiles x = omega arith in
-          omega (arith, most, keep-lt (exists x) n (boxTile x w) (above w e) (boxTile-exists x w l), before-boxTile x w l)
+          omega (arith, most, keep_lt (exists x) n (box_tile x w) (above w e) (box_tile_exists x w l), before_box_tile x w l)
 
 -- ---- the taker
 
@@ -89,72 +89,72 @@ between N zero m c d e p h cd de low s j k = absurd (omega arith)
 between N (suc l) m c d e p h cd de low s j k =
     go (eq-or-lt_of_le h)
     (λ q. between N l m (c / N l) (d / N l) (e / N l) (λ i b. p i (omega arith)) (le_of_suc-le-suc q)
-    (div-le (N l) c d (p l (omega arith)) cd) (div-le (N l) d e (p l (omega arith)) de) ((div-lt_iff_lt-mul (p l (omega arith))).1 low)
-    (λ i b. sym (place-before N l c i (omega arith)) ∙ (s i b ∙ place-before N l e i (omega arith))) j k)
+    (div_le (N l) c d (p l (omega arith)) cd) (div_le (N l) d e (p l (omega arith)) de) ((div-lt_iff_lt-mul (p l (omega arith))).1 low)
+    (λ i b. sym (place_before N l c i (omega arith)) ∙ (s i b ∙ place_before N l e i (omega arith))) j k)
   where
     all_same : m ≡ suc l → c ≡ e
     all_same q =
-        sym (rank-place N (suc l) c p (omega arith))
-        ∙ (rank_same N (place N (suc l) c) (place N (suc l) e) (suc l) (λ i b. s i (omega arith)) ∙ rank-place N (suc l) e p low)
+        sym (rank_place N (suc l) c p (omega arith))
+        ∙ (rank_same N (place N (suc l) c) (place N (suc l) e) (suc l) (λ i b. s i (omega arith)) ∙ rank_place N (suc l) e p low)
 
     go : (m ≡ suc l) ⊎ (m < suc l) → (m < suc l → place N l (d / N l) j ≡ place N l (c / N l) j)
         → place N (suc l) d j ≡ place N (suc l) c j
     go (inl q) ih = let z : d ≡ c = omega (arith, all_same q) in ap (λ (a : ℕ). place N (suc l) a j) z
-    go (inr q) ih = place-before N l d j (omega arith) ∙ (ih q ∙ sym (place-before N l c j (omega arith)))
+    go (inr q) ih = place_before N l d j (omega arith) ∙ (ih q ∙ sym (place_before N l c j (omega arith)))
 
 module _ (x : Nest) (ok : Accepted x) (u v c e : ℕ) (h : Crossed x u v c e) where
   -- how many tiles exist before u plus v
   abbrev n : ℕ
   n = length (keep (exists x) (taker x u v))
 
-  n-le : n ≤ shapedTaker x u v
-  n-le =
+  n_le : n ≤ shaped_taker x u v
+  n_le =
       omega (
         arith,
-        before-boxTile x (shapedTaker x u v) (shapedTaker-low x ok u v c e h),
-        keep-mono (exists x) (boxTile x (shapedTaker x u v)) (taker x u v) (shapedTaker-from x ok u v c e h),
+        before_box_tile x (shaped_taker x u v) (shaped_taker_low x ok u v c e h),
+        keep_mono (exists x) (box_tile x (shaped_taker x u v)) (taker x u v) (shaped_taker_from x ok u v c e h),
       )
 
-  n-low : n < tiles x
-  n-low = omega (arith, n-le, shapedTaker-low x ok u v c e h)
+  n_low : n < tiles x
+  n_low = omega (arith, n_le, shaped_taker_low x ok u v c e h)
 
   -- tile n stands from u plus v on, and not beyond the reader's
-  n-from : taker x u v ≤ boxTile x n
-  n-from = counted-upto x (taker x u v) n n-low refl
+  n_from : taker x u v ≤ box_tile x n
+  n_from = counted_upto x (taker x u v) n n_low refl
 
-  n-upto : boxTile x n ≤ boxTileOf x (reader x ok u v c e h)
-  n-upto = go (eq-or-lt_of_le n-reader)
+  n_upto : box_tile x n ≤ box_tile_of x (reader x ok u v c e h)
+  n_upto = go (eq-or-lt_of_le n_reader)
     where
-      n-reader : n ≤ readerTile x ok u v c e h
-      n-reader = omega (arith, n-le, shapedTaker-le x ok u v c e h)
+      n_reader : n ≤ readerTile x ok u v c e h
+      n_reader = omega (arith, n_le, shaped_taker_le x ok u v c e h)
 
-      go : (n ≡ readerTile x ok u v c e h) ⊎ (n < readerTile x ok u v c e h) → boxTile x n ≤ boxTileOf x (reader x ok u v c e h)
-      go (inl z) = omega (arith, ap (boxTile x) z, readerTile-box x ok u v c e h)
+      go : (n ≡ readerTile x ok u v c e h) ⊎ (n < readerTile x ok u v c e h) → box_tile x n ≤ box_tile_of x (reader x ok u v c e h)
+      go (inl z) = omega (arith, ap (box_tile x) z, reader_tile_box x ok u v c e h)
       go (inr z) =
           omega (
             arith,
-            readerTile-box x ok u v c e h,
-            counted-above x (boxTile x (readerTile x ok u v c e h)) (readerTile x ok u v c e h) (readerTile-low x ok u v c e h)
-                (before-boxTile x (readerTile x ok u v c e h) (readerTile-low x ok u v c e h)) n z,
+            reader_tile_box x ok u v c e h,
+            counted_above x (box_tile x (readerTile x ok u v c e h)) (readerTile x ok u v c e h) (reader_tile_low x ok u v c e h)
+                (before_box_tile x (readerTile x ok u v c e h) (reader_tile_low x ok u v c e h)) n z,
           )
 
   -- so it is in their column
-  n-column : (j : ℕ) → j < x.spread → tilePlace x (boxTile x n) j ≡ tilePlace x u j + ahead x v j
-  unfolding boxTiles tilePlace
-  n-column j l =
-      between (tileCount x) x.dimensions x.spread (taker x u v) (boxTile x n) (boxTileOf x (reader x ok u v c e h))
-      (tileCount-pos x ok) (omega (arith, ok.spread-low)) n-from n-upto (boxTileOf-low x ok (reader x ok u v c e h)) ends j l
-      ∙ taker-place x ok u v c e h.held j (omega (arith, ok.spread-low))
+  n_column : (j : ℕ) → j < x.spread → tile_place x (box_tile x n) j ≡ tile_place x u j + ahead x v j
+  unfolding box_tiles tile_place
+  n_column j l =
+      between (tile_count x) x.dimensions x.spread (taker x u v) (box_tile x n) (box_tile_of x (reader x ok u v c e h))
+      (tile_count_pos x ok) (omega (arith, ok.spread_low)) n_from n_upto (box_tile_of_low x ok (reader x ok u v c e h)) ends j l
+      ∙ taker_place x ok u v c e h.held j (omega (arith, ok.spread_low))
     where
-      ends : (j : ℕ) → j < x.spread → tilePlace x (taker x u v) j ≡ tilePlace x (boxTileOf x (reader x ok u v c e h)) j
-      ends j l = taker-place x ok u v c e h.held j (omega (arith, ok.spread-low)) ∙ sym (reader-column x ok u v c e h j l)
+      ends : (j : ℕ) → j < x.spread → tile_place x (taker x u v) j ≡ tile_place x (box_tile_of x (reader x ok u v c e h)) j
+      ends j l = taker_place x ok u v c e h.held j (omega (arith, ok.spread_low)) ∙ sym (reader_column x ok u v c e h j l)
 
   -- the taker's number
-  pub taker-counts : shapedTaker x u v ≡ length (keep (exists x) (taker x u v))
-  taker-counts = omega (arith, n-le, shapedTaker-first x ok u v c e h n n-low n-from n-column)
+  pub taker_counts : shaped_taker x u v ≡ length (keep (exists x) (taker x u v))
+  taker_counts = omega (arith, n_le, shaped_taker_first x ok u v c e h n n_low n_from n_column)
 
   -- its processor is that of u plus v
-  pub taker-processor : processorOf x (boxTile x (shapedTaker x u v)) ≡ processorOf x (taker x u v)
-  taker-processor =
-      processorOf-same x ok (boxTile x (shapedTaker x u v)) (taker x u v)
-      (λ j l. shapedTaker-column x ok u v c e h j l ∙ sym (taker-place x ok u v c e h.held j (omega (arith, ok.spread-low))))
+  pub taker_processor : processor_of x (box_tile x (shaped_taker x u v)) ≡ processor_of x (taker x u v)
+  taker_processor =
+      processor_of_same x ok (box_tile x (shaped_taker x u v)) (taker x u v)
+      (λ j l. shaped_taker_column x ok u v c e h j l ∙ sym (taker_place x ok u v c e h.held j (omega (arith, ok.spread_low))))

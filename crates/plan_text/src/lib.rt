@@ -3,10 +3,10 @@ ghost use Rattle.std.specs.Prelude.{◌≡◌, [], ◌∷◌, ◌+◌, ◌*◌, 
 ghost use Rattle.machine.specs.Plan.{count};
 ghost use Rattle.plan.specs.Shaped.{plan_of};
 ghost use Rattle.layout.specs.Sizes.{Sized};
-ghost use Rattle.layout.specs.RouteWords.{routeOf};
+ghost use Rattle.layout.specs.RouteWords.{route_of};
 ghost use Rattle.tables.specs.Tables.{Tabled};
 ghost use Rattle.text.specs.Writing.{pen, write};
-ghost use Rattle.plan_text.specs.PlanText.{numberThen, field, figuresText, spaced, linesText, refusedText, planText, printerText};
+ghost use Rattle.plan_text.specs.PlanText.{number_then, field, figures_text, spaced, lines_text, refused_text, plan_text, printer_text};
 
 use layout::Sizes;
 use libc::STDOUT_FILENO;
@@ -17,7 +17,7 @@ use tables::TABLE_WORDS;
 // A number of at most ten digits, and a byte behind it.
 fn put_number(space: &mut [u8], at: usize, number: u32, after: u8) -> usize
     requires { at + 11 ≤ 4294967295 }
-    ensures space_after { pen result space.new ≡ write (pen at space.old) (numberThen number after) }
+    ensures space_after { pen result space.new ≡ write (pen at space.old) (number_then number after) }
     ensures upper_bound { result ≤ at + 11 }
 {
     let next = text::put_decimal(space, at, number);
@@ -60,7 +60,7 @@ fn put_lines(
 ) -> usize
     requires messages_bound { (at + 66 * messages ≤ 4294967295) × (Sized nest sizes × Tabled nest sizes lens.now) }
     requires messages_value { messages ≡ count (plan_of sizes.route nest) }
-    ensures space_after { pen result space.new ≡ write (pen at space.old) (linesText (plan_of sizes.route nest) messages) }
+    ensures space_after { pen result space.new ≡ write (pen at space.old) (lines_text (plan_of sizes.route nest) messages) }
     ensures upper_bound { result ≤ at + 66 * messages }
 {
     let mut place = at;
@@ -78,7 +78,7 @@ fn put_lines(
 }
 
 fn put_figures(space: &mut [u8], of: summary::Figures) -> usize
-    ensures space_after { pen result space.new ≡ write (pen 0 space.old) (figuresText of.tiles of.messages of.words of.steps) }
+    ensures space_after { pen result space.new ≡ write (pen 0 space.old) (figures_text of.tiles of.messages of.words of.steps) }
     ensures upper_bound { result ≤ 71 }
 {
     let a = put_field(space, 0, b"tiles ", of.tiles, b' ');
@@ -88,7 +88,7 @@ fn put_figures(space: &mut [u8], of: summary::Figures) -> usize
 }
 
 pub fn put_refused(space: &mut [u8], number: u32) -> usize
-    ensures space_after { pen result space.new ≡ write (pen 0 space.old) (refusedText number) }
+    ensures space_after { pen result space.new ≡ write (pen 0 space.old) (refused_text number) }
     ensures upper_bound { result ≤ 19 }
 {
     put_field(space, 0, b"refused ", number, b'\n')
@@ -97,7 +97,7 @@ pub fn put_refused(space: &mut [u8], number: u32) -> usize
 // The text of a recipe: how many bytes it has, each written where the space has room. A line has at most six numbers of ten digits, a
 // plan at most 7,168 messages.
 pub fn put_recipe(space: &mut [u8], encoded: &[u8], route: u32) -> usize
-    ensures space_after { pen result space.new ≡ write (pen 0 space.old) (planText (routeOf route) encoded.now) }
+    ensures space_after { pen result space.new ≡ write (pen 0 space.old) (plan_text (route_of route) encoded.now) }
     ensures upper_bound { result ≤ 473159 }
 {
     if encoded.len() > 512 {
@@ -119,7 +119,7 @@ pub fn put_recipe(space: &mut [u8], encoded: &[u8], route: u32) -> usize
 // The text at the front of a space that has room for every one.
 pub fn write_recipe(space: &mut [u8], encoded: &[u8], route: u32) -> usize
     requires { length space.old ≡ 473159 }
-    ensures space_after { take result space.new ≡ planText (routeOf route) encoded.now }
+    ensures space_after { take result space.new ≡ plan_text (route_of route) encoded.now }
     ensures upper_bound { result ≤ 473159 }
 {
     put_recipe(space, encoded, route)
@@ -134,7 +134,7 @@ pub struct Printed {
 
 // Hands over a recipe's text and nothing else: whether all of it was written. No contract says what the system writes, so this one says what it is given.
 fn hand_over(text: &[u8], encoded: &[u8], route: u32) -> bool
-    requires { text.now ≡ planText (routeOf route) encoded.now }
+    requires { text.now ≡ plan_text (route_of route) encoded.now }
 {
     io::write_all(STDOUT_FILENO, text)
 }
@@ -143,7 +143,7 @@ fn hand_over(text: &[u8], encoded: &[u8], route: u32) -> bool
 // route is 0 for direct passing, any other for indirect.
 pub fn print_by(space: &mut [u8], encoded: &[u8], route: u32) -> Printed
     requires { length space.old ≡ 473159 }
-    ensures { take result.length space.new ≡ planText (routeOf route) encoded.now }
+    ensures { take result.length space.new ≡ plan_text (route_of route) encoded.now }
 {
     let length = write_recipe(space, encoded, route);
     let written = hand_over(&space[..length], encoded, route);
@@ -156,7 +156,7 @@ pub fn print_by(space: &mut [u8], encoded: &[u8], route: u32) -> Printed
 // The same by direct passing, with which the plan printer stays.
 pub fn print_recipe(space: &mut [u8], encoded: &[u8]) -> Printed
     requires { length space.old ≡ 473159 }
-    ensures { take result.length space.new ≡ printerText encoded.now }
+    ensures { take result.length space.new ≡ printer_text encoded.now }
 {
     print_by(space, encoded, 0)
 }

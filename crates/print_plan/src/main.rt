@@ -1,13 +1,13 @@
 // The plan printer: a recipe on standard input, its plan by direct passing or its refusal on standard output, faults on standard error.
 ghost use Rattle.std.specs.Prelude.{◌≡◌, length, take};
-ghost use Rattle.plan_text.specs.PlanText.{printerText};
+ghost use Rattle.plan_text.specs.PlanText.{printer_text};
 
 use plan_text::Printed;
 
 // What the program hands over, as its own promise: with the other route's plan it is not proved.
 fn print(space: &mut [u8], encoded: &[u8]) -> Printed
     requires { length space.old ≡ 473159 }
-    ensures { take result.length space.new ≡ printerText encoded.now }
+    ensures { take result.length space.new ≡ printer_text encoded.now }
 {
     plan_text::print_recipe(space, encoded)
 }

@@ -7,19 +7,19 @@ use lib.ListN.{length, get_or}
 use lib.Dec.{ltb}
 use borrow.Author.Tests.{lt-ltb, le-ltb}
 use Rattle.base.specs.Tests.{◌or◌, pick}
-use Rattle.base.proofs.Tests.{or_left, or_right, or-false, pick_true, pick-false}
+use Rattle.base.proofs.Tests.{or_left, or_right, or_false, pick_true, pick_false}
 use Rattle.program_io.specs.Bytes.{word_in}
 
 module _ (l : List ℕ) (at : ℕ) where
-  pub far-word : 12 < at → 0 ≡ word_in l at
+  pub far_word : 12 < at → 0 ≡ word_in l at
   unfolding word_in
-  far-word h = sym (pick_true _ 0 _ (or_left _ (lt-ltb 12 at h)))
+  far_word h = sym (pick_true _ 0 _ (or_left _ (lt-ltb 12 at h)))
 
-  pub short-word : length l < 16 → 0 ≡ word_in l at
+  pub short_word : length l < 16 → 0 ≡ word_in l at
   unfolding word_in
-  short-word h = sym (pick_true _ 0 _ (or_right (ltb 12 at) (lt-ltb (length l) 16 h)))
+  short_word h = sym (pick_true _ 0 _ (or_right (ltb 12 at) (lt-ltb (length l) 16 h)))
 
-  pub word-is : (a b c d : ℕ) → at ≤ 12 → 16 ≤ length l → a ≡ get_or l at 0 → b ≡ get_or l (at + 1) 0 → c ≡ get_or l (at + 2) 0 → d ≡ get_or l (at + 3) 0
+  pub word_is : (a b c d : ℕ) → at ≤ 12 → 16 ≤ length l → a ≡ get_or l at 0 → b ≡ get_or l (at + 1) 0 → c ≡ get_or l (at + 2) 0 → d ≡ get_or l (at + 3) 0
       → a + 256 * b + 65536 * c + 16777216 * d ≡ word_in l at
   unfolding word_in
-  word-is a b c d h k ea eb ec ed = rw (pick-false {A = ℕ} _ 0 _ (or-false (le-ltb 12 at h) (le-ltb (length l) 16 k))) (omega arith)
+  word_is a b c d h k ea eb ec ed = rw (pick_false {A = ℕ} _ 0 _ (or_false (le-ltb 12 at h) (le-ltb (length l) 16 k))) (omega arith)

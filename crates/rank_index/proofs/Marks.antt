@@ -9,12 +9,12 @@ use native.Mathlib.Omega.{arith}
 use lib.ListN.{length, get_or}
 use borrow.Author.Tests.{eq-eqb, ne_eqb}
 use Rattle.base.specs.Tests.{keep}
-use Rattle.base.proofs.Select.{keep-none, keep-more, keep-few}
-use Rattle.rank_index.specs.Ranks.{markedAt, marked_cells}
+use Rattle.base.proofs.Select.{keep_none, keep_more, keep_few}
+use Rattle.rank_index.specs.Ranks.{marked_at, marked_cells}
 
 module _ (marks : List ℕ) where
   abbrev f : ℕ → Bool
-  f = markedAt marks
+  f = marked_at marks
 
   -- of the first c cells n are marked
   pub record Passed (c n : ℕ) : Type 0 where
@@ -25,25 +25,25 @@ module _ (marks : List ℕ) where
   abbrev pub Looked : ℕ → ℕ → ℕ → Type 0
   Looked c n n' = ((get_or marks c 0 ≡ 1) × (n' ≡ n + 1)) ⊎ ((get_or marks c 0 ≢ 1) × (n' ≡ n))
 
-  pub count-start : Passed 0 0
+  pub count_start : Passed 0 0
   unfolding keep
-  count-start = record { low = omega arith; is = refl }
+  count_start = record { low = omega arith; is = refl }
 
   module _ (c n : ℕ) (g : Passed c n) where
     pub few : n ≤ c
-    few = omega (arith, g.is, keep-few f c)
+    few = omega (arith, g.is, keep_few f c)
 
     pub count_next : (n' : ℕ) → c < length marks → Looked c n n' → Passed (c + 1) n'
     count_next n' l (inl (e, q)) =
         record {
           low = omega arith;
-          is = q ∙ omega (arith, g.is, keep-more f c (eq-eqb _ _ e)) ∙ ap (λ (i : ℕ). length (keep f i)) (sym (add-one c));
+          is = q ∙ omega (arith, g.is, keep_more f c (eq-eqb _ _ e)) ∙ ap (λ (i : ℕ). length (keep f i)) (sym (add-one c));
         }
     count_next n' l (inr (e, q)) =
         record {
           low = omega arith;
-          is = q ∙ g.is ∙ ap length (sym (keep-none f c (ne_eqb _ _ e))) ∙ ap (λ (i : ℕ). length (keep f i)) (sym (add-one c));
+          is = q ∙ g.is ∙ ap length (sym (keep_none f c (ne_eqb _ _ e))) ∙ ap (λ (i : ℕ). length (keep f i)) (sym (add-one c));
         }
 
-    pub count-done : length marks ≤ c → n ≡ length (marked_cells marks)
-    count-done k = let z : c ≡ length marks = omega (arith, g.low) in g.is ∙ ap (λ (i : ℕ). length (keep f i)) z
+    pub count_done : length marks ≤ c → n ≡ length (marked_cells marks)
+    count_done k = let z : c ≡ length marks = omega (arith, g.low) in g.is ∙ ap (λ (i : ℕ). length (keep f i)) z

@@ -6,18 +6,18 @@ use Rattle.base.specs.Tests.{keep}
 use Rattle.base.specs.Lists.{unpack}
 
 -- a mark says that its cell is kept
-abbrev pub markedAt : List ℕ → ℕ → Bool
-markedAt marks c = eqb (get_or marks c 0) 1
+abbrev pub marked_at : List ℕ → ℕ → Bool
+marked_at marks c = eqb (get_or marks c 0) 1
 
 -- the marked cells, how many of them come before a cell, and a memory of all cells that has their words, and zeros else
 abbrev pub marked_cells : List ℕ → List ℕ
-marked_cells marks = keep (markedAt marks) (length marks)
+marked_cells marks = keep (marked_at marks) (length marks)
 
 abbrev pub rank_at : List ℕ → ℕ → ℕ
-rank_at marks c = length (keep (markedAt marks) c)
+rank_at marks c = length (keep (marked_at marks) c)
 
-abbrev pub spreadOut : List ℕ → List ℕ → List ℕ
-spreadOut marks words = unpack (replicate (length marks) 0) (marked_cells marks) words
+abbrev pub spread_out : List ℕ → List ℕ → List ℕ
+spread_out marks words = unpack (replicate (length marks) 0) (marked_cells marks) words
 
 -- for each block of 64 cells how many are marked before it
 pub record Counted (marks counts : List ℕ) : Type 0 where

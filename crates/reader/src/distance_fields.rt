@@ -1,6 +1,6 @@
 // A distance's record: its components and its weight, of either kind, and what line 18 of document 01's table tests of them.
 ghost use Rattle.std.specs.Prelude.{◌≡◌, ℕ, ◌+◌, ◌*◌, ◌/◌, ◌%◌, ◌<◌, ◌≤◌, length};
-ghost use Rattle.nest.specs.Reader.{componentAt, weightAt, filled, narrowAt, needlesslyWide};
+ghost use Rattle.nest.specs.Reader.{component_at, weight_at, filled, narrow_at, needlessly_wide};
 
 use base::{half_at, index_wide};
 
@@ -9,7 +9,7 @@ use base::{half_at, index_wide};
 // Component j of the distance in record r.
 fn component_at(encoded: &[u8], r: usize, j: usize) -> usize
     requires { (j < 4) × (16 * r + 16 ≤ length encoded.now) }
-    ensures { result ≡ componentAt encoded.now r j }
+    ensures { result ≡ component_at encoded.now r j }
 {
     let at = 16 * r;
     if encoded[at] == 4 {
@@ -21,7 +21,7 @@ fn component_at(encoded: &[u8], r: usize, j: usize) -> usize
 // The components, four a distance, the first in record r.
 pub fn components_of(encoded: &[u8], r: usize, e: usize) -> [usize; 32]
     requires { (r ≤ 8) × ((e ≤ 8) × (16 * (r + e) ≤ length encoded.now)) }
-    ensures { result ≡ filled 32 (4 * e) (λ (i : ℕ). componentAt encoded.now (r + i / 4) (i % 4)) }
+    ensures { result ≡ filled 32 (4 * e) (λ (i : ℕ). component_at encoded.now (r + i / 4) (i % 4)) }
 {
     let mut values = [0usize; 32];
     for i in 0..4 * e {
@@ -33,7 +33,7 @@ pub fn components_of(encoded: &[u8], r: usize, e: usize) -> [usize; 32]
 // The weight of the distance in record r.
 fn weight_at(encoded: &[u8], r: usize) -> usize
     requires { 16 * r + 16 ≤ length encoded.now }
-    ensures { result ≡ weightAt encoded.now r }
+    ensures { result ≡ weight_at encoded.now r }
 {
     let at = 16 * r;
     if encoded[at] == 4 {
@@ -45,7 +45,7 @@ fn weight_at(encoded: &[u8], r: usize) -> usize
 // The weights, one a distance, the first in record r.
 pub fn weights_of(encoded: &[u8], r: usize, e: usize) -> [u64; 8]
     requires { (r ≤ 8) × ((e ≤ 8) × (16 * (r + e) ≤ length encoded.now)) }
-    ensures { result ≡ filled 8 e (λ (i : ℕ). weightAt encoded.now (r + i)) }
+    ensures { result ≡ filled 8 e (λ (i : ℕ). weight_at encoded.now (r + i)) }
 {
     let mut values = [0u64; 8];
     for i in 0..e {
@@ -59,7 +59,7 @@ pub fn weights_of(encoded: &[u8], r: usize, e: usize) -> [u64; 8]
 // Record r is a distance of kind 4, and each of its components fits a byte.
 fn narrow_at(encoded: &[u8], r: usize) -> bool
     requires { 16 * r + 16 ≤ length encoded.now }
-    ensures { result ≡ narrowAt encoded.now r }
+    ensures { result ≡ narrow_at encoded.now r }
 {
     if encoded[16 * r] != 4 {
         return false;
@@ -73,7 +73,7 @@ fn narrow_at(encoded: &[u8], r: usize) -> bool
 }
 
 pub fn needlessly_wide(encoded: &[u8]) -> bool
-    ensures { result ≡ needlesslyWide encoded.now }
+    ensures { result ≡ needlessly_wide encoded.now }
 {
     let records = encoded.len() / 16;
     for r in 0..records {

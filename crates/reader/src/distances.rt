@@ -2,13 +2,13 @@
 ghost use Rattle.std.specs.Prelude.{◌≡◌, ℕ, ◌<◌, ◌≤◌, eqb};
 ghost use Rattle.base.specs.Tests.{every, some};
 ghost use Rattle.nest.specs.Nest.{component};
-ghost use Rattle.nest.specs.Reader.{noLength, same, beyond, faulty, badDistance, reached, badTile};
+ghost use Rattle.nest.specs.Reader.{no_length, same, beyond, faulty, bad_distance, reached, bad_tile};
 
 use nest::{MOST_LENGTH, Nest};
 
 // No length of a box or of a tile.
 pub fn no_length(v: usize) -> bool
-    ensures { result ≡ noLength v }
+    ensures { result ≡ no_length v }
 {
     if v == 0 {
         return true;
@@ -86,7 +86,7 @@ fn faulty(nest: Nest, e: usize) -> bool
 
 pub fn bad_distance(nest: Nest) -> bool
     requires { nest.distances ≤ 8 }
-    ensures { result ≡ badDistance nest }
+    ensures { result ≡ bad_distance nest }
 {
     let n = nest.distances;
     for e in 0..n {
@@ -116,7 +116,7 @@ fn reached(nest: Nest, j: usize) -> bool
 
 pub fn bad_tile(nest: Nest) -> bool
     requires { (nest.dimensions ≤ 4) × (nest.distances ≤ 8) }
-    ensures { result ≡ badTile nest }
+    ensures { result ≡ bad_tile nest }
 {
     let n = nest.dimensions;
     for j in 0..n {

@@ -3,8 +3,8 @@
 ghost use Rattle.std.specs.Prelude.{◌≡◌, false, ℕ, ◌+◌, ◌*◌, ◌-◌, ◌/◌, ◌<◌, ◌≤◌, length, get_or, ltb, leb};
 ghost use Rattle.base.specs.Tests.{◌and◌, every, keep};
 ghost use Rattle.base.specs.Bytes.{half};
-ghost use Rattle.nest.specs.Reader.{ofKind, distancesOf, slopeAt, offsetAt, filled};
-ghost use Rattle.nest.specs.Reader.{ragged, blank, boundFits, fitsAt, wellFormed};
+ghost use Rattle.nest.specs.Reader.{of_kind, distances_of, slope_at, offset_at, filled};
+ghost use Rattle.nest.specs.Reader.{ragged, blank, bound_fits, fits_at, well_formed};
 
 use base::half_at;
 
@@ -22,7 +22,7 @@ fn byte_at(encoded: &[u8], at: usize) -> usize
 // The slope of the bound in record r, plus 1.
 fn slope_at(encoded: &[u8], r: usize) -> usize
     requires { 16 * r + 16 ≤ length encoded.now }
-    ensures { result ≡ slopeAt encoded.now r }
+    ensures { result ≡ slope_at encoded.now r }
 {
     (byte_at(encoded, 16 * r + 4) + 1) % 256
 }
@@ -30,14 +30,14 @@ fn slope_at(encoded: &[u8], r: usize) -> usize
 // Its offset, plus 32,768.
 fn offset_at(encoded: &[u8], r: usize) -> usize
     requires { 16 * r + 16 ≤ length encoded.now }
-    ensures { result ≡ offsetAt encoded.now r }
+    ensures { result ≡ offset_at encoded.now r }
 {
     (half_at(encoded, 16 * r + 6) + 32768) % 65536
 }
 
 // How many records have the kind.
 pub fn count_kind(encoded: &[u8], wanted: u8) -> usize
-    ensures { result ≡ ofKind encoded.now wanted }
+    ensures { result ≡ of_kind encoded.now wanted }
 {
     let records = encoded.len() / 16;
     let mut n: usize = 0;
@@ -51,7 +51,7 @@ pub fn count_kind(encoded: &[u8], wanted: u8) -> usize
 
 // How many are distances, of either kind.
 pub fn count_distances(encoded: &[u8]) -> usize
-    ensures { result ≡ distancesOf encoded.now }
+    ensures { result ≡ distances_of encoded.now }
 {
     let narrow = count_kind(encoded, 2);
     let wide = count_kind(encoded, 4);
@@ -113,7 +113,7 @@ fn close_fits(encoded: &[u8], at: usize) -> bool
 // A bound: its side, its dimensions and its slope, and the bytes that it doesn't name.
 fn bound_fits(encoded: &[u8], n: usize, r: usize) -> bool
     requires { 16 * r + 16 ≤ length encoded.now }
-    ensures { result ≡ boundFits encoded.now n r }
+    ensures { result ≡ bound_fits encoded.now n r }
 {
     let at = 16 * r;
     if byte_at(encoded, at + 1) >= 2 {
@@ -160,7 +160,7 @@ fn fields_fit_at(encoded: &[u8], r: usize, from: usize, to: usize, end: usize) -
 // A bound, one of the records behind the n dimensions.
 fn bound_fits_at(encoded: &[u8], n: usize, r: usize, to: usize) -> bool
     requires { 16 * r + 16 ≤ length encoded.now }
-    ensures { result ≡ ((leb n r and ltb r to) and boundFits encoded.now n r) }
+    ensures { result ≡ ((leb n r and ltb r to) and bound_fits encoded.now n r) }
 {
     if stands(n, to, r) {
         return bound_fits(encoded, n, r);
@@ -184,7 +184,7 @@ fn close_fits_at(encoded: &[u8], r: usize, from: usize) -> bool
 // is a stray record.
 fn fits_at(encoded: &[u8], n: usize, b: usize, e: usize, r: usize) -> bool
     requires { (n + b + e < 65536) × (16 * r + 16 ≤ length encoded.now) }
-    ensures { result ≡ fitsAt encoded.now n b e r }
+    ensures { result ≡ fits_at encoded.now n b e r }
 {
     let first = n + b;
     let close = first + e;
@@ -201,7 +201,7 @@ fn fits_at(encoded: &[u8], n: usize, b: usize, e: usize, r: usize) -> bool
 
 fn all_fit(encoded: &[u8], n: usize, b: usize, e: usize) -> bool
     requires { n + b + e < 65536 }
-    ensures { result ≡ every (fitsAt encoded.now n b e) (length encoded.now / 16) }
+    ensures { result ≡ every (fits_at encoded.now n b e) (length encoded.now / 16) }
 {
     let records = encoded.len() / 16;
     for r in 0..records {
@@ -214,7 +214,7 @@ fn all_fit(encoded: &[u8], n: usize, b: usize, e: usize) -> bool
 
 // Counts and order of the kinds, and each record's checks.
 pub fn well_formed(encoded: &[u8], n: usize, b: usize, e: usize) -> bool
-    ensures { result ≡ wellFormed encoded.now n b e }
+    ensures { result ≡ well_formed encoded.now n b e }
 {
     if n < 2 {
         return false;
@@ -279,7 +279,7 @@ pub fn bytes_of(encoded: &[u8], n: usize, b: usize, field: usize) -> [u8; 4]
 
 pub fn slopes_of(encoded: &[u8], n: usize, b: usize) -> [u8; 4]
     requires { ((n ≤ 4) × (b ≤ 4)) × (16 * (n + b) ≤ length encoded.now) }
-    ensures { result ≡ filled 4 b (λ (k : ℕ). slopeAt encoded.now (n + k)) }
+    ensures { result ≡ filled 4 b (λ (k : ℕ). slope_at encoded.now (n + k)) }
 {
     let mut values = [0u8; 4];
     for k in 0..b {
@@ -290,7 +290,7 @@ pub fn slopes_of(encoded: &[u8], n: usize, b: usize) -> [u8; 4]
 
 pub fn offsets_of(encoded: &[u8], n: usize, b: usize) -> [u16; 4]
     requires { ((n ≤ 4) × (b ≤ 4)) × (16 * (n + b) ≤ length encoded.now) }
-    ensures { result ≡ filled 4 b (λ (k : ℕ). offsetAt encoded.now (n + k)) }
+    ensures { result ≡ filled 4 b (λ (k : ℕ). offset_at encoded.now (n + k)) }
 {
     let mut values = [0u16; 4];
     for k in 0..b {

@@ -4,11 +4,11 @@ ghost use Rattle.std.specs.Prelude.{◌≡◌, [], ℕ, ◌+◌, ◌*◌, ◌<�
 ghost use Rattle.base.specs.Tests.{some, keep};
 ghost use Rattle.base.specs.Lists.{Bytes};
 ghost use Rattle.base.specs.Numbers.{first_of};
-ghost use Rattle.nest.specs.Nest.{processorCount, cells, boxTiles};
-ghost use Rattle.nest.specs.Shape.{inShape, tiles};
+ghost use Rattle.nest.specs.Nest.{processor_count, cells, box_tiles};
+ghost use Rattle.nest.specs.Shape.{in_shape, tiles};
 ghost use Rattle.nest.specs.Spans.{Framed, Tiled, InRange};
-ghost use Rattle.nest.specs.Reader.{nestBy, badLength, badDistance, badTile, badSpread, lastSpread};
-ghost use Rattle.nest.specs.Reader.{badProcessors, tooManyTiles, nestLines, reading_of};
+ghost use Rattle.nest.specs.Reader.{nest_by, bad_length, bad_distance, bad_tile, bad_spread, last_spread};
+ghost use Rattle.nest.specs.Reader.{bad_processors, too_many_tiles, nest_lines, reading_of};
 
 use crate::distance_fields::{components_of, needlessly_wide, weights_of};
 use crate::distances::{bad_distance, bad_tile, no_length};
@@ -29,7 +29,7 @@ pub mod distances; // distances.rt: lines 5 and 6: distances, and tile lengths a
 
 // What is read where nothing is accepted.
 pub fn no_nest() -> Nest
-    ensures { result ≡ nestBy [] 0 0 0 }
+    ensures { result ≡ nest_by [] 0 0 0 }
 {
     Nest {
         dimensions: 0,
@@ -56,7 +56,7 @@ pub fn no_nest() -> Nest
 // The nest of n dimensions, b bounds and e distances.
 fn nest_by(encoded: &[u8], n: usize, b: usize, e: usize) -> Nest
     requires { ((n ≤ 4) × (b ≤ 4)) × ((e ≤ 8) × (16 * (n + b + e + 1) ≤ length encoded.now)) }
-    ensures { result ≡ nestBy encoded.now n b e }
+    ensures { result ≡ nest_by encoded.now n b e }
 {
     let first = n + b;
     let close = 16 * (first + e);
@@ -84,7 +84,7 @@ fn nest_by(encoded: &[u8], n: usize, b: usize, e: usize) -> Nest
 
 fn bad_length(nest: Nest) -> bool
     requires { nest.dimensions ≤ 4 }
-    ensures { result ≡ badLength nest }
+    ensures { result ≡ bad_length nest }
 {
     let n = nest.dimensions;
     for j in 0..n {
@@ -99,7 +99,7 @@ fn bad_length(nest: Nest) -> bool
 
 fn bad_spread(nest: Nest) -> bool
     requires { (1 ≤ nest.dimensions) × (nest.dimensions ≤ 4) }
-    ensures { result ≡ badSpread nest }
+    ensures { result ≡ bad_spread nest }
 {
     if nest.counts[0] == 0 {
         return true;
@@ -117,7 +117,7 @@ fn bad_spread(nest: Nest) -> bool
 
 fn last_spread(nest: Nest) -> bool
     requires { (1 ≤ nest.dimensions) × (nest.dimensions ≤ 4) }
-    ensures { result ≡ lastSpread nest }
+    ensures { result ≡ last_spread nest }
 {
     let last = nest.dimensions - 1;
     nest.counts[last] > 0
@@ -126,8 +126,8 @@ fn last_spread(nest: Nest) -> bool
 // ---- line 7
 
 fn bad_processors(nest: Nest) -> bool
-    requires { (nest.spread ≤ 4) × ((j : ℕ) → processorCount nest j < 65536) }
-    ensures { result ≡ badProcessors nest }
+    requires { (nest.spread ≤ 4) × ((j : ℕ) → processor_count nest j < 65536) }
+    ensures { result ≡ bad_processors nest }
 {
     let counts = nest.counts;
     product_of(counts, nest.spread) > MOST_PROCESSORS
@@ -137,7 +137,7 @@ fn bad_processors(nest: Nest) -> bool
 
 fn has_cell(nest: Nest) -> bool
     requires { Framed nest }
-    ensures { result ≡ some (inShape nest) (cells nest) }
+    ensures { result ≡ some (in_shape nest) (cells nest) }
 {
     if nest.bounds == 0 {
         return true;
@@ -158,7 +158,7 @@ fn has_cell(nest: Nest) -> bool
 // The tiles of the box.
 fn box_tiles(nest: Nest) -> usize
     requires { Framed nest × Tiled nest }
-    ensures { result ≡ boxTiles nest }
+    ensures { result ≡ box_tiles nest }
 {
     let n = nest.dimensions;
     let mut total: usize = 1;
@@ -184,7 +184,7 @@ fn marked(marks: &[u8], n: usize) -> usize
 
 // How many tiles hold a cell of the shape: each row marks its own.
 fn tile_total(nest: Nest, boxed: usize) -> usize
-    requires { (Framed nest × Tiled nest) × ((boxed ≡ boxTiles nest) × (boxed ≤ 16384)) }
+    requires { (Framed nest × Tiled nest) × ((boxed ≡ box_tiles nest) × (boxed ≤ 16384)) }
     ensures { result ≡ tiles nest }
 {
     let mut marks = [0u8; MOST_CELLS];
@@ -198,7 +198,7 @@ fn tile_total(nest: Nest, boxed: usize) -> usize
 // Counts only where the box has too many; without bounds all its tiles hold a cell.
 fn too_many_tiles(nest: Nest) -> bool
     requires { (Framed nest × Tiled nest) × (cells nest ≤ 16384) }
-    ensures { result ≡ tooManyTiles nest }
+    ensures { result ≡ too_many_tiles nest }
 {
     let boxed = box_tiles(nest);
     if boxed <= MOST_TILES {
@@ -215,7 +215,7 @@ fn too_many_tiles(nest: Nest) -> bool
 // The first of the lines behind 2 that refuses the nest, or 0; `needless`: its bytes are needlessly wide, which is line 18.
 fn refused(nest: Nest, needless: bool) -> u32
     requires { InRange nest }
-    ensures { result ≡ first_of (nestLines needless nest) }
+    ensures { result ≡ first_of (nest_lines needless nest) }
 {
     if bad_length(nest) {
         return refusals::LENGTH;
@@ -252,7 +252,7 @@ fn refused(nest: Nest, needless: bool) -> u32
 }
 
 fn refusal(number: u32) -> Reading
-    ensures { (result.number ≡ number) × (result.nest ≡ nestBy [] 0 0 0) }
+    ensures { (result.number ≡ number) × (result.nest ≡ nest_by [] 0 0 0) }
 {
     Reading {
         number: number,

@@ -10,11 +10,11 @@ use borrow.Author.Tests.{lt-ltb, ltb-false}
 use Rattle.base.specs.Tests.{◌and◌}
 use Rattle.base.specs.Lists.{Bytes}
 use Rattle.base.specs.Numbers.{Line, line, first_of}
-use Rattle.base.proofs.Tests.{and-true, and_left, and-false, and_no}
-use Rattle.base.proofs.Numbers.{Numbered, first-nil, first-true, first-false, none_first, first_some, first-behind, none-front, none-behind}
+use Rattle.base.proofs.Tests.{and_true, and_left, and_false, and_no}
+use Rattle.base.proofs.Numbers.{Numbered, first_nil, first_true, first_false, none_first, first_some, first_behind, none_front, none_behind}
 use Rattle.nest.specs.declared.Nest.{Nest}
 use Rattle.nest.specs.declared.Reading.{Reading}
-use Rattle.nest.specs.Reader.{readLines, nestOf, reading_of}
+use Rattle.nest.specs.Reader.{read_lines, nest_of, reading_of}
 use Rattle.nest.specs.Accepted.{Accepted}
 use Rattle.nest.proofs.Numbered.{numbered}
 use Rattle.nest.proofs.Answers.{number_read, nest-read}
@@ -24,66 +24,66 @@ use Rattle.plan.specs.declared.Route.TheVariants.{Direct, Indirect}
 use Rattle.plan.specs.Shaped.{plan_of}
 use Rattle.layout.specs.declared.Sizes.{Sizes}
 use Rattle.layout.specs.Sizes.{Sized}
-use Rattle.layout.specs.RouteWords.{routeOf}
+use Rattle.layout.specs.RouteWords.{route_of}
 use Rattle.tables.specs.Tables.{Tabled}
-use Rattle.recipe.specs.Routes.{indirect, routeLines, linesFor, ReadFor}
+use Rattle.recipe.specs.Routes.{indirect, route_lines, lines_for, ReadFor}
 use Rattle.recipe.specs.Given.{Opened, WithSizes, Opens}
 use Rattle.recipe.specs.declared.Recipe.{Recipe}
 
-both-numbered : (a b : List Line) → Numbered a → Numbered b → Numbered (a ++ b)
-both-numbered [] b n m = m
-both-numbered (l ∷ a) b n m = (n.0, both-numbered a b n.1 m)
+both_numbered : (a b : List Line) → Numbered a → Numbered b → Numbered (a ++ b)
+both_numbered [] b n m = m
+both_numbered (l ∷ a) b n m = (n.0, both_numbered a b n.1 m)
 
 module _ (r : Route) (bytes : List ℕ) where
   -- none of them has the number 0
-  pub numbered-for : Numbered (linesFor r bytes)
-  unfolding linesFor
-  numbered-for = both-numbered (readLines bytes) (routeLines r (nestOf bytes)) (numbered bytes) (λ q. omega arith, tt)
+  pub numbered_for : Numbered (lines_for r bytes)
+  unfolding lines_for
+  numbered_for = both_numbered (read_lines bytes) (route_lines r (nest_of bytes)) (numbered bytes) (λ q. omega arith, tt)
 
   -- where none holds, none of the reader's does
-  pub reads-for : first_of (linesFor r bytes) ≡ 0 → first_of (readLines bytes) ≡ 0
-  unfolding linesFor
-  reads-for z = none-front (readLines bytes) (routeLines r (nestOf bytes)) z
+  pub reads_for : first_of (lines_for r bytes) ≡ 0 → first_of (read_lines bytes) ≡ 0
+  unfolding lines_for
+  reads_for z = none_front (read_lines bytes) (route_lines r (nest_of bytes)) z
 
   -- and 21 does not
-  pub open-for : first_of (linesFor r bytes) ≡ 0 → (indirect r and ltb 0 (nestOf bytes).bounds) ≡ false
-  unfolding linesFor
-  open-for z =
-      (none_first 21 (indirect r and ltb 0 (nestOf bytes).bounds) [] (λ q. omega arith)
-      (none-behind (readLines bytes) (routeLines r (nestOf bytes)) (numbered bytes) z)).0
+  pub open_for : first_of (lines_for r bytes) ≡ 0 → (indirect r and ltb 0 (nest_of bytes).bounds) ≡ false
+  unfolding lines_for
+  open_for z =
+      (none_first 21 (indirect r and ltb 0 (nest_of bytes).bounds) [] (λ q. omega arith)
+      (none_behind (read_lines bytes) (route_lines r (nest_of bytes)) (numbered bytes) z)).0
 
-  refused-for : first_of (readLines bytes) ≢ 0 → first_of (linesFor r bytes) ≡ first_of (readLines bytes)
-  unfolding linesFor
-  refused-for h = first_some (readLines bytes) (routeLines r (nestOf bytes)) h
+  refused_for : first_of (read_lines bytes) ≢ 0 → first_of (lines_for r bytes) ≡ first_of (read_lines bytes)
+  unfolding lines_for
+  refused_for h = first_some (read_lines bytes) (route_lines r (nest_of bytes)) h
 
-  pub passed-for : first_of (readLines bytes) ≡ 0 → (indirect r and ltb 0 (nestOf bytes).bounds) ≡ false → first_of (linesFor r bytes) ≡ 0
-  unfolding linesFor
-  passed-for z h =
-      first-behind (readLines bytes) (routeLines r (nestOf bytes)) (numbered bytes) z
-      ∙ (first-false 21 (indirect r and ltb 0 (nestOf bytes).bounds) [] h ∙ first-nil)
+  pub passed_for : first_of (read_lines bytes) ≡ 0 → (indirect r and ltb 0 (nest_of bytes).bounds) ≡ false → first_of (lines_for r bytes) ≡ 0
+  unfolding lines_for
+  passed_for z h =
+      first_behind (read_lines bytes) (route_lines r (nest_of bytes)) (numbered bytes) z
+      ∙ (first_false 21 (indirect r and ltb 0 (nest_of bytes).bounds) [] h ∙ first_nil)
 
-  barred-for : first_of (readLines bytes) ≡ 0 → (indirect r and ltb 0 (nestOf bytes).bounds) ≡ true → first_of (linesFor r bytes) ≡ 21
-  unfolding linesFor
-  barred-for z h =
-      first-behind (readLines bytes) (routeLines r (nestOf bytes)) (numbered bytes) z
-      ∙ first-true 21 (indirect r and ltb 0 (nestOf bytes).bounds) [] h
+  barred_for : first_of (read_lines bytes) ≡ 0 → (indirect r and ltb 0 (nest_of bytes).bounds) ≡ true → first_of (lines_for r bytes) ≡ 21
+  unfolding lines_for
+  barred_for z h =
+      first_behind (read_lines bytes) (route_lines r (nest_of bytes)) (numbered bytes) z
+      ∙ first_true 21 (indirect r and ltb 0 (nest_of bytes).bounds) [] h
 
 -- a recipe without bounds is open to either route, every recipe to the direct one
-pub box-open : (r : Route) (x : Nest) → x.bounds ≡ 0 → (indirect r and ltb 0 x.bounds) ≡ false
-box-open r x e = and_no (indirect r) (ltb 0 x.bounds) (rw e refl)
+pub box_open : (r : Route) (x : Nest) → x.bounds ≡ 0 → (indirect r and ltb 0 x.bounds) ≡ false
+box_open r x e = and_no (indirect r) (ltb 0 x.bounds) (rw e refl)
 
-pub direct-open : (x : Nest) → (indirect Direct and ltb 0 x.bounds) ≡ false
+pub direct_open : (x : Nest) → (indirect Direct and ltb 0 x.bounds) ≡ false
 unfolding indirect
-direct-open x = and-false false (ltb 0 x.bounds) refl
+direct_open x = and_false false (ltb 0 x.bounds) refl
 
-pub open-direct : (bytes : List ℕ) → first_of (readLines bytes) ≡ 0 → first_of (linesFor (routeOf 0) bytes) ≡ 0
-unfolding routeOf
-open-direct bytes z = passed-for Direct bytes z (direct-open (nestOf bytes))
+pub open_direct : (bytes : List ℕ) → first_of (read_lines bytes) ≡ 0 → first_of (lines_for (route_of 0) bytes) ≡ 0
+unfolding route_of
+open_direct bytes z = passed_for Direct bytes z (direct_open (nest_of bytes))
 
 -- so where indirect passing was wanted and no line holds, the recipe has no bounds
-pub indirect-box : (bytes : List ℕ) → first_of (linesFor Indirect bytes) ≡ 0 → (nestOf bytes).bounds ≡ 0
+pub indirect_box : (bytes : List ℕ) → first_of (lines_for Indirect bytes) ≡ 0 → (nest_of bytes).bounds ≡ 0
 unfolding indirect ◌and◌
-indirect-box bytes z = go (nestOf bytes).bounds (open-for Indirect bytes z)
+indirect_box bytes z = go (nest_of bytes).bounds (open_for Indirect bytes z)
   where
     go : (n : ℕ) → (indirect Indirect and ltb 0 n) ≡ false → n ≡ 0
     go n h = let l = ltb-false 0 n h in omega (arith, l)
@@ -95,34 +95,34 @@ module _ (bytes : List ℕ) (x : Reading) (is : x ≡ reading_of bytes) (bs : x.
   reader's r h =
       let n = number_read bytes x is in
       record {
-        number = n ∙ sym (refused-for r bytes (λ q. h (n ∙ q)));
+        number = n ∙ sym (refused_for r bytes (λ q. h (n ∙ q)));
         nest = λ z. absurd (h z);
-        bytes-are = bs;
+        bytes_are = bs;
       }
 
   module _ (z : x.number ≡ 0) where
-    none : first_of (readLines bytes) ≡ 0
+    none : first_of (read_lines bytes) ≡ 0
     none = sym (number_read bytes x is) ∙ z
 
-    passes : (r : Route) → (indirect r and ltb 0 (nestOf bytes).bounds) ≡ false → ReadFor r bytes x
+    passes : (r : Route) → (indirect r and ltb 0 (nest_of bytes).bounds) ≡ false → ReadFor r bytes x
     passes r h =
-        record { number = z ∙ sym (passed-for r bytes none h); nest = nest-read bytes x is; bytes-are = bs }
+        record { number = z ∙ sym (passed_for r bytes none h); nest = nest-read bytes x is; bytes_are = bs }
 
     pub without : (r : Route) → x.nest.bounds ≡ 0 → ReadFor r bytes x
-    without r e = passes r (box-open r (nestOf bytes) (ap (λ (y : Nest). y.bounds) (sym (nest-read bytes x is z)) ∙ e))
+    without r e = passes r (box_open r (nest_of bytes) (ap (λ (y : Nest). y.bounds) (sym (nest-read bytes x is z)) ∙ e))
 
     pub straight : (r : Route) → Direct ≡ r → ReadFor r bytes x
-    straight r e = rw (sym e) (passes Direct (direct-open (nestOf bytes)))
+    straight r e = rw (sym e) (passes Direct (direct_open (nest_of bytes)))
 
     pub barred : (r : Route) → Indirect ≡ r → x.nest.bounds ≢ 0 → ReadFor r bytes (record { number = 21; nest = x.nest })
     unfolding indirect
     barred r e h =
         record {
           number =
-              sym (barred-for r bytes none
-              (rw (sym e) (and-true refl (some (nestOf bytes).bounds (λ q. h (ap (λ (y : Nest). y.bounds) (nest-read bytes x is z) ∙ q))))));
+              sym (barred_for r bytes none
+              (rw (sym e) (and_true refl (some (nest_of bytes).bounds (λ q. h (ap (λ (y : Nest). y.bounds) (nest-read bytes x is z) ∙ q))))));
           nest = λ q. absurd (omega (arith, q));
-          bytes-are = λ q. absurd (omega (arith, q));
+          bytes_are = λ q. absurd (omega (arith, q));
         }
       where
         some : (n : ℕ) → n ≢ 0 → ltb 0 n ≡ true
@@ -131,22 +131,22 @@ module _ (bytes : List ℕ) (x : Reading) (is : x ≡ reading_of bytes) (bs : x.
 -- ---- what a caller has of it
 
 module _ (r : Route) (bytes : List ℕ) (x : Reading) (is : ReadFor r bytes x) where
-  pub accepted-for : x.number ≡ 0 → Accepted x.nest
-  accepted-for z = rw (is.nest z) (accepted bytes (is.bytes-are z) (reads-for r bytes (sym is.number ∙ z)))
+  pub accepted_for : x.number ≡ 0 → Accepted x.nest
+  accepted_for z = rw (is.nest z) (accepted bytes (is.bytes_are z) (reads_for r bytes (sym is.number ∙ z)))
 
   -- on the indirect route it has no bounds
-  pub routed-for : x.number ≡ 0 → x.nest.bounds ≢ 0 → r ≡ Direct
-  routed-for z h = go r is
+  pub routed_for : x.number ≡ 0 → x.nest.bounds ≢ 0 → r ≡ Direct
+  routed_for z h = go r is
     where
       go : (q : Route) → ReadFor q bytes x → q ≡ Direct
       go Direct i = refl
-      go Indirect i = absurd (h (ap (λ (y : Nest). y.bounds) (i.nest z) ∙ indirect-box bytes (sym i.number ∙ z)))
+      go Indirect i = absurd (h (ap (λ (y : Nest). y.bounds) (i.nest z) ∙ indirect_box bytes (sym i.number ∙ z)))
 
 -- ---- a recipe with its counts and its table
 
-pub closed-sizes : (bytes : List ℕ) (word : ℕ) (x : Reading) → ReadFor (routeOf word) bytes x → x.number ≢ 0 → (r : Recipe) → r.number ≡ x.number
+pub closed_sizes : (bytes : List ℕ) (word : ℕ) (x : Reading) → ReadFor (route_of word) bytes x → x.number ≢ 0 → (r : Recipe) → r.number ≡ x.number
     → WithSizes bytes word r
-closed-sizes bytes word x is h r e =
+closed_sizes bytes word x is h r e =
     record {
       number = e ∙ is.number;
       nest = λ z. absurd (h (sym e ∙ z));
@@ -156,9 +156,9 @@ closed-sizes bytes word x is h r e =
       routed = λ z. absurd (h (sym e ∙ z));
     }
 
-pub read-sizes : (bytes : List ℕ) (word : ℕ) (x : Reading) → ReadFor (routeOf word) bytes x → x.number ≡ 0 → (z : Sizes) → Sized x.nest z
-    → z.route ≡ routeOf word → WithSizes bytes word (record { number = 0; nest = x.nest; sizes = z })
-read-sizes bytes word x is h z g e =
+pub read_sizes : (bytes : List ℕ) (word : ℕ) (x : Reading) → ReadFor (route_of word) bytes x → x.number ≡ 0 → (z : Sizes) → Sized x.nest z
+    → z.route ≡ route_of word → WithSizes bytes word (record { number = 0; nest = x.nest; sizes = z })
+read_sizes bytes word x is h z g e =
     let none = sym is.number ∙ h in
     record {
       number = sym none;
@@ -166,27 +166,27 @@ read-sizes bytes word x is h z g e =
       opened =
           λ _. record {
             none = none;
-            is = ap (λ (r : Route). plan_of r x.nest) e ∙ ap (plan_of (routeOf word)) (is.nest h);
+            is = ap (λ (r : Route). plan_of r x.nest) e ∙ ap (plan_of (route_of word)) (is.nest h);
           };
       route = λ _. e;
       sized = λ _. g;
-      routed = λ _ k. e ∙ routed-for (routeOf word) bytes x is h k;
+      routed = λ _ k. e ∙ routed_for (route_of word) bytes x is h k;
     }
 
-pub opens-with : (bytes : List ℕ) (word : ℕ) (r : Recipe) → WithSizes bytes word r → (lens : List ℕ) → (r.number ≡ 0 → Tabled r.nest r.sizes lens)
+pub opens_with : (bytes : List ℕ) (word : ℕ) (r : Recipe) → WithSizes bytes word r → (lens : List ℕ) → (r.number ≡ 0 → Tabled r.nest r.sizes lens)
     → Opens bytes word r lens
-opens-with bytes word r w lens t =
+opens_with bytes word r w lens t =
     record { number = w.number; nest = w.nest; opened = w.opened; route = w.route; planned = λ z. (w.sized z, t z) }
 
 -- a recipe that reads is open to the direct one
-pub direct-opened : (bytes : List ℕ) → first_of (readLines bytes) ≡ 0 → Opened bytes 0 (plan_of Direct (nestOf bytes))
-unfolding routeOf
-direct-opened bytes z = record { none = open-direct bytes z; is = refl }
+pub direct_opened : (bytes : List ℕ) → first_of (read_lines bytes) ≡ 0 → Opened bytes 0 (plan_of Direct (nest_of bytes))
+unfolding route_of
+direct_opened bytes z = record { none = open_direct bytes z; is = refl }
 
 -- a recipe opened for the direct route is refused by the reader's lines alone
-pub direct-lines : (bytes : List ℕ) → first_of (linesFor (routeOf 0) bytes) ≡ first_of (readLines bytes)
-direct-lines bytes = go (first_of (readLines bytes)) refl
+pub direct_lines : (bytes : List ℕ) → first_of (lines_for (route_of 0) bytes) ≡ first_of (read_lines bytes)
+direct_lines bytes = go (first_of (read_lines bytes)) refl
   where
-    go : (n : ℕ) → first_of (readLines bytes) ≡ n → first_of (linesFor (routeOf 0) bytes) ≡ first_of (readLines bytes)
-    go zero e = open-direct bytes e ∙ sym e
-    go (suc n) e = refused-for (routeOf 0) bytes (λ z. omega (arith, e, z))
+    go : (n : ℕ) → first_of (read_lines bytes) ≡ n → first_of (lines_for (route_of 0) bytes) ≡ first_of (read_lines bytes)
+    go zero e = open_direct bytes e ∙ sym e
+    go (suc n) e = refused_for (route_of 0) bytes (λ z. omega (arith, e, z))

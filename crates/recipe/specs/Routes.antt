@@ -7,7 +7,7 @@ use Rattle.base.specs.Lists.{Bytes}
 use Rattle.base.specs.Numbers.{Line, line, first_of}
 use Rattle.nest.specs.declared.Nest.{Nest}
 use Rattle.nest.specs.declared.Reading.{Reading}
-use Rattle.nest.specs.Reader.{readLines, nestOf}
+use Rattle.nest.specs.Reader.{read_lines, nest_of}
 use Rattle.plan.specs.declared.Route.{Route}
 use Rattle.plan.specs.declared.Route.TheVariants.{Direct, Indirect}
 
@@ -15,14 +15,14 @@ unfoldable pub indirect : Route → Bool
 indirect Direct = false
 indirect Indirect = true
 
-abbrev pub routeLines : Route → Nest → List Line
-routeLines r x = line 21 (indirect r and ltb 0 x.bounds) ∷ []
+abbrev pub route_lines : Route → Nest → List Line
+route_lines r x = line 21 (indirect r and ltb 0 x.bounds) ∷ []
 
-unfoldable pub linesFor : Route → List ℕ → List Line
-linesFor r bytes = readLines bytes ++ routeLines r (nestOf bytes)
+unfoldable pub lines_for : Route → List ℕ → List Line
+lines_for r bytes = read_lines bytes ++ route_lines r (nest_of bytes)
 
 -- a recipe read for a route
 pub record ReadFor (r : Route) (bytes : List ℕ) (reading : Reading) : Type 0 where
-  pub number : reading.number ≡ first_of (linesFor r bytes)
-  pub nest : reading.number ≡ 0 → reading.nest ≡ nestOf bytes
-  pub bytes-are : reading.number ≡ 0 → Bytes bytes
+  pub number : reading.number ≡ first_of (lines_for r bytes)
+  pub nest : reading.number ≡ 0 → reading.nest ≡ nest_of bytes
+  pub bytes_are : reading.number ≡ 0 → Bytes bytes

@@ -1,7 +1,7 @@
 // A recipe read for a route, with its counts, with its table: what each call that is given a recipe begins with, and the one place where line 21 is
 // looked at.
 ghost use Rattle.std.specs.Prelude.{◌≡◌, length};
-ghost use Rattle.layout.specs.RouteWords.{routeOf};
+ghost use Rattle.layout.specs.RouteWords.{route_of};
 ghost use Rattle.recipe.specs.Routes.{ReadFor};
 ghost use Rattle.recipe.specs.Given.{WithSizes, Opens};
 
@@ -14,7 +14,7 @@ use tables::{TABLE_WORDS, fill};
 
 // The number of the first line that is true of the bytes and the route, or 0 and the nest.
 pub fn read_for(encoded: &[u8], route: u32) -> Reading
-    ensures { ReadFor (routeOf route) encoded.now result }
+    ensures { ReadFor (route_of route) encoded.now result }
 {
     let reading = read(encoded);
     let number = reading.number;

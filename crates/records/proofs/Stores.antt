@@ -10,71 +10,71 @@ use lib.Seq.{drop-cons, set_at, take-suc}
 use lib.Dec.{eqb}
 use borrow.Author.Tests.{lt-ltb, le-ltb, eq-eqb, ne_eqb}
 use Rattle.base.specs.Tests.{pick}
-use Rattle.base.proofs.Tests.{pick_true, pick-false}
+use Rattle.base.proofs.Tests.{pick_true, pick_false}
 use Rattle.records.specs.declared.Progress.{Progress}
 use Rattle.records.specs.declared.Flat.{Flat}
-use Rattle.records.specs.Records.{flatWords, zeros, recordIn, recordsIn, put_all}
-use Rattle.records.proofs.Words.{length-words}
+use Rattle.records.specs.Records.{flat_words, zeros, record_in, records_in, put_all}
+use Rattle.records.proofs.Words.{length_words}
 
 -- what `record_in` makes
-pub in-words : (f : Flat) (i : ℕ) → i < 64
-    → record { finished = get_or f.words (3 * i) 0; stage = get_or f.words (3 * i + 1) 0; sent = get_or f.words (3 * i + 2) 0 } ≡ recordIn f i
-unfolding recordIn pick
-in-words f i l = rw (lt-ltb i 64 l)
+pub in_words_lem : (f : Flat) (i : ℕ) → i < 64
+    → record { finished = get_or f.words (3 * i) 0; stage = get_or f.words (3 * i + 1) 0; sent = get_or f.words (3 * i + 2) 0 } ≡ record_in f i
+unfolding record_in pick
+in_words_lem f i l = rw (lt-ltb i 64 l)
 
-pub beyond-words : (f : Flat) (i : ℕ) (r : Progress) → r ≡ zeros → 64 ≤ i → r ≡ recordIn f i
-unfolding recordIn pick
-beyond-words f i r e l = rw (le-ltb i 64 l) e
+pub beyond_words : (f : Flat) (i : ℕ) (r : Progress) → r ≡ zeros → 64 ≤ i → r ≡ record_in f i
+unfolding record_in pick
+beyond_words f i r e l = rw (le-ltb i 64 l) e
 
 -- ---- the first n of them stored
 
-unfoldable pub storedTo : Flat → ℕ → List Progress → List Progress
-storedTo f n rs = recordsIn f n ++ drop n rs
+unfoldable pub stored_to : Flat → ℕ → List Progress → List Progress
+stored_to f n rs = records_in f n ++ drop n rs
 
-length-in : (f : Flat) (n : ℕ) → length (recordsIn f n) ≡ n
-unfolding recordsIn
-length-in f zero = refl
-length-in f (suc n) = length-append (recordsIn f n) (recordIn f n ∷ []) ∙ ap (λ (k : ℕ). k + 1) (length-in f n) ∙ add-one n
+length_in : (f : Flat) (n : ℕ) → length (records_in f n) ≡ n
+unfolding records_in
+length_in f zero = refl
+length_in f (suc n) = length-append (records_in f n) (record_in f n ∷ []) ∙ ap (λ (k : ℕ). k + 1) (length_in f n) ∙ add-one n
 
-pub length-stored : (f : Flat) (n : ℕ) (rs : List Progress) → n ≤ length rs → length (storedTo f n rs) ≡ length rs
-unfolding storedTo
-length-stored f n rs l = rw (length-append (recordsIn f n) (drop n rs), length-in f n, length-drop n rs) (omega arith)
+pub length_stored : (f : Flat) (n : ℕ) (rs : List Progress) → n ≤ length rs → length (stored_to f n rs) ≡ length rs
+unfolding stored_to
+length_stored f n rs l = rw (length-append (records_in f n) (drop n rs), length_in f n, length-drop n rs) (omega arith)
 
-pub stored-none : (f : Flat) (rs : List Progress) → rs ≡ storedTo f 0 rs
-unfolding storedTo recordsIn
-stored-none f rs = refl
+pub stored_none : (f : Flat) (rs : List Progress) → rs ≡ stored_to f 0 rs
+unfolding stored_to records_in
+stored_none f rs = refl
 
-pub stored_more : (f : Flat) (n : ℕ) (rs : List Progress) → n < length rs → set (storedTo f n rs) n (recordIn f n) ≡ storedTo f (n + 1) rs
-unfolding storedTo recordsIn
+pub stored_more : (f : Flat) (n : ℕ) (rs : List Progress) → n < length rs → set (stored_to f n rs) n (record_in f n) ≡ stored_to f (n + 1) rs
+unfolding stored_to records_in
 stored_more f n rs l =
     rw (drop-cons rs n zeros l, add-one n)
-    (set_at (recordsIn f n) (get_or rs n zeros) (drop (suc n) rs) (recordIn f n) n (length-in f n)
-    ∙ sym (append_assoc (recordsIn f n) (recordIn f n ∷ []) (drop (suc n) rs)))
+    (set_at (records_in f n) (get_or rs n zeros) (drop (suc n) rs) (record_in f n) n (length_in f n)
+    ∙ sym (append_assoc (records_in f n) (record_in f n ∷ []) (drop (suc n) rs)))
 
 -- all of them, or none
-pub stores-all : (f : Flat) (number c : ℕ) (rs : List Progress) → c ≡ pick (eqb number 0) (length rs) 0 → storedTo f c rs ≡ put_all number f rs
-unfolding put_all storedTo recordsIn
-stores-all f number c rs e = by (ℕ_discrete number 0)
+pub stores_all : (f : Flat) (number c : ℕ) (rs : List Progress) → c ≡ pick (eqb number 0) (length rs) 0 → stored_to f c rs ≡ put_all number f rs
+unfolding put_all stored_to records_in
+stores_all f number c rs e = by (ℕ_discrete number 0)
   where
-    to : (k : ℕ) → c ≡ k → storedTo f c rs ≡ recordsIn f k ++ drop k rs
-    to k z = ap (λ (j : ℕ). recordsIn f j ++ drop j rs) z
+    to : (k : ℕ) → c ≡ k → stored_to f c rs ≡ records_in f k ++ drop k rs
+    to k z = ap (λ (j : ℕ). records_in f j ++ drop j rs) z
 
-    by : Dec (number ≡ 0) → storedTo f c rs ≡ pick (eqb number 0) (recordsIn f (length rs)) rs
+    by : Dec (number ≡ 0) → stored_to f c rs ≡ pick (eqb number 0) (records_in f (length rs)) rs
     by (yes z) =
         to (length rs) (e ∙ pick_true _ _ _ (eq-eqb number 0 z))
-        ∙ ap (λ (l : List Progress). recordsIn f (length rs) ++ l) (drop_of_length-le rs {i = length rs} (omega arith))
-        ∙ append-nil (recordsIn f (length rs)) ∙ sym (pick_true _ _ _ (eq-eqb number 0 z))
-    by (no h) = to 0 (e ∙ pick-false _ _ _ (ne_eqb number 0 h)) ∙ sym (pick-false _ _ _ (ne_eqb number 0 h))
+        ∙ ap (λ (l : List Progress). records_in f (length rs) ++ l) (drop_of_length-le rs {i = length rs} (omega arith))
+        ∙ append-nil (records_in f (length rs)) ∙ sym (pick_true _ _ _ (eq-eqb number 0 z))
+    by (no h) = to 0 (e ∙ pick_false _ _ _ (ne_eqb number 0 h)) ∙ sym (pick_false _ _ _ (ne_eqb number 0 h))
 
 -- ---- their words
 
-words_append : (rs ss : List Progress) → flatWords (rs ++ ss) ≡ flatWords rs ++ flatWords ss
-unfolding flatWords
+words_append : (rs ss : List Progress) → flat_words (rs ++ ss) ≡ flat_words rs ++ flat_words ss
+unfolding flat_words
 words_append [] ss = refl
 words_append (r ∷ rs) ss = ap (λ (l : List ℕ). r.finished ∷ r.stage ∷ r.sent ∷ l) (words_append rs ss)
 
-take-three : (l : List ℕ) (k : ℕ) → k + 2 < length l → take (k + 3) l ≡ take k l ++ (get_or l k 0 ∷ get_or l (k + 1) 0 ∷ get_or l (k + 2) 0 ∷ [])
-take-three l k h =
+take_three : (l : List ℕ) (k : ℕ) → k + 2 < length l → take (k + 3) l ≡ take k l ++ (get_or l k 0 ∷ get_or l (k + 1) 0 ∷ get_or l (k + 2) 0 ∷ [])
+take_three l k h =
     ap (λ (j : ℕ). take j l) (three k) ∙ take-suc l (suc (suc k)) 0 (omega arith)
     ∙ ap (λ (z : List ℕ). z ++ (get_or l (suc (suc k)) 0 ∷ [])) (take-suc l (suc k) 0 (omega arith) ∙ ap (λ (z : List ℕ). z ++ (get_or l (suc k) 0 ∷ []))
     (take-suc l k 0 (omega arith)))
@@ -92,29 +92,29 @@ take-three l k h =
     joined z a b c =
         append_assoc (z ++ (a ∷ [])) (b ∷ []) (c ∷ []) ∙ append_assoc z (a ∷ []) (b ∷ c ∷ [])
 
-words-in : (f : Flat) (n : ℕ) → n ≤ 64 → length f.words ≡ 192 → flatWords (recordsIn f n) ≡ take (3 * n) f.words
-unfolding recordsIn flatWords
-words-in f zero l e = refl
-words-in f (suc n) l e =
-    words_append (recordsIn f n) (recordIn f n ∷ [])
-    ∙ ap (λ (z : List ℕ). z ++ flatWords (recordIn f n ∷ [])) (words-in f n (omega (arith, l)) e)
-    ∙ ap (λ (r : Progress). take (3 * n) f.words ++ (r.finished ∷ r.stage ∷ r.sent ∷ [])) (sym (in-words f n (omega (arith, l))))
-    ∙ sym (take-three f.words (3 * n) (omega (arith, l, e)))
+words_in : (f : Flat) (n : ℕ) → n ≤ 64 → length f.words ≡ 192 → flat_words (records_in f n) ≡ take (3 * n) f.words
+unfolding records_in flat_words
+words_in f zero l e = refl
+words_in f (suc n) l e =
+    words_append (records_in f n) (record_in f n ∷ [])
+    ∙ ap (λ (z : List ℕ). z ++ flat_words (record_in f n ∷ [])) (words_in f n (omega (arith, l)) e)
+    ∙ ap (λ (r : Progress). take (3 * n) f.words ++ (r.finished ∷ r.stage ∷ r.sent ∷ [])) (sym (in_words_lem f n (omega (arith, l))))
+    ∙ sym (take_three f.words (3 * n) (omega (arith, l, e)))
     ∙ ap (λ (k : ℕ). take k f.words) (next n)
   where
     next : (n : ℕ) → 3 * n + 3 ≡ 3 * suc n
     next n = omega arith
 
 -- the words of the records after a call that gave this number, where so many words are kept
-pub words-stored : (f : Flat) (number : ℕ) (rs : List Progress) → length f.words ≡ 192 → (number ≡ 0 → length (flatWords rs) ≤ 192)
-    → flatWords (put_all number f rs) ≡ pick (eqb number 0) (take (length (flatWords rs)) f.words) (flatWords rs)
+pub words_stored : (f : Flat) (number : ℕ) (rs : List Progress) → length f.words ≡ 192 → (number ≡ 0 → length (flat_words rs) ≤ 192)
+    → flat_words (put_all number f rs) ≡ pick (eqb number 0) (take (length (flat_words rs)) f.words) (flat_words rs)
 unfolding put_all
-words-stored f number rs e few = by (ℕ_discrete number 0)
+words_stored f number rs e few = by (ℕ_discrete number 0)
   where
-    by : Dec (number ≡ 0) → flatWords (pick (eqb number 0) (recordsIn f (length rs)) rs)
-        ≡ pick (eqb number 0) (take (length (flatWords rs)) f.words) (flatWords rs)
+    by : Dec (number ≡ 0) → flat_words (pick (eqb number 0) (records_in f (length rs)) rs)
+        ≡ pick (eqb number 0) (take (length (flat_words rs)) f.words) (flat_words rs)
     by (yes z) =
-        ap (λ (l : List Progress). flatWords l) (pick_true _ _ _ (eq-eqb number 0 z))
-        ∙ words-in f (length rs) (omega (arith, few z, length-words rs)) e
-        ∙ ap (λ (k : ℕ). take k f.words) (sym (length-words rs)) ∙ sym (pick_true _ _ _ (eq-eqb number 0 z))
-    by (no h) = ap (λ (l : List Progress). flatWords l) (pick-false _ _ _ (ne_eqb number 0 h)) ∙ sym (pick-false _ _ _ (ne_eqb number 0 h))
+        ap (λ (l : List Progress). flat_words l) (pick_true _ _ _ (eq-eqb number 0 z))
+        ∙ words_in f (length rs) (omega (arith, few z, length_words rs)) e
+        ∙ ap (λ (k : ℕ). take k f.words) (sym (length_words rs)) ∙ sym (pick_true _ _ _ (eq-eqb number 0 z))
+    by (no h) = ap (λ (l : List Progress). flat_words l) (pick_false _ _ _ (ne_eqb number 0 h)) ∙ sym (pick_false _ _ _ (ne_eqb number 0 h))

@@ -7,13 +7,13 @@ use Rattle.records.specs.declared.Progress.{Progress}
 use Rattle.records.specs.declared.Flat.{Flat}
 
 -- the words of records, in order
-unfoldable pub flatWords : List Progress → List ℕ
-flatWords [] = []
-flatWords (r ∷ rs) = r.finished ∷ r.stage ∷ r.sent ∷ flatWords rs
+unfoldable pub flat_words : List Progress → List ℕ
+flat_words [] = []
+flat_words (r ∷ rs) = r.finished ∷ r.stage ∷ r.sent ∷ flat_words rs
 
 -- words fix the records
 abbrev pub Injective : Type 0
-Injective = (rs ss : List Progress) → flatWords rs ≡ flatWords ss → rs ≡ ss
+Injective = (rs ss : List Progress) → flat_words rs ≡ flat_words ss → rs ≡ ss
 
 -- ---- the words of records as a call reads them: 192 at most, since a recipe has at most 64 processors
 
@@ -28,11 +28,11 @@ abbrev pub blank : ℕ → Flat
 blank n = record { words = replicate 192 0; count = n }
 
 -- the words of record i written, where they are among the first 192
-unfoldable pub wordsAt : List ℕ → ℕ → Progress → List ℕ
-wordsAt words i r = pick (ltb i 64) (set (set (set words (3 * i) r.finished) (3 * i + 1) r.stage) (3 * i + 2) r.sent) words
+unfoldable pub words_at : List ℕ → ℕ → Progress → List ℕ
+words_at words i r = pick (ltb i 64) (set (set (set words (3 * i) r.finished) (3 * i + 1) r.stage) (3 * i + 2) r.sent) words
 
-abbrev pub withRecord : Flat → ℕ → Progress → Flat
-withRecord f i r = record { words = wordsAt f.words i r; count = f.count }
+abbrev pub with_record : Flat → ℕ → Progress → Flat
+with_record f i r = record { words = words_at f.words i r; count = f.count }
 
 -- ---- stores of a call that gave this number; a refusal stores nothing
 
@@ -42,18 +42,18 @@ put_at number i r rs = pick (eqb number 0) (set rs i r) rs
 abbrev pub zeros : Progress
 zeros = record { finished = 0; stage = 0; sent = 0 }
 
-unfoldable pub clearAll : ℕ → List Progress → List Progress
-clearAll number rs = pick (eqb number 0) (replicate (length rs) zeros) rs
+unfoldable pub clear_all : ℕ → List Progress → List Progress
+clear_all number rs = pick (eqb number 0) (replicate (length rs) zeros) rs
 
 -- record i of these words, where it is among the first 64
-unfoldable pub recordIn : Flat → ℕ → Progress
-recordIn f i =
+unfoldable pub record_in : Flat → ℕ → Progress
+record_in f i =
     pick (ltb i 64) (record { finished = get_or f.words (3 * i) 0; stage = get_or f.words (3 * i + 1) 0; sent = get_or f.words (3 * i + 2) 0 })
     zeros
 
-unfoldable pub recordsIn : Flat → ℕ → List Progress
-recordsIn f zero = []
-recordsIn f (suc n) = recordsIn f n ++ (recordIn f n ∷ [])
+unfoldable pub records_in : Flat → ℕ → List Progress
+records_in f zero = []
+records_in f (suc n) = records_in f n ++ (record_in f n ∷ [])
 
 unfoldable pub put_all : ℕ → Flat → List Progress → List Progress
-put_all number f rs = pick (eqb number 0) (recordsIn f (length rs)) rs
+put_all number f rs = pick (eqb number 0) (records_in f (length rs)) rs

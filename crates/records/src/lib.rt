@@ -1,7 +1,7 @@
 // A processor's record as a struct: the words of a slice of records, for reading, and the stores into it.
 ghost use Rattle.std.specs.Prelude.{◌≡◌, ◌<◌, length, eqb};
 ghost use Rattle.base.specs.Tests.{pick};
-ghost use Rattle.records.specs.Records.{flatWords, Flattens, blank, withRecord, put_at, zeros, clearAll, recordIn, put_all};
+ghost use Rattle.records.specs.Records.{flat_words, Flattens, blank, with_record, put_at, zeros, clear_all, record_in, put_all};
 
 // Three words for each of at most 64 processors.
 pub const RECORD_WORDS: usize = 192;
@@ -34,7 +34,7 @@ fn empty(count: usize) -> Flat
 
 // The words of record i written.
 fn with_record(flat: Flat, i: usize, p: Progress) -> Flat
-    ensures { result ≡ withRecord flat i p }
+    ensures { result ≡ with_record flat i p }
 {
     let mut words = flat.words;
     if i < 64 {
@@ -50,7 +50,7 @@ fn with_record(flat: Flat, i: usize, p: Progress) -> Flat
 
 // All records taken apart into their words.
 pub fn flatten(progress: &[Progress]) -> Flat
-    ensures { Flattens result (flatWords progress.now) }
+    ensures { Flattens result (flat_words progress.now) }
 {
     let mut flat = empty(3 * progress.len());
     let mut i = 0;
@@ -113,7 +113,7 @@ fn cleared(number: u32, n: usize) -> usize
 
 // All records set to zero where the call's number is 0; at a refusal nothing is written.
 pub fn clear(progress: &mut [Progress], number: u32)
-    ensures { progress.new ≡ clearAll number progress.old }
+    ensures { progress.new ≡ clear_all number progress.old }
 {
     let n = cleared(number, progress.len());
     let mut i = 0;
@@ -125,7 +125,7 @@ pub fn clear(progress: &mut [Progress], number: u32)
 
 // Record i of these words.
 fn record_in(flat: Flat, i: usize) -> Progress
-    ensures { result ≡ recordIn flat i }
+    ensures { result ≡ record_in flat i }
 {
     if i >= 64 {
         return zero();

@@ -12,38 +12,38 @@ use borrow.Author.Tests.{eq-eqb, ne_eqb}
 use Rattle.base.specs.Tests.{pick}
 use Rattle.base.specs.Lists.{Bytes}
 use Rattle.base.specs.Numbers.{first_of}
-use Rattle.base.proofs.Tests.{not-true, pick_true, pick-false}
-use Rattle.base.proofs.Lists.{length-put}
-use Rattle.base.proofs.Numbers.{first-false}
-use Rattle.machine.specs.Plan.{Plan, Sound, count, heldBy}
+use Rattle.base.proofs.Tests.{not-true, pick_true, pick_false}
+use Rattle.base.proofs.Lists.{length_put}
+use Rattle.base.proofs.Numbers.{first_false}
+use Rattle.machine.specs.Plan.{Plan, Sound, count, held_by}
 use Rattle.machine.specs.Machine.{State, Answered, answered, deliver, fresh}
 use Rattle.machine.proofs.Progress.{Shape}
-use Rattle.machine.proofs.Fresh.{inv-fresh}
-use Rattle.nest.specs.Reader.{nestOf}
+use Rattle.machine.proofs.Fresh.{inv_fresh}
+use Rattle.nest.specs.Reader.{nest_of}
 use Rattle.nest.proofs.Facts.{accepted}
 use Rattle.plan.proofs.ShapedSound.{sound}
-use Rattle.layout.specs.RouteWords.{routeOf}
-use Rattle.recipe.specs.Routes.{linesFor}
-use Rattle.recipe.proofs.Laws.{reads-for}
+use Rattle.layout.specs.RouteWords.{route_of}
+use Rattle.recipe.specs.Routes.{lines_for}
+use Rattle.recipe.proofs.Laws.{reads_for}
 use Rattle.network.specs.Apart.{AreasApart, replaced, marked, received}
 use Rattle.network.specs.Transport.{copied}
-use Rattle.network.specs.Packets.{Packet, Network, networkOf, packetAt}
-use Rattle.network.proofs.Letters.{words-fit}
-use Rattle.network.proofs.Network.{zero-answer, some-answer}
-use Rattle.network.proofs.Transport.{copied-both}
-use Rattle.network.proofs.Locality.{source-same}
-use Rattle.engine.specs.Calls.{recipe, areas, freshCall, deliverCall}
-use Rattle.engine.proofs.Lines.{areas-are}
-use Rattle.engine.proofs.AsSteps.{fresh-gave, turn_is, deliver-is}
+use Rattle.network.specs.Packets.{Packet, Network, network_of, packet_at}
+use Rattle.network.proofs.Letters.{words_fit}
+use Rattle.network.proofs.Network.{zero_answer, some_answer}
+use Rattle.network.proofs.Transport.{copied_both}
+use Rattle.network.proofs.Locality.{source_same}
+use Rattle.engine.specs.Calls.{recipe, areas, fresh_call, deliver_call}
+use Rattle.engine.proofs.Lines.{areas_are}
+use Rattle.engine.proofs.AsSteps.{fresh_gave, turn_is, deliver_is}
 use Rattle.network_runs.specs.Calls.{Sources}
-use Rattle.network_runs.proofs.AsNetwork.{own-word, lent-areas, shape-areas}
-use Rattle.restarts.specs.Processes.{Roles, ProcessEvent, start_of, turnFrom, postFrom, repostFrom, arrivalAt, postedFrom, postFromLines, arrivalAtLines}
-use Rattle.restarts.specs.Processes.{actProcess, ByProcesses}
-use Rattle.restarts.proofs.Life.{fresh-lives, life-fit}
-use Rattle.restarts.proofs.Lives.{replaced-own}
-use Rattle.restarts.proofs.Processes.{Several, arrival-asked, by-processes}
-use Rattle.restart_runs.specs.Processes.{callsProcess, startProcesses, BegunProcesses, ProcessDemands}
-use Rattle.restart_runs.proofs.Demands.{fresh-clean}
+use Rattle.network_runs.proofs.AsNetwork.{own_word, lent_areas, shape_areas}
+use Rattle.restarts.specs.Processes.{Roles, ProcessEvent, start_of, turnFrom, postFrom, repostFrom, arrivalAt, posted_from, post_from_lines, arrival_at_lines}
+use Rattle.restarts.specs.Processes.{act_process, ByProcesses}
+use Rattle.restarts.proofs.Life.{fresh_lives, life_fit}
+use Rattle.restarts.proofs.Lives.{replaced_own}
+use Rattle.restarts.proofs.Processes.{Several, arrival_asked, by_processes}
+use Rattle.restart_runs.specs.Processes.{calls_process, start_processes, BegunProcesses, ProcessDemands}
+use Rattle.restart_runs.proofs.Demands.{fresh_clean}
 
 module _ (bytes : List ℕ) (route : ℕ) (source : List ℕ) (role : Roles) (sources : Sources) (lent : AreasApart)
     (bg : BegunProcesses bytes route source role sources lent) where
@@ -51,19 +51,19 @@ module _ (bytes : List ℕ) (route : ℕ) (source : List ℕ) (role : Roles) (so
   p = recipe bytes route
 
   so : Sound p
-  so = sound (routeOf route) (nestOf bytes) (accepted bytes bg.small (reads-for (routeOf route) bytes bg.accepted))
+  so = sound (route_of route) (nest_of bytes) (accepted bytes bg.small (reads_for (route_of route) bytes bg.accepted))
 
   lengths : (q : ℕ) → areas p (sources q) (lent q) ≡ true
-  lengths q = (fresh-gave bytes route (sources q) (lent q) (bg.gave q)).1
+  lengths q = (fresh_gave bytes route (sources q) (lent q) (bg.gave q)).1
 
   long : (q : ℕ) → length (sources q) ≡ p.cells
-  long q = (areas-are p (sources q) (lent q) (lengths q)).source
+  long q = (areas_are p (sources q) (lent q) (lengths q)).source
 
-  start_is : (q : ℕ) → (freshCall bytes route (sources q) (lent q)).after ≡ fresh p
-  start_is q = ap (λ (x : Answered State). x.after) (fresh-clean bytes route bg.accepted (sources q) (lent q) (lengths q))
+  start_is : (q : ℕ) → (fresh_call bytes route (sources q) (lent q)).after ≡ fresh p
+  start_is q = ap (λ (x : Answered State). x.after) (fresh_clean bytes route bg.accepted (sources q) (lent q) (lengths q))
 
-  begins : Several p source role (startProcesses bytes route sources lent)
-  begins = record { each = λ q. rw (start_is q) (fresh-lives p source (role q)); right = λ k h. absurd (omega arith) }
+  begins : Several p source role (start_processes bytes route sources lent)
+  begins = record { each = λ q. rw (start_is q) (fresh_lives p source (role q)); right = λ k h. absurd (omega arith) }
 
   module _ (n : Network) (se : Several p source role n) (q : ℕ) where
     abbrev s : State
@@ -73,21 +73,21 @@ module _ (bytes : List ℕ) (route : ℕ) (source : List ℕ) (role : Roles) (so
     sh = (se.each q).held.shape
 
     here : areas p (sources q) s ≡ true
-    here = shape-areas bytes route bg.accepted so (sources q) s (long q) sh
+    here = shape_areas bytes route bg.accepted so (sources q) s (long q) sh
 
     -- what a call on the process's own areas leaves of the network
     abbrev by : Answered State → Answered Network
-    by x = record { number = x.number; after = networkOf (replaced n.areas q x.after) n.packets }
+    by x = record { number = x.number; after = network_of (replaced n.areas q x.after) n.packets }
 
-    start-same : callsProcess bytes route sources role n (start_of q) ≡ actProcess p source role n (start_of q)
-    unfolding callsProcess actProcess
-    start-same = ap by (fresh-clean bytes route bg.accepted (sources q) s here)
+    start_same : calls_process bytes route sources role n (start_of q) ≡ act_process p source role n (start_of q)
+    unfolding calls_process act_process
+    start_same = ap by (fresh_clean bytes route bg.accepted (sources q) s here)
 
-    turn-same : callsProcess bytes route sources role n (turnFrom q) ≡ actProcess p source role n (turnFrom q)
-    unfolding callsProcess actProcess
-    turn-same =
+    turn_same : calls_process bytes route sources role n (turnFrom q) ≡ act_process p source role n (turnFrom q)
+    unfolding calls_process act_process
+    turn_same =
         ap by (turn_is bytes route (sources q) s bg.accepted here (role q)
-        ∙ source-same p (own-word (routeOf route) (nestOf bytes)) (sources q) source s (role q) (bg.own q))
+        ∙ source_same p (own_word (route_of route) (nest_of bytes)) (sources q) source s (role q) (bg.own q))
 
     -- ---- a post
     module _ (m : ℕ) where
@@ -95,93 +95,93 @@ module _ (bytes : List ℕ) (route : ℕ) (source : List ℕ) (role : Roles) (so
       left x =
           record {
             number = x.number;
-            after = networkOf (replaced n.areas q x.after) (n.packets ++ pick (eqb x.number 0) (postedFrom p s m) []);
+            after = network_of (replaced n.areas q x.after) (n.packets ++ pick (eqb x.number 0) (posted_from p s m) []);
           }
 
       -- the delivery call without line 10
-      delivers : deliverCall bytes route (sources q) s m ≡ answered (first_of (postFromLines p n q m)) (marked s m) s
+      delivers : deliver_call bytes route (sources q) s m ≡ answered (first_of (post_from_lines p n q m)) (marked s m) s
       unfolding deliver
       delivers =
-          deliver-is bytes route (sources q) s bg.accepted here m
-          ∙ ap (λ (k : ℕ). answered k (marked s m) s) (first-false 10 _ _ (not-true (life-fit p source (role q) s (se.each q))))
+          deliver_is bytes route (sources q) s bg.accepted here m
+          ∙ ap (λ (k : ℕ). answered k (marked s m) s) (first_false 10 _ _ (not-true (life_fit p source (role q) s (se.each q))))
 
       stays : (x : ℕ) → x ≢ 0 → left (record { number = x; after = s }) ≡ record { number = x; after = n }
       unfolding left
-      stays x z = rw (replaced-own n.areas q, pick-false (eqb x 0) (postedFrom p s m) [] (ne_eqb x 0 z), append-nil n.packets) refl
+      stays x z = rw (replaced_own n.areas q, pick_false (eqb x 0) (posted_from p s m) [] (ne_eqb x 0 z), append-nil n.packets) refl
 
-      post-as : left (answered (first_of (postFromLines p n q m)) (marked s m) s) ≡ actProcess p source role n (postFrom q m)
-      unfolding left actProcess
-      post-as = go (ℕ_discrete (first_of (postFromLines p n q m)) 0)
+      post_as : left (answered (first_of (post_from_lines p n q m)) (marked s m) s) ≡ act_process p source role n (postFrom q m)
+      unfolding left act_process
+      post_as = go (ℕ_discrete (first_of (post_from_lines p n q m)) 0)
         where
-          go : Dec (first_of (postFromLines p n q m) ≡ 0) → left (answered (first_of (postFromLines p n q m)) (marked s m) s)
-              ≡ answered (first_of (postFromLines p n q m)) (networkOf (replaced n.areas q (marked s m)) (n.packets ++ postedFrom p s m)) n
+          go : Dec (first_of (post_from_lines p n q m) ≡ 0) → left (answered (first_of (post_from_lines p n q m)) (marked s m) s)
+              ≡ answered (first_of (post_from_lines p n q m)) (network_of (replaced n.areas q (marked s m)) (n.packets ++ posted_from p s m)) n
           go (yes z) =
-              ap left (zero-answer _ (marked s m) s z)
-              ∙ ap (λ (l : List Packet). record { number = 0; after = networkOf (replaced n.areas q (marked s m)) (n.packets ++ l) })
-              (pick_true (eqb 0 0) (postedFrom p s m) [] (eq-eqb 0 0 refl))
-              ∙ sym (zero-answer _ (networkOf (replaced n.areas q (marked s m)) (n.packets ++ postedFrom p s m)) n z)
+              ap left (zero_answer _ (marked s m) s z)
+              ∙ ap (λ (l : List Packet). record { number = 0; after = network_of (replaced n.areas q (marked s m)) (n.packets ++ l) })
+              (pick_true (eqb 0 0) (posted_from p s m) [] (eq-eqb 0 0 refl))
+              ∙ sym (zero_answer _ (network_of (replaced n.areas q (marked s m)) (n.packets ++ posted_from p s m)) n z)
           go (no k) =
-              ap left (some-answer _ (marked s m) s k) ∙ stays _ k
-              ∙ sym (some-answer _ (networkOf (replaced n.areas q (marked s m)) (n.packets ++ postedFrom p s m)) n k)
+              ap left (some_answer _ (marked s m) s k) ∙ stays _ k
+              ∙ sym (some_answer _ (network_of (replaced n.areas q (marked s m)) (n.packets ++ posted_from p s m)) n k)
 
-      post-same : callsProcess bytes route sources role n (postFrom q m) ≡ actProcess p source role n (postFrom q m)
-      unfolding callsProcess left
-      post-same = ap left delivers ∙ post-as
+      post_same : calls_process bytes route sources role n (postFrom q m) ≡ act_process p source role n (postFrom q m)
+      unfolding calls_process left
+      post_same = ap left delivers ∙ post_as
 
     -- ---- an arrival
     module _ (k : ℕ) where
       abbrev m : ℕ
-      m = (packetAt n.packets k).message
+      m = (packet_at n.packets k).message
 
       abbrev ws : List ℕ
-      ws = (packetAt n.packets k).words
+      ws = (packet_at n.packets k).words
 
-      takes : m < count p → length ws ≡ length (heldBy p m) → deliverCall bytes route (sources q) (copied p s m ws) m
+      takes : m < count p → length ws ≡ length (held_by p m) → deliver_call bytes route (sources q) (copied p s m ws) m
           ≡ record { number = 0; after = received p s m ws }
       takes lo e =
-          deliver-is bytes route (sources q) (copied p s m ws) bg.accepted
-          (lent-areas bytes route (sources q) (copied p s m ws)
+          deliver_is bytes route (sources q) (copied p s m ws) bg.accepted
+          (lent_areas bytes route (sources q) (copied p s m ws)
           (record {
             source = long q;
             memories = sh.memories;
-            buffer = length-put s.buffer _ ws (words-fit p s.buffer m ws sh.buffer lo e) ∙ sh.buffer;
+            buffer = length_put s.buffer _ ws (words_fit p s.buffer m ws sh.buffer lo e) ∙ sh.buffer;
             progress = sh.progress;
             status = length-set s.status m 1 ∙ sh.status;
           })) m
-          ∙ copied-both p s m ws lo sh (se.each q).held.statuses.high e
+          ∙ copied_both p s m ws lo sh (se.each q).held.statuses.high e
 
-      arrival-same : callsProcess bytes route sources role n (arrivalAt q k) ≡ actProcess p source role n (arrivalAt q k)
-      unfolding callsProcess actProcess
-      arrival-same = go (ℕ_discrete (first_of (arrivalAtLines p role n q k)) 0)
+      arrival_same : calls_process bytes route sources role n (arrivalAt q k) ≡ act_process p source role n (arrivalAt q k)
+      unfolding calls_process act_process
+      arrival_same = go (ℕ_discrete (first_of (arrival_at_lines p role n q k)) 0)
         where
-          go : Dec (first_of (arrivalAtLines p role n q k) ≡ 0)
-              → pick (eqb (first_of (arrivalAtLines p role n q k)) 0) (by (deliverCall bytes route (sources q) (copied p s m ws) m))
-              (record { number = first_of (arrivalAtLines p role n q k); after = n })
-              ≡ answered (first_of (arrivalAtLines p role n q k)) (networkOf (replaced n.areas q (received p s m ws)) n.packets) n
+          go : Dec (first_of (arrival_at_lines p role n q k) ≡ 0)
+              → pick (eqb (first_of (arrival_at_lines p role n q k)) 0) (by (deliver_call bytes route (sources q) (copied p s m ws) m))
+              (record { number = first_of (arrival_at_lines p role n q k); after = n })
+              ≡ answered (first_of (arrival_at_lines p role n q k)) (network_of (replaced n.areas q (received p s m ws)) n.packets) n
           go (yes z) =
-              let a = arrival-asked p so source role n se q k z in
+              let a = arrival_asked p so source role n se q k z in
               let c = se.right k a.0 in
-              pick_true _ _ _ (eq-eqb _ 0 z) ∙ ap by (takes c.low (ap length c.words ∙ length-map (heldBy p m) _))
-              ∙ sym (zero-answer _ _ n z)
-          go (no x) = pick-false _ _ _ (ne_eqb _ 0 x) ∙ sym (some-answer _ _ n x)
+              pick_true _ _ _ (eq-eqb _ 0 z) ∙ ap by (takes c.low (ap length c.words ∙ length-map (held_by p m) _))
+              ∙ sym (zero_answer _ _ n z)
+          go (no x) = pick_false _ _ _ (ne_eqb _ 0 x) ∙ sym (some_answer _ _ n x)
 
-  repost-same : (n : Network) (q m : ℕ) → callsProcess bytes route sources role n (repostFrom q m) ≡ actProcess p source role n (repostFrom q m)
-  unfolding callsProcess actProcess
-  repost-same n q m = refl
+  repost_same : (n : Network) (q m : ℕ) → calls_process bytes route sources role n (repostFrom q m) ≡ act_process p source role n (repostFrom q m)
+  unfolding calls_process act_process
+  repost_same n q m = refl
 
-  same : (n : Network) → Several p source role n → (e : ProcessEvent) → callsProcess bytes route sources role n e ≡ actProcess p source role n e
-  same n se (start_of q) = start-same n se q
-  same n se (turnFrom q) = turn-same n se q
-  same n se (postFrom q m) = post-same n se q m
-  same n se (repostFrom q m) = repost-same n q m
-  same n se (arrivalAt q k) = arrival-same n se q k
+  same : (n : Network) → Several p source role n → (e : ProcessEvent) → calls_process bytes route sources role n e ≡ act_process p source role n e
+  same n se (start_of q) = start_same n se q
+  same n se (turnFrom q) = turn_same n se q
+  same n se (postFrom q m) = post_same n se q m
+  same n se (repostFrom q m) = repost_same n q m
+  same n se (arrivalAt q k) = arrival_same n se q k
 
   processes : (events : List ProcessEvent)
-      → ByProcesses (callsProcess bytes route sources role) (startProcesses bytes route sources lent) events p source role
-  processes events = by-processes p so source role (callsProcess bytes route sources role) same (startProcesses bytes route sources lent) begins events
+      → ByProcesses (calls_process bytes route sources role) (start_processes bytes route sources lent) events p source role
+  processes events = by_processes p so source role (calls_process bytes route sources role) same (start_processes bytes route sources lent) begins events
 
 -- every accepted recipe can so begin
-begun : (bytes : List ℕ) (route : ℕ) (source : List ℕ) (role : Roles) → Bytes bytes → first_of (linesFor (routeOf route) bytes) ≡ 0
+begun : (bytes : List ℕ) (route : ℕ) (source : List ℕ) (role : Roles) → Bytes bytes → first_of (lines_for (route_of route) bytes) ≡ 0
     → length source ≡ (recipe bytes route).cells → BegunProcesses bytes route source role (λ q. source) (λ q. fresh (recipe bytes route))
 begun bytes route source role small ok long =
     record {
@@ -189,11 +189,11 @@ begun bytes route source role small ok long =
       accepted = ok;
       own = λ q t c l e i. refl;
       gave = λ q. ap (λ (x : Answered State). x.number)
-          (fresh-clean bytes route ok source (fresh (recipe bytes route))
-          (let sh = (inv-fresh (recipe bytes route) source).shape in
-          lent-areas bytes route source (fresh (recipe bytes route))
+          (fresh_clean bytes route ok source (fresh (recipe bytes route))
+          (let sh = (inv_fresh (recipe bytes route) source).shape in
+          lent_areas bytes route source (fresh (recipe bytes route))
           (record { source = long; memories = sh.memories; buffer = sh.buffer; progress = sh.progress; status = sh.status })));
     }
 
-pub process-demands : ProcessDemands
-process-demands = record { begins = begun; by-processes = processes }
+pub process_demands : ProcessDemands
+process_demands = record { begins = begun; by_processes = processes }

@@ -3,15 +3,15 @@ use mathlib.Core.Path.{◌≡◌, refl}
 use Prim.Native.Nat.{ℕ, zero, suc}
 use mathlib.Core.List.{List, [], ◌∷◌, ◌++◌}
 use Rattle.base.specs.Tests.{◌and◌, ◌or◌, not, pick, one, every, some, keep, those, tabulate}
-use Rattle.base.specs.Lists.{sublist, put, setAll, storeAll, allAt, unpack, pack, countIf}
+use Rattle.base.specs.Lists.{sublist, put, set_all, store_all, all_at, unpack, pack, count_if}
 use Rattle.base.specs.Numbers.{first_of}
 use Rattle.machine.specs.Plan.{offset}
-use Rattle.machine.specs.Machine.{setProgress, tilesLeft, fitRecord, fit, unpackAll, afterSends, carryOut, actionAt, waiting, turn, fresh}
-use Rattle.machine.specs.Runs.{stateAfter, answersTo, answers, last}
-use Rattle.network.specs.Apart.{startApart, replaced, assembled, collectApart}
-use Rattle.network.specs.Packets.{startNetwork}
+use Rattle.machine.specs.Machine.{set_progress, tiles_left, fit_record, fit, unpack_all, after_sends, carry_out, action_at, waiting, turn, fresh}
+use Rattle.machine.specs.Runs.{state_after, answers_to, answers, last}
+use Rattle.network.specs.Apart.{start_apart, replaced, assembled, collect_apart}
+use Rattle.network.specs.Packets.{start_network}
 use Rattle.network.proofs.Computed.{line3, source3, value_at}
-use Rattle.restarts.specs.Processes.{ProcessEvent, start_of, turnFrom, postFrom, repostFrom, arrivalAt, postedFrom, repostBy, actProcess, areasOf}
+use Rattle.restarts.specs.Processes.{ProcessEvent, start_of, turnFrom, postFrom, repostFrom, arrivalAt, posted_from, repost_by, act_process, areas_of}
 
 -- processes 0 and 2 are processor 0, process 1 is processor 1
 unfoldable twins : ℕ → ℕ
@@ -29,18 +29,18 @@ unfoldable both_run : List ProcessEvent
 both_run =
     whole 0 ++ whole 2 ++ (arrivalAt 0 0 ∷ arrivalAt 1 1 ∷ arrivalAt 1 0 ∷ turnFrom 1 ∷ turnFrom 1 ∷ repostFrom 1 1 ∷ start_of 0 ∷ turnFrom 0 ∷ [])
 
-numbers : answers (actProcess line3 source3 twins) (startNetwork line3) both_run
+numbers : answers (act_process line3 source3 twins) (start_network line3) both_run
     ≡ 0 ∷ 0 ∷ 0 ∷ 0 ∷ 0 ∷ 0 ∷ 0 ∷ 0 ∷ 0 ∷ 0 ∷ 0 ∷ 0 ∷ 0 ∷ 0 ∷ 0 ∷ 0 ∷ 11 ∷ 0 ∷ 14 ∷ 0 ∷ 0 ∷ 0 ∷ 0 ∷ 0 ∷ []
-unfolding line3 value_at source3 those keep offset sublist put unpack unpackAll setAll storeAll pack allAt every some one countIf not pick ◌and◌ ◌or◌ first_of
-    setProgress tilesLeft fitRecord fit afterSends carryOut actionAt waiting turn fresh startApart replaced stateAfter answersTo actProcess repostBy postedFrom twins
+unfolding line3 value_at source3 those keep offset sublist put unpack unpack_all set_all store_all pack all_at every some one count_if not pick ◌and◌ ◌or◌ first_of
+    set_progress tiles_left fit_record fit after_sends carry_out action_at waiting turn fresh start_apart replaced state_after answers_to act_process repost_by posted_from twins
     whole both_run
 numbers = refl
 
 -- all three packets say the same
-packets : (last (actProcess line3 source3 twins) (startNetwork line3) both_run).packets
+packets : (last (act_process line3 source3 twins) (start_network line3) both_run).packets
     ≡ record { message = 1; words = 3 ∷ [] } ∷ record { message = 1; words = 3 ∷ [] } ∷ record { message = 1; words = 3 ∷ [] } ∷ []
-unfolding line3 value_at source3 those keep offset sublist put unpack unpackAll setAll storeAll pack allAt every some one countIf not pick ◌and◌ ◌or◌ first_of
-    setProgress tilesLeft fitRecord fit afterSends carryOut actionAt waiting turn fresh startApart replaced stateAfter answersTo actProcess repostBy postedFrom twins
+unfolding line3 value_at source3 those keep offset sublist put unpack unpack_all set_all store_all pack all_at every some one count_if not pick ◌and◌ ◌or◌ first_of
+    set_progress tiles_left fit_record fit after_sends carry_out action_at waiting turn fresh start_apart replaced state_after answers_to act_process repost_by posted_from twins
     whole both_run
 packets = refl
 
@@ -53,14 +53,14 @@ unfoldable from0 : ℕ → ℕ
 from0 zero = 0
 from0 (suc b) = 1
 
-grid : (collectApart line3 (areasOf (last (actProcess line3 source3 twins) (startNetwork line3) both_run) from2) (7 ∷ 7 ∷ 7 ∷ [])).after ≡ 1 ∷ 3 ∷ 6 ∷ []
-unfolding line3 value_at source3 those keep offset sublist put unpack unpackAll setAll storeAll pack allAt every some one countIf not pick ◌and◌ ◌or◌ first_of
-    setProgress tilesLeft fitRecord fit afterSends carryOut actionAt waiting turn fresh startApart replaced stateAfter answersTo actProcess repostBy postedFrom twins
-    whole both_run from2 collectApart assembled tabulate
+grid : (collect_apart line3 (areas_of (last (act_process line3 source3 twins) (start_network line3) both_run) from2) (7 ∷ 7 ∷ 7 ∷ [])).after ≡ 1 ∷ 3 ∷ 6 ∷ []
+unfolding line3 value_at source3 those keep offset sublist put unpack unpack_all set_all store_all pack all_at every some one count_if not pick ◌and◌ ◌or◌ first_of
+    set_progress tiles_left fit_record fit after_sends carry_out action_at waiting turn fresh start_apart replaced state_after answers_to act_process repost_by posted_from twins
+    whole both_run from2 collect_apart assembled tabulate
 grid = refl
 
-early : (collectApart line3 (areasOf (last (actProcess line3 source3 twins) (startNetwork line3) both_run) from0) (7 ∷ 7 ∷ 7 ∷ [])).number ≡ 15
-unfolding line3 value_at source3 those keep offset sublist put unpack unpackAll setAll storeAll pack allAt every some one countIf not pick ◌and◌ ◌or◌ first_of
-    setProgress tilesLeft fitRecord fit afterSends carryOut actionAt waiting turn fresh startApart replaced stateAfter answersTo actProcess repostBy postedFrom twins
-    whole both_run from0 collectApart assembled tabulate
+early : (collect_apart line3 (areas_of (last (act_process line3 source3 twins) (start_network line3) both_run) from0) (7 ∷ 7 ∷ 7 ∷ [])).number ≡ 15
+unfolding line3 value_at source3 those keep offset sublist put unpack unpack_all set_all store_all pack all_at every some one count_if not pick ◌and◌ ◌or◌ first_of
+    set_progress tiles_left fit_record fit after_sends carry_out action_at waiting turn fresh start_apart replaced state_after answers_to act_process repost_by posted_from twins
+    whole both_run from0 collect_apart assembled tabulate
 early = refl

@@ -4,10 +4,10 @@
 -- Renders document 01, "Runs", for processors that may lose all they have, and a transport that is fair.
 use Rattle.std.specs.Prelude.{ℕ, zero, suc, ◌≤◌, ◌<◌, ◌≡◌, ◌≢◌, Bool, true, false, List, [], ◌∷◌, ◌++◌, length}
 use Rattle.machine.specs.Plan.{Plan, count}
-use Rattle.machine.specs.Machine.{Answered, tilesLeft, sweep}
-use Rattle.network.specs.Apart.{senderAt, takerAt, collectApart}
-use Rattle.network.specs.Packets.{Network, packetAt, statusAt, turnBy, post_of, arrivalOf, startNetwork}
-use Rattle.restarts.specs.Restarts.{LifeEvent, plain, repostOf, restartOf, actLives, Finished, lived}
+use Rattle.machine.specs.Machine.{Answered, tiles_left, sweep}
+use Rattle.network.specs.Apart.{sender_at, taker_at, collect_apart}
+use Rattle.network.specs.Packets.{Network, packet_at, status_at, turn_by, post_of, arrivalOf, start_network}
+use Rattle.restarts.specs.Restarts.{LifeEvent, plain, repostOf, restartOf, act_lives, Finished, lived}
 
 -- events without an end, and the first n of them
 abbrev pub Endless : Type 0
@@ -17,10 +17,10 @@ unfoldable pub firsts : Endless → ℕ → List LifeEvent
 firsts es zero = []
 firsts es (suc n) = firsts es n ++ (es n ∷ [])
 
-unfoldable pub newStart : LifeEvent → Bool
-newStart (plain e) = false
-newStart (repostOf m) = false
-newStart (restartOf b) = true
+unfoldable pub new_start : LifeEvent → Bool
+new_start (plain e) = false
+new_start (repostOf m) = false
+new_start (restartOf b) = true
 
 -- at time n or later
 abbrev pub Later : ℕ → (ℕ → Type 0) → Type 0
@@ -28,7 +28,7 @@ Later n Q = (k : ℕ) × (n ≤ k) × Q k
 
 -- message m is awaited: its sender has posted it since its last start, its taker has not received it since its own
 abbrev pub Awaited : Plan → Network → ℕ → Type 0
-Awaited p n m = (2 ≤ statusAt n.areas (senderAt p m) m) × (statusAt n.areas (takerAt p m) m ≡ 0)
+Awaited p n m = (2 ≤ status_at n.areas (sender_at p m) m) × (status_at n.areas (taker_at p m) m ≡ 0)
 
 module _ (acts : Network → LifeEvent → Answered Network) (start : Network) (es : Endless) where
   -- the network at time k, to which event k comes
@@ -39,18 +39,18 @@ module _ (acts : Network → LifeEvent → Answered Network) (start : Network) (
   pub record Arrives (m k : ℕ) : Type 0 where
     pub packet : ℕ
     pub low : packet < length (when k).packets
-    pub is : (packetAt (when k).packets packet).message ≡ m
+    pub is : (packet_at (when k).packets packet).message ≡ m
     pub event : es k ≡ plain (arrivalOf packet)
 
   -- what the processors do
   pub record Tries (p : Plan) : Type 0 where
     -- from some time on none starts again
     pub calm : ℕ
-    pub no_start : (k : ℕ) → calm ≤ k → newStart (es k) ≡ false
+    pub no_start : (k : ℕ) → calm ≤ k → new_start (es k) ≡ false
     -- again and again each has its turn, or has no tiles left
-    pub turns : (b n : ℕ) → b < p.processors → Later n (λ k. tilesLeft p ((when k).areas b) b ≡ true → es k ≡ plain (turnBy b))
+    pub turns : (b n : ℕ) → b < p.processors → Later n (λ k. tiles_left p ((when k).areas b) b ≡ true → es k ≡ plain (turn_by b))
     -- again and again each message is posted, or is not in flight at its sender's
-    pub posts : (m n : ℕ) → m < count p → Later n (λ k. statusAt (when k).areas (senderAt p m) m ≡ 1 → es k ≡ plain (post_of m))
+    pub posts : (m n : ℕ) → m < count p → Later n (λ k. status_at (when k).areas (sender_at p m) m ≡ 1 → es k ≡ plain (post_of m))
 
   -- and no message is awaited for ever: again and again a packet of it arrives, or it is not awaited. Whoever asks for it, whoever posts it again, and
   -- whatever else is lost
@@ -62,9 +62,9 @@ module _ (acts : Network → LifeEvent → Answered Network) (start : Network) (
   pub record FairLoss (p : Plan) : Type 0 where
     pub tries : Tries p
     -- each message that goes to another processor is asked for again and again, and its sender then tries to post it again
-    pub asked : (m n : ℕ) → m < count p → senderAt p m ≢ takerAt p m → Later n (λ k. es k ≡ repostOf m)
+    pub asked : (m n : ℕ) → m < count p → sender_at p m ≢ taker_at p m → Later n (λ k. es k ≡ repostOf m)
     -- of a message that is posted again and again, packets arrive again and again: as many are lost as may be, but not all
-    pub not-all-lost : (m : ℕ) → m < count p → senderAt p m ≢ takerAt p m
+    pub not_all_lost : (m : ℕ) → m < count p → sender_at p m ≢ taker_at p m
         → ((n : ℕ) → Later n (λ k. (es k ≡ repostOf m) × ((acts (when k) (repostOf m)).number ≡ 0)))
         → (n : ℕ) → Later n (Arrives m)
 
@@ -73,11 +73,11 @@ module _ (acts : Network → LifeEvent → Answered Network) (start : Network) (
     -- from some time on no processor has tiles left, and what is collected then is the sequential sweep
     pub at : ℕ
     pub finished : (k : ℕ) → at ≤ k → Finished p (when k).areas
-    pub grid : (k : ℕ) → at ≤ k → (old : List ℕ) → collectApart p (when k).areas old ≡ record { number = 0; after = sweep p source }
+    pub grid : (k : ℕ) → at ≤ k → (old : List ℕ) → collect_apart p (when k).areas old ≡ record { number = 0; after = sweep p source }
 
 -- ---- of the machine
 pub record MachineEnds (p : Plan) (source : List ℕ) : Type 0 where
-  pub fair : (es : Endless) → Fair (actLives p source) (startNetwork p) es p → Ends (actLives p source) (startNetwork p) es p source
-  pub fair-loss : (es : Endless) → FairLoss (actLives p source) (startNetwork p) es p → Ends (actLives p source) (startNetwork p) es p source
+  pub fair : (es : Endless) → Fair (act_lives p source) (start_network p) es p → Ends (act_lives p source) (start_network p) es p source
+  pub fair_loss : (es : Endless) → FairLoss (act_lives p source) (start_network p) es p → Ends (act_lives p source) (start_network p) es p source
   -- there are such events, for every plan
-  pub witness : (es : Endless) × FairLoss (actLives p source) (startNetwork p) es p
+  pub witness : (es : Endless) × FairLoss (act_lives p source) (start_network p) es p

@@ -6,12 +6,12 @@ use Rattle.std.specs.Prelude.{ℕ, ◌+◌, ◌*◌, ◌≤◌, ◌<◌, ◌≡�
 use Rattle.base.specs.Tests.{◌and◌, not, pick, one}
 use Rattle.base.specs.Lists.{In}
 use Rattle.base.specs.Numbers.{Line, line, first_of}
-use Rattle.machine.specs.Plan.{Plan, count, takerOf, heldBy, tilesOf}
-use Rattle.machine.specs.Machine.{State, memoryOf, place_of, tilesLeft, Answered, answered, turn, fresh, sweep}
+use Rattle.machine.specs.Plan.{Plan, count, taker_of, held_by, tiles_of}
+use Rattle.machine.specs.Machine.{State, memory_of, place_of, tiles_left, Answered, answered, turn, fresh, sweep}
 use Rattle.machine.specs.Runs.{last, answers}
-use Rattle.network.specs.Apart.{AreasApart, replaced, senderAt, takerAt, marked, received, collectApart}
-use Rattle.network.specs.Packets.{Packet, Network, networkOf, packetAt, statusAt, startNetwork}
-use Rattle.restarts.specs.Restarts.{workOf, Gathered, Calculated, Finished}
+use Rattle.network.specs.Apart.{AreasApart, replaced, sender_at, taker_at, marked, received, collect_apart}
+use Rattle.network.specs.Packets.{Packet, Network, network_of, packet_at, status_at, start_network}
+use Rattle.restarts.specs.Restarts.{work_of, Gathered, Calculated, Finished}
 
 -- the processor that each process is; processes are numbered as one likes, and in a network here each process has areas
 abbrev pub Roles : Type 0
@@ -23,53 +23,53 @@ pub data ProcessEvent : Type 0 where
   postFrom repostFrom arrivalAt : ℕ → ℕ → ProcessEvent
 
 -- what is posted of message m by one whose areas are s
-unfoldable pub postedFrom : Plan → State → ℕ → List Packet
-postedFrom p s m = pick (eqb (senderAt p m) (takerAt p m)) [] (record { message = m; words = place_of p s.buffer m } ∷ [])
+unfoldable pub posted_from : Plan → State → ℕ → List Packet
+posted_from p s m = pick (eqb (sender_at p m) (taker_at p m)) [] (record { message = m; words = place_of p s.buffer m } ∷ [])
 
 -- a message is posted where it is in flight, again where it was sent or received, and taken in by a process of its taker where it has status 0 there
-abbrev pub postFromLines : Plan → Network → ℕ → ℕ → List Line
-postFromLines p n q m = line 11 (not (ltb m (count p))) ∷ line 14 (not (eqb (statusAt n.areas q m) 1)) ∷ []
+abbrev pub post_from_lines : Plan → Network → ℕ → ℕ → List Line
+post_from_lines p n q m = line 11 (not (ltb m (count p))) ∷ line 14 (not (eqb (status_at n.areas q m) 1)) ∷ []
 
-abbrev pub repostFromLines : Plan → Network → ℕ → ℕ → List Line
-repostFromLines p n q m = line 11 (not (ltb m (count p))) ∷ line 14 (not (leb 2 (statusAt n.areas q m))) ∷ []
+abbrev pub repost_from_lines : Plan → Network → ℕ → ℕ → List Line
+repost_from_lines p n q m = line 11 (not (ltb m (count p))) ∷ line 14 (not (leb 2 (status_at n.areas q m))) ∷ []
 
-abbrev pub arrivalAtLines : Plan → Roles → Network → ℕ → ℕ → List Line
-arrivalAtLines p role n q k =
-    line 11 (not (ltb k (length n.packets) and eqb (takerAt p (packetAt n.packets k).message) (role q))) ∷
-    line 14 (not (eqb (statusAt n.areas q (packetAt n.packets k).message) 0)) ∷ []
+abbrev pub arrival_at_lines : Plan → Roles → Network → ℕ → ℕ → List Line
+arrival_at_lines p role n q k =
+    line 11 (not (ltb k (length n.packets) and eqb (taker_at p (packet_at n.packets k).message) (role q))) ∷
+    line 14 (not (eqb (status_at n.areas q (packet_at n.packets k).message) 0)) ∷ []
 
-unfoldable pub repostBy : Plan → Network → ℕ → ℕ → Answered Network
-repostBy p n q m = answered (first_of (repostFromLines p n q m)) (networkOf n.areas (n.packets ++ postedFrom p (n.areas q) m)) n
+unfoldable pub repost_by : Plan → Network → ℕ → ℕ → Answered Network
+repost_by p n q m = answered (first_of (repost_from_lines p n q m)) (network_of n.areas (n.packets ++ posted_from p (n.areas q) m)) n
 
-unfoldable pub actProcess : Plan → List ℕ → Roles → Network → ProcessEvent → Answered Network
-actProcess p source role n (start_of q) = record { number = 0; after = networkOf (replaced n.areas q (fresh p)) n.packets }
-actProcess p source role n (turnFrom q) =
+unfoldable pub act_process : Plan → List ℕ → Roles → Network → ProcessEvent → Answered Network
+act_process p source role n (start_of q) = record { number = 0; after = network_of (replaced n.areas q (fresh p)) n.packets }
+act_process p source role n (turnFrom q) =
     record {
       number = (turn p source (n.areas q) (role q)).number;
-      after = networkOf (replaced n.areas q (turn p source (n.areas q) (role q)).after) n.packets;
+      after = network_of (replaced n.areas q (turn p source (n.areas q) (role q)).after) n.packets;
     }
-actProcess p source role n (postFrom q m) =
-    answered (first_of (postFromLines p n q m))
-    (networkOf (replaced n.areas q (marked (n.areas q) m)) (n.packets ++ postedFrom p (n.areas q) m)) n
-actProcess p source role n (repostFrom q m) = repostBy p n q m
-actProcess p source role n (arrivalAt q k) =
-    answered (first_of (arrivalAtLines p role n q k))
-    (networkOf (replaced n.areas q (received p (n.areas q) (packetAt n.packets k).message (packetAt n.packets k).words)) n.packets) n
+act_process p source role n (postFrom q m) =
+    answered (first_of (post_from_lines p n q m))
+    (network_of (replaced n.areas q (marked (n.areas q) m)) (n.packets ++ posted_from p (n.areas q) m)) n
+act_process p source role n (repostFrom q m) = repost_by p n q m
+act_process p source role n (arrivalAt q k) =
+    answered (first_of (arrival_at_lines p role n q k))
+    (network_of (replaced n.areas q (received p (n.areas q) (packet_at n.packets k).message (packet_at n.packets k).words)) n.packets) n
 
 -- ---- what is counted
 
 -- a turn or a post by process q, or an arrival at it, that gave 0
-unfoldable pub deedBy : ℕ → ProcessEvent → ℕ → ℕ
-deedBy q (start_of c) x = 0
-deedBy q (turnFrom c) x = one (eqb c q and eqb x 0)
-deedBy q (postFrom c m) x = one (eqb c q and eqb x 0)
-deedBy q (repostFrom c m) x = 0
-deedBy q (arrivalAt c k) x = one (eqb c q and eqb x 0)
+unfoldable pub deed_by : ℕ → ProcessEvent → ℕ → ℕ
+deed_by q (start_of c) x = 0
+deed_by q (turnFrom c) x = one (eqb c q and eqb x 0)
+deed_by q (postFrom c m) x = one (eqb c q and eqb x 0)
+deed_by q (repostFrom c m) x = 0
+deed_by q (arrivalAt c k) x = one (eqb c q and eqb x 0)
 
-unfoldable pub deedsBy : ℕ → List ProcessEvent → List ℕ → ℕ
-deedsBy q [] xs = 0
-deedsBy q (e ∷ es) [] = 0
-deedsBy q (e ∷ es) (x ∷ xs) = deedBy q e x + deedsBy q es xs
+unfoldable pub deeds_by : ℕ → List ProcessEvent → List ℕ → ℕ
+deeds_by q [] xs = 0
+deeds_by q (e ∷ es) [] = 0
+deeds_by q (e ∷ es) (x ∷ xs) = deed_by q e x + deeds_by q es xs
 
 -- the starts of process q
 unfoldable pub start_by : ℕ → ProcessEvent → ℕ
@@ -79,9 +79,9 @@ start_by q (postFrom c m) = 0
 start_by q (repostFrom c m) = 0
 start_by q (arrivalAt c k) = 0
 
-unfoldable pub startsBy : ℕ → List ProcessEvent → ℕ
-startsBy q [] = 0
-startsBy q (e ∷ es) = start_by q e + startsBy q es
+unfoldable pub starts_by : ℕ → List ProcessEvent → ℕ
+starts_by q [] = 0
+starts_by q (e ∷ es) = start_by q e + starts_by q es
 
 -- ---- the claim
 
@@ -90,15 +90,15 @@ abbrev pub Chooses : Plan → Roles → (ℕ → ℕ) → Type 0
 Chooses p role who = (b : ℕ) → b < p.processors → role (who b) ≡ b
 
 -- the areas of these processes, as those of the processors
-abbrev pub areasOf : Network → (ℕ → ℕ) → AreasApart
-areasOf n who b = n.areas (who b)
+abbrev pub areas_of : Network → (ℕ → ℕ) → AreasApart
+areas_of n who b = n.areas (who b)
 
 -- one of these can make a turn or post, or posts again what another of them then takes in
 pub data GoesFor (acts : Network → ProcessEvent → Answered Network) (n : Network) (p : Plan) (who : ℕ → ℕ) : Type 0 where
   turns : (b : ℕ) → b < p.processors → (acts n (turnFrom (who b))).number ≡ 0 → GoesFor acts n p who
-  posts : (m : ℕ) → m < count p → (acts n (postFrom (who (senderAt p m)) m)).number ≡ 0 → GoesFor acts n p who
-  resends : (m : ℕ) → m < count p → (acts n (repostFrom (who (senderAt p m)) m)).number ≡ 0
-      → (acts (acts n (repostFrom (who (senderAt p m)) m)).after (arrivalAt (who (takerAt p m)) (length n.packets))).number ≡ 0
+  posts : (m : ℕ) → m < count p → (acts n (postFrom (who (sender_at p m)) m)).number ≡ 0 → GoesFor acts n p who
+  resends : (m : ℕ) → m < count p → (acts n (repostFrom (who (sender_at p m)) m)).number ≡ 0
+      → (acts (acts n (repostFrom (who (sender_at p m)) m)).after (arrivalAt (who (taker_at p m)) (length n.packets))).number ≡ 0
       → GoesFor acts n p who
 
 module _ (acts : Network → ProcessEvent → Answered Network) (start : Network) (events : List ProcessEvent) where
@@ -107,46 +107,46 @@ module _ (acts : Network → ProcessEvent → Answered Network) (start : Network
 
   pub record ByProcesses (p : Plan) (source : List ℕ) (role : Roles) : Type 0 where
     -- a process can start at any time: it has nothing then, and nothing else is changed
-    pub starts : (q : ℕ) → acts now (start_of q) ≡ record { number = 0; after = networkOf (replaced now.areas q (fresh p)) now.packets }
+    pub starts : (q : ℕ) → acts now (start_of q) ≡ record { number = 0; after = network_of (replaced now.areas q (fresh p)) now.packets }
     -- an event that is refused changes nothing
     pub refused : (e : ProcessEvent) → (acts now e).number ≢ 0 → (acts now e).after ≡ now
     -- and a packet that comes to a process of its taker where its message's status isn't 0, by whichever process it was posted, is refused
-    pub turned-away : (q k : ℕ) → k < length now.packets → takerAt p (packetAt now.packets k).message ≡ role q
-        → statusAt now.areas q (packetAt now.packets k).message ≢ 0 → (acts now (arrivalAt q k)).number ≡ 14
+    pub turned_away : (q k : ℕ) → k < length now.packets → taker_at p (packet_at now.packets k).message ≡ role q
+        → status_at now.areas q (packet_at now.packets k).message ≢ 0 → (acts now (arrivalAt q k)).number ≡ 14
     -- every packet ever posted, by whichever process, goes from one processor to another and has the sweep's words of its message's cells
     pub goes : (k : ℕ) → k < length now.packets
-        → ((packetAt now.packets k).message < count p)
-        × (senderAt p (packetAt now.packets k).message ≢ takerAt p (packetAt now.packets k).message)
+        → ((packet_at now.packets k).message < count p)
+        × (sender_at p (packet_at now.packets k).message ≢ taker_at p (packet_at now.packets k).message)
     pub carries : (k : ℕ) → k < length now.packets
-        → (packetAt now.packets k).words ≡ map (λ c. get_or (sweep p source) c 0) (heldBy p (packetAt now.packets k).message)
+        → (packet_at now.packets k).words ≡ map (λ c. get_or (sweep p source) c 0) (held_by p (packet_at now.packets k).message)
     -- so all processes of one processor say the same
-    pub same-words : (i k : ℕ) → i < length now.packets → k < length now.packets
-        → (packetAt now.packets i).message ≡ (packetAt now.packets k).message
-        → (packetAt now.packets i).words ≡ (packetAt now.packets k).words
+    pub same_words : (i k : ℕ) → i < length now.packets → k < length now.packets
+        → (packet_at now.packets i).message ≡ (packet_at now.packets k).message
+        → (packet_at now.packets i).words ≡ (packet_at now.packets k).words
     -- what a process has calculated, taken in, sent or received since its start, by its own record, stands there with the sweep's words
-    pub calculated : (q i c : ℕ) → i < length (tilesOf p (role q)) → Calculated (now.areas q) (role q) i
-        → In c (p.cells_of (get_or (tilesOf p (role q)) i 0)) → get_or (memoryOf p (now.areas q) (role q)) c 0 ≡ get_or (sweep p source) c 0
-    pub taken : (q i m c : ℕ) → i < length (tilesOf p (role q)) → Gathered (now.areas q) (role q) i
-        → m < count p → takerOf p m ≡ get_or (tilesOf p (role q)) i 0 → In c (heldBy p m)
-        → get_or (memoryOf p (now.areas q) (role q)) c 0 ≡ get_or (sweep p source) c 0
-    pub holds : (q m : ℕ) → m < count p → 1 ≤ statusAt now.areas q m
-        → place_of p (now.areas q).buffer m ≡ map (λ c. get_or (sweep p source) c 0) (heldBy p m)
+    pub calculated : (q i c : ℕ) → i < length (tiles_of p (role q)) → Calculated (now.areas q) (role q) i
+        → In c (p.cells_of (get_or (tiles_of p (role q)) i 0)) → get_or (memory_of p (now.areas q) (role q)) c 0 ≡ get_or (sweep p source) c 0
+    pub taken : (q i m c : ℕ) → i < length (tiles_of p (role q)) → Gathered (now.areas q) (role q) i
+        → m < count p → taker_of p m ≡ get_or (tiles_of p (role q)) i 0 → In c (held_by p m)
+        → get_or (memory_of p (now.areas q) (role q)) c 0 ≡ get_or (sweep p source) c 0
+    pub holds : (q m : ℕ) → m < count p → 1 ≤ status_at now.areas q m
+        → place_of p (now.areas q).buffer m ≡ map (λ c. get_or (sweep p source) c 0) (held_by p m)
     -- a process with no tiles left has the sweep's words of all its processor's cells, whatever the others have
-    pub part_right : (q c : ℕ) → tilesLeft p (now.areas q) (role q) ≡ false → c < p.cells → p.inside c ≡ true
-        → p.processorOf (p.tileOf c) ≡ role q → get_or (memoryOf p (now.areas q) (role q)) c 0 ≡ get_or (sweep p source) c 0
+    pub part_right : (q c : ℕ) → tiles_left p (now.areas q) (role q) ≡ false → c < p.cells → p.inside c ≡ true
+        → p.processor_of (p.tile_of c) ≡ role q → get_or (memory_of p (now.areas q) (role q)) c 0 ≡ get_or (sweep p source) c 0
     -- collecting from one process of each processor, any, gives 0 exactly when none of these has tiles left, and then the sequential sweep
-    pub can-collect : (who : ℕ → ℕ) → Chooses p role who → Finished p (areasOf now who) → (grid : List ℕ)
-        → (collectApart p (areasOf now who) grid).number ≡ 0
-    pub then-finished : (who : ℕ → ℕ) → Chooses p role who → (grid : List ℕ) → (collectApart p (areasOf now who) grid).number ≡ 0
-        → Finished p (areasOf now who)
-    pub grid : (who : ℕ → ℕ) → Chooses p role who → (old : List ℕ) → (collectApart p (areasOf now who) old).number ≡ 0
-        → (collectApart p (areasOf now who) old).after ≡ sweep p source
+    pub can_collect : (who : ℕ → ℕ) → Chooses p role who → Finished p (areas_of now who) → (grid : List ℕ)
+        → (collect_apart p (areas_of now who) grid).number ≡ 0
+    pub then_finished : (who : ℕ → ℕ) → Chooses p role who → (grid : List ℕ) → (collect_apart p (areas_of now who) grid).number ≡ 0
+        → Finished p (areas_of now who)
+    pub grid : (who : ℕ → ℕ) → Chooses p role who → (old : List ℕ) → (collect_apart p (areas_of now who) old).number ≡ 0
+        → (collect_apart p (areas_of now who) old).after ≡ sweep p source
     -- while one of them has tiles left, these alone can go on, whatever the others do and even if every packet posted so far is lost
-    pub goes_on : (who : ℕ → ℕ) → Chooses p role who → (b : ℕ) → b < p.processors → tilesLeft p (now.areas (who b)) b ≡ true → GoesFor acts now p who
+    pub goes_on : (who : ℕ → ℕ) → Chooses p role who → (b : ℕ) → b < p.processors → tiles_left p (now.areas (who b)) b ≡ true → GoesFor acts now p who
     -- whatever comes then: a process does no more than its processor's own work, and once more for each of its starts
     pub bounded : (q : ℕ) (then : List ProcessEvent)
-        → deedsBy q then (answers acts now then) ≤ workOf p (role q) + startsBy q then * workOf p (role q)
+        → deeds_by q then (answers acts now then) ≤ work_of p (role q) + starts_by q then * work_of p (role q)
 
 -- ---- of the machine
 abbrev pub MachineByProcesses : Plan → List ℕ → Roles → List ProcessEvent → Type 0
-MachineByProcesses p source role events = ByProcesses (actProcess p source role) (startNetwork p) events p source role
+MachineByProcesses p source role events = ByProcesses (act_process p source role) (start_network p) events p source role

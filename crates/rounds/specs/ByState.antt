@@ -3,44 +3,44 @@
 -- No sentence of document 02; the contracts of the code of a round cite it, and proofs/ByState proves that it is what a round's events do.
 use Rattle.std.specs.Prelude.{ℕ, zero, suc, ◌*◌, ◌<◌, ◌≡◌, Bool, List, [], length, get_or, eqb}
 use Rattle.base.specs.Tests.{◌and◌, pick, keep}
-use Rattle.base.specs.Lists.{setAll, allAt}
-use Rattle.machine.specs.Plan.{Plan, count, words, sendsOf, dues_of}
-use Rattle.machine.specs.Machine.{State, state_of, finishedOf, stageOf, sentOf, tilesLeft, currentTile, gather, calculate, send, carryOut}
+use Rattle.base.specs.Lists.{set_all, all_at}
+use Rattle.machine.specs.Plan.{Plan, count, words, sends_of, dues_of}
+use Rattle.machine.specs.Machine.{State, state_of, finished_of, stage_of, sent_of, tiles_left, current_tile, gather, calculate, send, carry_out}
 
 -- tile t's first j messages sent
-unfoldable pub sentTo : Plan → State → ℕ → ℕ → ℕ → State
-sentTo p s b t zero = s
-sentTo p s b t (suc j) = carryOut p [] (sentTo p s b t j) b (send (get_or (sendsOf p t) j 0))
+unfoldable pub sent_to : Plan → State → ℕ → ℕ → ℕ → State
+sent_to p s b t zero = s
+sent_to p s b t (suc j) = carry_out p [] (sent_to p s b t j) b (send (get_or (sends_of p t) j 0))
 
 -- it gathered and calculated
-abbrev pub calculatedTile : Plan → List ℕ → State → ℕ → ℕ → State
-calculatedTile p source s b t = carryOut p source (carryOut p [] s b (gather t)) b (calculate t)
+abbrev pub calculated_tile : Plan → List ℕ → State → ℕ → ℕ → State
+calculated_tile p source s b t = carry_out p source (carry_out p [] s b (gather t)) b (calculate t)
 
 -- the whole of it
-unfoldable pub tileDone : Plan → List ℕ → State → ℕ → ℕ → State
-tileDone p source s b t = sentTo p (calculatedTile p source s b t) b t (length (sendsOf p t))
+unfoldable pub tile_done : Plan → List ℕ → State → ℕ → ℕ → State
+tile_done p source s b t = sent_to p (calculated_tile p source s b t) b t (length (sends_of p t))
 
 -- at stage 0 processor b has tiles left, and the mail of the next is there
-unfoldable pub mayGather : Plan → State → ℕ → Bool
-mayGather p s b = tilesLeft p s b and allAt s.status 2 (dues_of p (currentTile p s b))
+unfoldable pub may_gather : Plan → State → ℕ → Bool
+may_gather p s b = tiles_left p s b and all_at s.status 2 (dues_of p (current_tile p s b))
 
-unfoldable pub afterTile : Plan → List ℕ → State → ℕ → State
-afterTile p source s b = pick (mayGather p s b) (tileDone p source s b (currentTile p s b)) s
+unfoldable pub after_tile : Plan → List ℕ → State → ℕ → State
+after_tile p source s b = pick (may_gather p s b) (tile_done p source s b (current_tile p s b)) s
 
 -- the marks once all mail in flight is delivered
 unfoldable pub delivered : List ℕ → List ℕ
-delivered status = setAll status (keep (λ m. eqb (get_or status m 0) 1) (length status)) 2
+delivered status = set_all status (keep (λ m. eqb (get_or status m 0) 1) (length status)) 2
 
-abbrev pub withMail : State → State
-withMail s = state_of s.memories s.buffer s.progress (delivered s.status)
+abbrev pub with_mail : State → State
+with_mail s = state_of s.memories s.buffer s.progress (delivered s.status)
 
 -- each of the first n processors, when its place comes
-unfoldable pub afterTiles : Plan → List ℕ → State → ℕ → State
-afterTiles p source s zero = s
-afterTiles p source s (suc n) = afterTile p source (afterTiles p source s n) n
+unfoldable pub after_tiles : Plan → List ℕ → State → ℕ → State
+after_tiles p source s zero = s
+after_tiles p source s (suc n) = after_tile p source (after_tiles p source s n) n
 
-unfoldable pub afterRound : Plan → List ℕ → State → State
-afterRound p source s = withMail (afterTiles p source s p.processors)
+unfoldable pub after_round : Plan → List ℕ → State → State
+after_round p source s = with_mail (after_tiles p source s p.processors)
 
 -- each lent area but the source has exactly its length
 pub record PlanAreas (p : Plan) (s : State) : Type 0 where
@@ -52,6 +52,6 @@ pub record PlanAreas (p : Plan) (s : State) : Type 0 where
 -- processor b, with f tiles finished, has sent j messages of tile t: where there are more, its record says so
 pub record Sending (p : Plan) (b t f j : ℕ) (s : State) : Type 0 where
   pub long : length s.progress ≡ 3 * p.processors
-  pub finished : j < length (sendsOf p t) → finishedOf s b ≡ f
-  pub stage : j < length (sendsOf p t) → stageOf s b ≡ 2
-  pub sent : j < length (sendsOf p t) → sentOf s b ≡ j
+  pub finished : j < length (sends_of p t) → finished_of s b ≡ f
+  pub stage : j < length (sends_of p t) → stage_of s b ≡ 2
+  pub sent : j < length (sends_of p t) → sent_of s b ≡ j

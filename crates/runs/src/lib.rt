@@ -1,6 +1,6 @@
 // Rows by runs: where each distance reaches in a row; the pieces of a row, the cells reached counted piece by piece.
 ghost use Rattle.std.specs.Prelude.{◌≡◌, ◌⊎◌, ℕ, ◌+◌, ◌≤◌, ◌<◌, length};
-ghost use Rattle.runs.specs.Runs.{hitRow, AheadIs, PieceIs};
+ghost use Rattle.runs.specs.Runs.{hit_row, AheadIs, PieceIs};
 
 pub mod row_words; // row_words.rt: the words of a row's cells that lie in a run, packed and unpacked piece by piece
 pub mod listed; // listed.rt: cells side by side as a list of their numbers
@@ -95,7 +95,7 @@ pub fn count_row(
     width: usize,
 ) -> usize
     requires { (n ≤ 8) × (component + width ≤ 1024) }
-    ensures { ((c : ℕ) → result ≡ length (hitRow starts.now ends.now n c component width)) × (result ≤ width) }
+    ensures { ((c : ℕ) → result ≡ length (hit_row starts.now ends.now n c component width)) × (result ≤ width) }
 {
     let to = component + width;
     let mut at = component;

@@ -6,28 +6,28 @@ use Rattle.base.specs.Lists.{Bytes}
 use Rattle.base.specs.Numbers.{first_of}
 use Rattle.machine.specs.Machine as machine
 use Rattle.machine.specs.Machine.{State}
-use Rattle.nest.specs.Reader.{readLines}
-use Rattle.rounds.specs.Rounds.{Told, told, drive, rounds, roundsTo, tileRound, roundsFrom, RoundsHold, stateThen}
-use Rattle.engine.specs.Calls.{recipe, freshCallLines, freshCall, collectCall}
+use Rattle.nest.specs.Reader.{read_lines}
+use Rattle.rounds.specs.Rounds.{Told, told, drive, rounds, rounds_to, tile_round, roundsFrom, RoundsHold, stateThen}
+use Rattle.engine.specs.Calls.{recipe, fresh_call_lines, fresh_call, collect_call}
 use Rattle.engine.specs.Demands.{Fixed, calls}
-use Rattle.schedule.specs.Calls.{roundsCall, roundsOfLines, roundsOfCall}
+use Rattle.schedule.specs.Calls.{rounds_call, rounds_of_lines, rounds_of_call}
 
 pub record Demand213 : Type 0 where
   -- either call gives the number of its first true line; it does its work, or leaves every lent word as before, and the rounds told are 0
   pub run : (bytes source : List ℕ) (s : State)
-      → Fixed (roundsCall bytes source s) (freshCallLines bytes 0 source s)
+      → Fixed (rounds_call bytes source s) (fresh_call_lines bytes 0 source s)
       (drive (calls bytes 0 source) (recipe bytes 0) (recipe bytes 0).tiles 0 (machine.fresh (recipe bytes 0))) (told 0 s)
-  pub rounds-of : (bytes area : List ℕ)
-      → Fixed (roundsOfCall bytes area) (roundsOfLines bytes area) (roundsTo (recipe bytes 0) (recipe bytes 0).tiles) area
+  pub rounds_of : (bytes area : List ℕ)
+      → Fixed (rounds_of_call bytes area) (rounds_of_lines bytes area) (rounds_to (recipe bytes 0) (recipe bytes 0).tiles) area
   -- it refuses as a fresh start does
-  pub as-fresh : (bytes source : List ℕ) (s : State) → (roundsCall bytes source s).number ≡ (freshCall bytes 0 source s).number
+  pub as_fresh : (bytes source : List ℕ) (s : State) → (rounds_call bytes source s).number ≡ (fresh_call bytes 0 source s).number
   -- the driver tells the greatest round of a tile, and the areas are those after so many rounds of calls
-  pub tells : (bytes source : List ℕ) (s : State) → Bytes bytes → (roundsCall bytes source s).number ≡ 0
-      → (roundsCall bytes source s).after
-      ≡ told (rounds (recipe bytes 0)) (stateThen (calls bytes 0 source) (collectCall bytes 0 source) (recipe bytes 0) source (rounds (recipe bytes 0)))
+  pub tells : (bytes source : List ℕ) (s : State) → Bytes bytes → (rounds_call bytes source s).number ≡ 0
+      → (rounds_call bytes source s).after
+      ≡ told (rounds (recipe bytes 0)) (stateThen (calls bytes 0 source) (collect_call bytes 0 source) (recipe bytes 0) source (rounds (recipe bytes 0)))
   -- all that is said of rounds holds of the calls
-  pub by-rounds : (bytes source : List ℕ) (s : State) → Bytes bytes → (roundsCall bytes source s).number ≡ 0
-      → RoundsHold (calls bytes 0 source) (collectCall bytes 0 source) (recipe bytes 0) source
+  pub by_rounds : (bytes source : List ℕ) (s : State) → Bytes bytes → (rounds_call bytes source s).number ≡ 0
+      → RoundsHold (calls bytes 0 source) (collect_call bytes 0 source) (recipe bytes 0) source
   -- the word of a tile is its round
-  pub round-of : (bytes area : List ℕ) → (roundsOfCall bytes area).number ≡ 0
-      → (t : ℕ) → t < (recipe bytes 0).tiles → slice_index (roundsOfCall bytes area).after t ≡ tileRound (recipe bytes 0) t
+  pub round_of : (bytes area : List ℕ) → (rounds_of_call bytes area).number ≡ 0
+      → (t : ℕ) → t < (recipe bytes 0).tiles → slice_index (rounds_of_call bytes area).after t ≡ tile_round (recipe bytes 0) t

@@ -3,15 +3,15 @@
 -- No sentence of document 02.
 use Rattle.core.specs.Prelude.{◌≡◌, ℕ, ◌<◌, ◌≤◌, List, [], ◌∷◌, map, length, ◌==◌, slice_index}
 use Rattle.base.specs.Tests.{pick, those}
-use Rattle.base.specs.Lists.{put, pack, setAll, storeAll}
-use Rattle.machine.specs.Plan.{Plan, count, offset, heldBy, sendsOf, dues_of}
-use Rattle.machine.specs.Machine.{unpackAll}
+use Rattle.base.specs.Lists.{put, pack, set_all, store_all}
+use Rattle.machine.specs.Plan.{Plan, count, offset, held_by, sends_of, dues_of}
+use Rattle.machine.specs.Machine.{unpack_all}
 use Rattle.nest.specs.declared.Nest.{Nest}
 use Rattle.plan.specs.Shaped.{plan_of}
 use Rattle.layout.specs.declared.Sizes.{Sizes}
 use Rattle.tables.specs.boxes.Table.{end_of}
 use Rattle.tables.specs.Tables.{Planned}
-use Rattle.rounds.specs.Rounds.{greatest, last_of, tileRound}
+use Rattle.rounds.specs.Rounds.{greatest, last_of, tile_round}
 use Rattle.schedule.specs.Index.{Listed, Chained}
 
 -- the chain of the messages by the tile at an end, beside a mark for each
@@ -24,15 +24,15 @@ pub record Mailed (x : Nest) (z : Sizes) (side : ℕ) (chain status : List ℕ) 
 pub record Indexed (x : Nest) (z : Sizes) (lens spots sends dues : List ℕ) : Type 0 where
   pub planned : Planned x z lens
   pub listed : Listed z.route x lens spots
-  pub bySender : Chained (end_of 0 (plan_of z.route x)) (count (plan_of z.route x)) sends
-  pub byTaker : Chained (end_of 1 (plan_of z.route x)) (count (plan_of z.route x)) dues
+  pub by_sender : Chained (end_of 0 (plan_of z.route x)) (count (plan_of z.route x)) sends
+  pub by_taker : Chained (end_of 1 (plan_of z.route x)) (count (plan_of z.route x)) dues
   pub few : count (plan_of z.route x) ≤ 7168
 
 -- the n messages listed, and chained by their takers
 pub record Dued (x : Nest) (z : Sizes) (lens spots dues : List ℕ) (n : ℕ) : Type 0 where
   pub planned : Planned x z lens
   pub listed : Listed z.route x lens spots
-  pub byTaker : Chained (end_of 1 (plan_of z.route x)) (count (plan_of z.route x)) dues
+  pub by_taker : Chained (end_of 1 (plan_of z.route x)) (count (plan_of z.route x)) dues
   pub all : n ≡ count (plan_of z.route x)
 
 -- ---- what a whole tile leaves
@@ -40,19 +40,19 @@ pub record Dued (x : Nest) (z : Sizes) (lens spots dues : List ℕ) (n : ℕ) : 
 -- the buffer with messages packed from a memory, one after the other
 unfoldable pub put_all : Plan → List ℕ → List ℕ → List ℕ → List ℕ
 put_all p memory buffer [] = buffer
-put_all p memory buffer (m ∷ ms) = put_all p memory (put buffer (offset p.messages m) (pack memory (heldBy p m))) ms
+put_all p memory buffer (m ∷ ms) = put_all p memory (put buffer (offset p.messages m) (pack memory (held_by p m))) ms
 
 -- its processor's memory, gathered and calculated
-abbrev pub memoryThen : Plan → List ℕ → List ℕ → List ℕ → ℕ → List ℕ
-memoryThen p source buffer memory t = storeAll (p.value source) (unpackAll p buffer memory (dues_of p t)) (p.cells_of t)
+abbrev pub memory_then : Plan → List ℕ → List ℕ → List ℕ → ℕ → List ℕ
+memory_then p source buffer memory t = store_all (p.value source) (unpack_all p buffer memory (dues_of p t)) (p.cells_of t)
 
 -- the marks: what was due is taken, what it sends is in flight
-abbrev pub statusThen : Plan → List ℕ → ℕ → List ℕ
-statusThen p status t = setAll (setAll status (dues_of p t) 3) (sendsOf p t) 1
+abbrev pub status_then : Plan → List ℕ → ℕ → List ℕ
+status_then p status t = set_all (set_all status (dues_of p t) 3) (sends_of p t) 1
 
 -- a mark once mail in flight is delivered
-unfoldable pub markThen : ℕ → ℕ
-markThen m = pick (m == 1) 2 m
+unfoldable pub mark_then : ℕ → ℕ
+mark_then m = pick (m == 1) 2 m
 
 -- ---- each tile's round
 
@@ -60,11 +60,11 @@ markThen m = pick (m == 1) 2 m
 pub record TellsTo (p : Plan) (table : List ℕ) (t : ℕ) : Type 0 where
   pub long : length table ≡ p.tiles
   pub low : t ≤ p.tiles
-  pub each : (u : ℕ) → u < t → slice_index table u ≡ tileRound p u
+  pub each : (u : ℕ) → u < t → slice_index table u ≡ tile_round p u
 
 -- the round of processor b's last tile before t, 0 where it has none
-unfoldable pub lastBefore : Plan → ℕ → ℕ → ℕ
-lastBefore p b t = greatest (map (tileRound p) (last_of (those p.processorOf b t)))
+unfoldable pub last_before : Plan → ℕ → ℕ → ℕ
+last_before p b t = greatest (map (tile_round p) (last_of (those p.processor_of b t)))
 
 pub record Lasts (p : Plan) (lasts : List ℕ) (t : ℕ) : Type 0 where
-  pub each : (b : ℕ) → b < p.processors → slice_index lasts b ≡ lastBefore p b t
+  pub each : (b : ℕ) → b < p.processors → slice_index lasts b ≡ last_before p b t

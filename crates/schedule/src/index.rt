@@ -2,13 +2,13 @@
 // the other. `spots` has the slot of message m at m and its offset at 7168 + m. A chain has at 7168 + t the first message with tile t at
 // an end, and at m the next one with the same tile there; as many as there are messages stands for none.
 ghost use Rattle.core.specs.Prelude.{◌≡◌, ℕ, suc, ◌+◌, ◌<◌, ◌≤◌, length, get_or, slice_index, slice_index_or, slice_set};
-ghost use Rattle.base.proofs.Select.{rankIn};
+ghost use Rattle.base.proofs.Select.{rank_in};
 ghost use Rattle.machine.specs.Plan.{Message, count};
-ghost use Rattle.plan.specs.Messages.{messagesOf};
+ghost use Rattle.plan.specs.Messages.{messages_of};
 ghost use Rattle.plan.specs.Shaped.{plan_of};
 ghost use Rattle.layout.specs.Sizes.{Stepped};
 ghost use Rattle.tables.specs.scans.Scans.{Sheet, Lengths, Found};
-ghost use Rattle.tables.specs.boxes.Table.{end_of, atEnd};
+ghost use Rattle.tables.specs.boxes.Table.{end_of, at_end};
 ghost use Rattle.tables.specs.Tables.{FoundIn, Planned};
 ghost use Rattle.schedule.specs.Index.{spot_of, Listed, Chained};
 
@@ -23,7 +23,7 @@ use tables::{TABLE_WORDS, tiles_of};
 fn list_spots(lens: &[u16; TABLE_WORDS], slots: usize, spots: &mut [u32; SPOT_WORDS]) -> usize
     requires { Sheet lens.now slots × (length spots.old ≡ 14336) }
     ensures { (length spots.new ≡ 14336) × ((result ≤ slots) × ((f : ℕ → Message) → Lengths f slots lens.now
-        → (result ≡ length (messagesOf f slots))
+        → (result ≡ length (messages_of f slots))
         × ((m : ℕ) → m < result → Found f slots m (spot_of lens.now spots.new m)))) }
 {
     let mut slot = 0;
@@ -154,7 +154,7 @@ pub fn first(
     side: usize,
 ) -> usize
     requires { Chained (end_of side (plan_of sizes.route nest)) (count (plan_of sizes.route nest)) chain.now × (tile < 1024) }
-    ensures { result ≡ slice_index_or (atEnd side (plan_of sizes.route nest) tile) 0 (count (plan_of sizes.route nest)) }
+    ensures { result ≡ slice_index_or (at_end side (plan_of sizes.route nest) tile) 0 (count (plan_of sizes.route nest)) }
 {
     half_index(chain[MOST_MESSAGES + tile])
 }
@@ -170,7 +170,7 @@ pub fn next(
 ) -> usize
     requires { Chained (end_of side (plan_of sizes.route nest)) (count (plan_of sizes.route nest)) chain.now
         × ((m < count (plan_of sizes.route nest)) × ((m < 7168) × (end_of side (plan_of sizes.route nest) m ≡ tile))) }
-    ensures { result ≡ get_or (atEnd side (plan_of sizes.route nest) tile) (suc (rankIn (end_of side (plan_of sizes.route nest)) m))
+    ensures { result ≡ get_or (at_end side (plan_of sizes.route nest) tile) (suc (rank_in (end_of side (plan_of sizes.route nest)) m))
         (count (plan_of sizes.route nest)) }
 {
     half_index(chain[m])

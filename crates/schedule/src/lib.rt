@@ -1,18 +1,18 @@
 // The driver by rounds: in a round every processor that could gather does its whole tile, then all mail in flight is delivered. The nest's
 // table is made once, and a processor is tested when its place comes, which changes nothing (rounds/proofs/AsItGoes).
 ghost use Rattle.core.specs.Prelude.{◌≡◌, ◌*◌, ◌<◌, length};
-ghost use Rattle.base.specs.Lists.{setAll, allAt};
-ghost use Rattle.machine.specs.Plan.{count, words, senderOf, sendsOf, dues_of};
-ghost use Rattle.machine.specs.Machine.{state_of, unpackAll, fresh};
+ghost use Rattle.base.specs.Lists.{set_all, all_at};
+ghost use Rattle.machine.specs.Plan.{count, words, sender_of, sends_of, dues_of};
+ghost use Rattle.machine.specs.Machine.{state_of, unpack_all, fresh};
 ghost use Rattle.nest.specs.Nest.{cells, processors};
 ghost use Rattle.plan.specs.Shaped.{plan_of};
 ghost use Rattle.tables.specs.Tables.{FoundIn, Planned};
-ghost use Rattle.rounds.specs.ByState.{PlanAreas, afterTile, delivered, afterRound};
-ghost use Rattle.rounds.specs.Rounds.{told, rounds, afterRounds, tileRound, roundsTo};
+ghost use Rattle.rounds.specs.ByState.{PlanAreas, after_tile, delivered, after_round};
+ghost use Rattle.rounds.specs.Rounds.{told, rounds, afterRounds, tile_round, rounds_to};
 ghost use Rattle.engine.specs.Calls.{answer};
 ghost use Rattle.schedule.specs.Index.{Listed};
-ghost use Rattle.schedule.specs.Given.{Mailed, Indexed, Dued, put_all, memoryThen, statusThen, markThen, TellsTo, lastBefore};
-ghost use Rattle.schedule.specs.Calls.{roundsCall, roundsOfCall};
+ghost use Rattle.schedule.specs.Given.{Mailed, Indexed, Dued, put_all, memory_then, status_then, mark_then, TellsTo, last_before};
+ghost use Rattle.schedule.specs.Calls.{rounds_call, rounds_of_call};
 
 pub mod index; // index.rt: the messages of a plan by number and by tile
 
@@ -37,7 +37,7 @@ pub const SPOT_WORDS: usize = 14336;
 // All messages due at the tile are delivered.
 fn ready(nest: Nest, sizes: Sizes, dues: &[u16; CHAIN_WORDS], status: &[u8], t: usize) -> bool
     requires { Mailed nest sizes 1 dues.now status.now × (t < 1024) }
-    ensures { result ≡ allAt status.now 2 (dues_of (plan_of sizes.route nest) t) }
+    ensures { result ≡ all_at status.now 2 (dues_of (plan_of sizes.route nest) t) }
 {
     let mut m = first(nest, sizes, dues, t, 1);
     while m < status.len() {
@@ -65,8 +65,8 @@ fn gather(
     requires mailed { Mailed nest sizes 1 dues.now status.old × (t < 1024) }
     requires memory_len { (length memory.old ≡ cells nest) × (length buffer.now ≡ words (plan_of sizes.route nest)) }
     ensures { (memory.new
-        ≡ unpackAll (plan_of sizes.route nest) buffer.now memory.old (dues_of (plan_of sizes.route nest) t))
-        × (status.new ≡ setAll status.old (dues_of (plan_of sizes.route nest) t) 3) }
+        ≡ unpack_all (plan_of sizes.route nest) buffer.now memory.old (dues_of (plan_of sizes.route nest) t))
+        × (status.new ≡ set_all status.old (dues_of (plan_of sizes.route nest) t) 3) }
 {
     let mut m = first(nest, sizes, dues, t, 1);
     while m < status.len() {
@@ -93,8 +93,8 @@ fn send(
     requires mailed { Mailed nest sizes 0 sends.now status.old × (t < 1024) }
     requires memory_len { (length memory.now ≡ cells nest) × (length buffer.old ≡ words (plan_of sizes.route nest)) }
     ensures { (buffer.new
-        ≡ put_all (plan_of sizes.route nest) memory.now buffer.old (sendsOf (plan_of sizes.route nest) t))
-        × (status.new ≡ setAll status.old (sendsOf (plan_of sizes.route nest) t) 1) }
+        ≡ put_all (plan_of sizes.route nest) memory.now buffer.old (sends_of (plan_of sizes.route nest) t))
+        × (status.new ≡ set_all status.old (sends_of (plan_of sizes.route nest) t) 1) }
 {
     let mut m = first(nest, sizes, sends, t, 0);
     while m < status.len() {
@@ -122,9 +122,9 @@ fn whole_tile(
     requires indexed { Indexed nest sizes lens.now spots.now sends.now dues.now × (t < (plan_of sizes.route nest).tiles) }
     requires source_len { (length source.now ≡ cells nest) × (length memory.old ≡ cells nest) }
     requires buffer_len { (length buffer.old ≡ words (plan_of sizes.route nest)) × (length status.old ≡ count (plan_of sizes.route nest)) }
-    ensures { (memory.new ≡ memoryThen (plan_of sizes.route nest) source.now buffer.old memory.old t)
-        × ((buffer.new ≡ put_all (plan_of sizes.route nest) memory.new buffer.old (sendsOf (plan_of sizes.route nest) t))
-        × (status.new ≡ statusThen (plan_of sizes.route nest) status.old t)) }
+    ensures { (memory.new ≡ memory_then (plan_of sizes.route nest) source.now buffer.old memory.old t)
+        × ((buffer.new ≡ put_all (plan_of sizes.route nest) memory.new buffer.old (sends_of (plan_of sizes.route nest) t))
+        × (status.new ≡ status_then (plan_of sizes.route nest) status.old t)) }
 {
     gather(nest, sizes, lens, spots, dues, memory, buffer, status, t);
     calculate(nest, sizes, lens, source, memory, t);
@@ -149,7 +149,7 @@ fn next_tile(
     requires indexed { Indexed nest sizes lens.now spots.now sends.now dues.now × ((length source.now ≡ cells nest) × (b < processors nest)) }
     requires plan_areas { PlanAreas (plan_of sizes.route nest) (state_of memories.old buffer.old progress.old status.old) }
     ensures { state_of memories.new buffer.new progress.new status.new
-        ≡ afterTile (plan_of sizes.route nest) source.now
+        ≡ after_tile (plan_of sizes.route nest) source.now
         (state_of memories.old buffer.old progress.old status.old) b }
 {
     let finished = progress[3 * b];
@@ -188,7 +188,7 @@ fn next_tile(
 
 // A mark once its mail is delivered.
 fn mark_then(mark: u8) -> u8
-    ensures { result ≡ markThen mark }
+    ensures { result ≡ mark_then mark }
 {
     if mark == 1 { 2 } else { mark }
 }
@@ -221,7 +221,7 @@ fn round(
     requires indexed { Indexed nest sizes lens.now spots.now sends.now dues.now × (length source.now ≡ cells nest) }
     requires plan_areas { PlanAreas (plan_of sizes.route nest) (state_of memories.old buffer.old progress.old status.old) }
     ensures { state_of memories.new buffer.new progress.new status.new
-        ≡ afterRound (plan_of sizes.route nest) source.now
+        ≡ after_round (plan_of sizes.route nest) source.now
         (state_of memories.old buffer.old progress.old status.old) }
 {
     let n = sizes.processors;
@@ -320,7 +320,7 @@ pub fn run(
     status: &mut [u8],
 ) -> Driven
     ensures { answer result.number (told result.rounds (state_of memories.new buffer.new progress.new status.new))
-        ≡ roundsCall encoded.now source.now
+        ≡ rounds_call encoded.now source.now
         (state_of memories.old buffer.old progress.old status.old) }
 {
     let mut lens = [0u16; TABLE_WORDS];
@@ -359,7 +359,7 @@ pub fn run(
 // A tile's processor.
 fn processor_at(nest: Nest, sizes: Sizes, lens: &[u16; TABLE_WORDS], tile: usize) -> usize
     requires { Planned nest sizes lens.now × (tile < (plan_of sizes.route nest).tiles) }
-    ensures { (result ≡ (plan_of sizes.route nest).processorOf tile) × (result < processors nest) }
+    ensures { (result ≡ (plan_of sizes.route nest).processor_of tile) × (result < processors nest) }
 {
     if nest.bounds == 0 {
         return layout::processor_of(nest, sizes, tile);
@@ -370,7 +370,7 @@ fn processor_at(nest: Nest, sizes: Sizes, lens: &[u16; TABLE_WORDS], tile: usize
 // The tile that sends a message.
 fn sender_at(nest: Nest, sizes: Sizes, lens: &[u16; TABLE_WORDS], place: MessageSlot) -> usize
     requires { Planned nest sizes lens.now × FoundIn sizes.route nest place.number place }
-    ensures { result ≡ senderOf (plan_of sizes.route nest) place.number }
+    ensures { result ≡ sender_of (plan_of sizes.route nest) place.number }
 {
     place.slot / sizes.ways
 }
@@ -389,8 +389,8 @@ fn round_at(
 ) -> u32
     requires dued { Dued nest sizes lens.now spots.now dues.now messages × (tile < (plan_of sizes.route nest).tiles) }
     requires tells_to { TellsTo (plan_of sizes.route nest) rounds.now tile
-        × (last ≡ lastBefore (plan_of sizes.route nest) ((plan_of sizes.route nest).processorOf tile) tile) }
-    ensures { result ≡ tileRound (plan_of sizes.route nest) tile }
+        × (last ≡ last_before (plan_of sizes.route nest) ((plan_of sizes.route nest).processor_of tile) tile) }
+    ensures { result ≡ tile_round (plan_of sizes.route nest) tile }
 {
     let mut latest = last;
     let mut m = first(nest, sizes, dues, tile, 1);
@@ -417,7 +417,7 @@ fn tell_by(
     rounds: &mut [u32],
 )
     requires { Dued nest sizes lens.now spots.now dues.now messages × (length rounds.old ≡ (plan_of sizes.route nest).tiles) }
-    ensures { rounds.new ≡ roundsTo (plan_of sizes.route nest) (plan_of sizes.route nest).tiles }
+    ensures { rounds.new ≡ rounds_to (plan_of sizes.route nest) (plan_of sizes.route nest).tiles }
 {
     let mut lasts = [0u32; 64];
     let mut tile = 0;
@@ -435,7 +435,7 @@ fn tell_by(
 // Each tile's round. The messages are listed, and chained by their takers, once.
 fn tell_rounds(nest: Nest, sizes: Sizes, lens: &[u16; TABLE_WORDS], rounds: &mut [u32])
     requires { Planned nest sizes lens.now × (length rounds.old ≡ (plan_of sizes.route nest).tiles) }
-    ensures { rounds.new ≡ roundsTo (plan_of sizes.route nest) (plan_of sizes.route nest).tiles }
+    ensures { rounds.new ≡ rounds_to (plan_of sizes.route nest) (plan_of sizes.route nest).tiles }
 {
     let mut spots = [0u32; SPOT_WORDS];
     let messages = list(nest, sizes, lens, &mut spots);
@@ -446,7 +446,7 @@ fn tell_rounds(nest: Nest, sizes: Sizes, lens: &[u16; TABLE_WORDS], rounds: &mut
 
 // Each tile's round, told into one word a tile.
 pub fn rounds_of(encoded: &[u8], rounds: &mut [u32]) -> u32
-    ensures { answer result rounds.new ≡ roundsOfCall encoded.now rounds.old }
+    ensures { answer result rounds.new ≡ rounds_of_call encoded.now rounds.old }
 {
     let mut lens = [0u16; TABLE_WORDS];
     let direct = open(encoded, 0, &mut lens);

@@ -5,10 +5,10 @@ use Rattle.core.specs.Prelude.{◌≡◌, ℕ, ◌*◌, List, [], ◌∷◌, ◌
 use Rattle.base.specs.Tests.{not, pick}
 use Rattle.base.specs.Numbers.{Line, line}
 use Rattle.machine.specs.Plan.{Plan}
-use Rattle.tenants.specs.Tenants.{TenantAreas, word_for, fitFor, heldByOther}
+use Rattle.tenants.specs.Tenants.{TenantAreas, word_for, fit_for, held_by_other}
 use Rattle.engine.specs.Given.{AreaLengths}
 use Rattle.engine.specs.declared.core.Turned.{Turned}
-use Rattle.sharing.specs.Calls.{areaLinesFor}
+use Rattle.sharing.specs.Calls.{area_lines_for}
 
 -- all that is lent has its length
 pub record LengthsFor (p : Plan) (source : List ℕ) (l : TenantAreas) (others : List ℕ) : Type 0 where
@@ -17,15 +17,15 @@ pub record LengthsFor (p : Plan) (source : List ℕ) (l : TenantAreas) (others :
   pub theirs : length others ≡ 3 * p.processors
 
 -- lines 9, 11 for the tenant, and 10, which a turn, a delivery and collecting share
-abbrev pub unfitLinesFor : Plan → List ℕ → ℕ → TenantAreas → List ℕ → List Line
-unfitLinesFor p source o l theirs =
-    areaLinesFor p source l theirs ++ (line 11 (not (nat_le o 1)) ∷ line 10 (not (fitFor p o l theirs)) ∷ [])
+abbrev pub unfit_lines_for : Plan → List ℕ → ℕ → TenantAreas → List ℕ → List Line
+unfit_lines_for p source o l theirs =
+    area_lines_for p source l theirs ++ (line 11 (not (nat_le o 1)) ∷ line 10 (not (fit_for p o l theirs)) ∷ [])
 
 -- and those of a turn up to the machine's: no such processor, held by the other tenant
-abbrev pub barredLinesFor : Plan → List ℕ → ℕ → TenantAreas → List ℕ → ℕ → List Line
-barredLinesFor p source o l theirs b =
-    unfitLinesFor p source o l theirs ++ (line 11 (not (nat_lt b p.processors)) ∷ line 19 (heldByOther p o l b) ∷ [])
+abbrev pub barred_lines_for : Plan → List ℕ → ℕ → TenantAreas → List ℕ → ℕ → List Line
+barred_lines_for p source o l theirs b =
+    unfit_lines_for p source o l theirs ++ (line 11 (not (nat_lt b p.processors)) ∷ line 19 (held_by_other p o l b) ∷ [])
 
 -- the shared words after a turn of processor b for tenant o that gave r
-unfoldable pub wordsAfter : List ℕ → ℕ → ℕ → Turned → List ℕ
-wordsAfter engaged o b r = pick (r.number == 0) (slice_set engaged b (word_for o r.progress.stage)) engaged
+unfoldable pub words_after : List ℕ → ℕ → ℕ → Turned → List ℕ
+words_after engaged o b r = pick (r.number == 0) (slice_set engaged b (word_for o r.progress.stage)) engaged

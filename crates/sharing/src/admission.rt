@@ -4,15 +4,15 @@ ghost use Rattle.core.specs.Prelude.{◌≡◌, ℕ, ◌+◌, ◌*◌, ◌<◌, 
 ghost use Rattle.base.specs.Tests.{every};
 ghost use Rattle.base.specs.Numbers.{first_of};
 ghost use Rattle.machine.specs.Plan.{count};
-ghost use Rattle.machine.specs.Machine.{state_of, progressOnly};
+ghost use Rattle.machine.specs.Machine.{state_of, progress_only};
 ghost use Rattle.plan.specs.Shaped.{plan_of};
 ghost use Rattle.nest.specs.Nest.{processors};
 ghost use Rattle.layout.specs.Sizes.{Sized};
 ghost use Rattle.tables.specs.Tables.{Tabled};
 ghost use Rattle.records.specs.Records.{Flattens};
-ghost use Rattle.tenants.specs.Tenants.{otherThan, tenantAreas, sharingOf, sourcesOf, stageAgrees, fitWord, fitFor, heldByOther};
-ghost use Rattle.sharing.specs.Calls.{freshSharingLines};
-ghost use Rattle.sharing.specs.Given.{unfitLinesFor, barredLinesFor};
+ghost use Rattle.tenants.specs.Tenants.{other_than, tenant_areas, sharing_of, sources_of, stage_agrees, fit_word, fit_for, held_by_other};
+ghost use Rattle.sharing.specs.Calls.{fresh_sharing_lines};
+ghost use Rattle.sharing.specs.Given.{unfit_lines_for, barred_lines_for};
 
 use base::refusals;
 use engine::core::areas_fit;
@@ -25,7 +25,7 @@ use tables::{TABLE_WORDS, tile_count};
 
 // The stage of the tenant that holds the processor is 1 or 2, any other's is 0.
 fn stage_agrees(holder: u32, tenant: u32, stage: u32) -> bool
-    ensures { result ≡ stageAgrees holder tenant stage }
+    ensures { result ≡ stage_agrees holder tenant stage }
 {
     if holder == tenant {
         if stage == 1 {
@@ -39,7 +39,7 @@ fn stage_agrees(holder: u32, tenant: u32, stage: u32) -> bool
 // Of tenants 0 and 1, the one that is not `tenant`.
 fn other(tenant: u32) -> u32
     requires { tenant ≤ 1 }
-    ensures { result ≡ otherThan tenant }
+    ensures { result ≡ other_than tenant }
 {
     1 - tenant
 }
@@ -47,8 +47,8 @@ fn other(tenant: u32) -> u32
 // Every processor's shared word is 0, 1 or 2 and agrees with both tenants' stages.
 fn fit_words(engaged: &[u32], progress: &[u32], theirs: &[u32], tenant: u32) -> bool
     requires { (length progress.now ≡ 3 * length engaged.now) × ((length theirs.now ≡ 3 * length engaged.now) × (tenant ≤ 1)) }
-    ensures { result ≡ every (fitWord tenant
-        (tenantAreas (progressOnly progress.now) engaged.now) theirs.now) (length engaged.now) }
+    ensures { result ≡ every (fit_word tenant
+        (tenant_areas (progress_only progress.now) engaged.now) theirs.now) (length engaged.now) }
 {
     let second = other(tenant);
     let mut b = 0;
@@ -82,8 +82,8 @@ fn fit_sharing(
     requires sized { Sized nest sizes × Tabled nest sizes lens.now }
     requires progress_len { (length progress.now ≡ 3 * processors nest) × (length status.now ≡ count (plan_of sizes.route nest)) }
     requires engaged_len { (length engaged.now ≡ processors nest) × ((length theirs.now ≡ 3 * processors nest) × (tenant ≤ 1)) }
-    ensures { result ≡ fitFor (plan_of sizes.route nest) tenant
-        (tenantAreas (state_of [] [] progress.now status.now) engaged.now) theirs.now }
+    ensures { result ≡ fit_for (plan_of sizes.route nest) tenant
+        (tenant_areas (state_of [] [] progress.now status.now) engaged.now) theirs.now }
 {
     if !fit_records(nest, sizes, lens, progress) {
         return false;
@@ -114,8 +114,8 @@ pub fn refusal_of_areas(
     requires sized { Sized nest sizes × Tabled nest sizes lens.now }
     requires words_len { (length progress.words ≡ 192) × (length theirs.words ≡ 192) }
     ensures { ((records others : List ℕ) → Flattens progress records → Flattens theirs others
-        → result ≡ first_of (unfitLinesFor (plan_of sizes.route nest) source.now tenant
-        (tenantAreas (state_of memories.now buffer.now records status.now) engaged.now) others))
+        → result ≡ first_of (unfit_lines_for (plan_of sizes.route nest) source.now tenant
+        (tenant_areas (state_of memories.now buffer.now records status.now) engaged.now) others))
         × (result ≡ 0 → (progress.count ≡ 3 * processors nest) × (theirs.count ≡ 3 * processors nest)) }
 {
     let count = progress.count;
@@ -162,8 +162,8 @@ pub fn held_by_other(
     requires sized { Sized nest sizes × Tabled nest sizes lens.now }
     requires progress_len { (length progress.now ≡ 3 * processors nest) × (length engaged.now ≡ processors nest) }
     requires b_bound { (b < processors nest) × (tenant ≤ 1) }
-    ensures { result ≡ heldByOther (plan_of sizes.route nest) tenant
-        (tenantAreas (progressOnly progress.now) engaged.now) b }
+    ensures { result ≡ held_by_other (plan_of sizes.route nest) tenant
+        (tenant_areas (progress_only progress.now) engaged.now) b }
 {
     let finished = base::word_index(progress[3 * b]);
     let n = tile_count(nest, sizes, lens, b);
@@ -191,8 +191,8 @@ pub fn refusal_of_turn(
     requires sized { Sized nest sizes × Tabled nest sizes lens.now }
     requires words_len { (length progress.words ≡ 192) × (length theirs.words ≡ 192) }
     ensures { ((records others : List ℕ) → Flattens progress records → Flattens theirs others
-        → result ≡ first_of (barredLinesFor (plan_of sizes.route nest) source.now tenant
-        (tenantAreas (state_of memories.now buffer.now records status.now) engaged.now) others b))
+        → result ≡ first_of (barred_lines_for (plan_of sizes.route nest) source.now tenant
+        (tenant_areas (state_of memories.now buffer.now records status.now) engaged.now) others b))
         × (result ≡ 0 → (progress.count ≡ 3 * processors nest) × (theirs.count ≡ 3 * processors nest)) }
 {
     let n = refusal_of_areas(
@@ -229,8 +229,8 @@ pub fn refusal_of_both(
     shared: usize,
 ) -> u32
     ensures { (records others engaged : List ℕ) → words0 ≡ length records → words1 ≡ length others → shared ≡ length engaged
-        → result ≡ first_of (freshSharingLines encoded.now route (sourcesOf source0.now source1.now)
-        (sharingOf (state_of memories0.now buffer0.now records status0.now)
+        → result ≡ first_of (fresh_sharing_lines encoded.now route (sources_of source0.now source1.now)
+        (sharing_of (state_of memories0.now buffer0.now records status0.now)
         (state_of memories1.now buffer1.now others status1.now) engaged)) }
 {
     let mut lens = [0u16; TABLE_WORDS];

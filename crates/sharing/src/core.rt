@@ -7,10 +7,10 @@ ghost use Rattle.layout.specs.Sizes.{Sized};
 ghost use Rattle.tables.specs.Tables.{Tabled};
 ghost use Rattle.records.specs.Records.{Flattens};
 ghost use Rattle.engine.specs.Calls.{answer};
-ghost use Rattle.engine.specs.Given.{MayTurn, recordsAfter, zerosAfter};
-ghost use Rattle.tenants.specs.Tenants.{tenantAreas, sharingOf, sourcesOf, word_for};
-ghost use Rattle.sharing.specs.Calls.{turnCallFor, deliverCallFor, collectCallFor, freshSharingCall};
-ghost use Rattle.sharing.specs.Given.{wordsAfter};
+ghost use Rattle.engine.specs.Given.{MayTurn, records_after, zeros_after};
+ghost use Rattle.tenants.specs.Tenants.{tenant_areas, sharing_of, sources_of, word_for};
+ghost use Rattle.sharing.specs.Calls.{turn_call_for, deliver_call_for, collect_call_for, fresh_sharing_call};
+ghost use Rattle.sharing.specs.Given.{words_after};
 
 use crate::admission::{refusal_of_areas, refusal_of_both, refusal_of_turn};
 use base::{fill_words, refusals, zero_bytes, zero_words};
@@ -36,7 +36,7 @@ fn word_for(tenant: u32, stage: u32) -> u32
 // The shared word of processor b after its turn: the tenant's from the gather on, free once the tile is done.
 pub fn engage(engaged: &mut [u32], tenant: u32, b: usize, after: Turned)
     requires { b < length engaged.old }
-    ensures { engaged.new ≡ wordsAfter engaged.old tenant b after }
+    ensures { engaged.new ≡ words_after engaged.old tenant b after }
 {
     let p = after.progress;
     if after.number == 0 {
@@ -61,8 +61,8 @@ pub fn step_for(
     requires sized { Sized nest sizes × Tabled nest sizes lens.now }
     requires may_turn { MayTurn (plan_of sizes.route nest) source.now (state_of memories.old buffer.old progress.now status.old) b }
     requires b_in_bounds { b < length engaged.old }
-    ensures { (engaged.new ≡ wordsAfter engaged.old tenant b result)
-        × (answer result.number (state_of memories.new buffer.new (recordsAfter progress.now b result) status.new)
+    ensures { (engaged.new ≡ words_after engaged.old tenant b result)
+        × (answer result.number (state_of memories.new buffer.new (records_after progress.now b result) status.new)
         ≡ turn (plan_of sizes.route nest) source.now
         (state_of memories.old buffer.old progress.now status.old) b) }
 {
@@ -90,10 +90,10 @@ pub fn turn(
     requires { (length progress.words ≡ 192) × (length theirs.words ≡ 192) }
     ensures { (records others : List ℕ) → Flattens progress records → Flattens theirs others
         → answer result.number
-        (tenantAreas (state_of memories.new buffer.new (recordsAfter records processor result) status.new)
+        (tenant_areas (state_of memories.new buffer.new (records_after records processor result) status.new)
         engaged.new)
-        ≡ turnCallFor encoded.now route source.now tenant
-        (tenantAreas (state_of memories.old buffer.old records status.old)
+        ≡ turn_call_for encoded.now route source.now tenant
+        (tenant_areas (state_of memories.old buffer.old records status.old)
         engaged.old) others processor }
 {
     let mut lens = [0u16; TABLE_WORDS];
@@ -131,7 +131,7 @@ pub fn turn(
 // The words of the records after a turn of a processor: its record stored, where the turn gave 0.
 pub fn store_after(progress: &mut [u32], processor: u32, after: Turned)
     requires { after.number ≡ 0 → 3 * processor + 2 < length progress.old }
-    ensures { progress.new ≡ recordsAfter progress.old processor after }
+    ensures { progress.new ≡ records_after progress.old processor after }
 {
     let p = after.progress;
     if after.number == 0 {
@@ -155,9 +155,9 @@ pub fn deliver(
 ) -> u32
     requires { (length progress.words ≡ 192) × (length theirs.words ≡ 192) }
     ensures { (records others : List ℕ) → Flattens progress records → Flattens theirs others
-        → answer result (tenantAreas (state_of memories.now buffer.now records status.new) engaged.now)
-        ≡ deliverCallFor encoded.now route source.now tenant
-        (tenantAreas (state_of memories.now buffer.now records status.old)
+        → answer result (tenant_areas (state_of memories.now buffer.now records status.new) engaged.now)
+        ≡ deliver_call_for encoded.now route source.now tenant
+        (tenant_areas (state_of memories.now buffer.now records status.old)
         engaged.now) others message }
 {
     let mut lens = [0u16; TABLE_WORDS];
@@ -194,8 +194,8 @@ pub fn collect(
     requires { (length progress.words ≡ 192) × (length theirs.words ≡ 192) }
     ensures { (records others : List ℕ) → Flattens progress records → Flattens theirs others
         → answer result grid.new
-        ≡ collectCallFor encoded.now route source.now tenant
-        (tenantAreas (state_of memories.now buffer.now records status.now)
+        ≡ collect_call_for encoded.now route source.now tenant
+        (tenant_areas (state_of memories.now buffer.now records status.now)
         engaged.now) others grid.old }
 {
     let mut lens = [0u16; TABLE_WORDS];
@@ -252,10 +252,10 @@ pub fn fresh(
     engaged: &mut [u32],
 ) -> u32
     ensures { (records others : List ℕ) → words0 ≡ length records → words1 ≡ length others
-        → answer result (sharingOf (state_of memories0.new buffer0.new (zerosAfter records result) status0.new)
-        (state_of memories1.new buffer1.new (zerosAfter others result) status1.new) engaged.new)
-        ≡ freshSharingCall encoded.now route (sourcesOf source0.now source1.now)
-        (sharingOf (state_of memories0.old buffer0.old records status0.old)
+        → answer result (sharing_of (state_of memories0.new buffer0.new (zeros_after records result) status0.new)
+        (state_of memories1.new buffer1.new (zeros_after others result) status1.new) engaged.new)
+        ≡ fresh_sharing_call encoded.now route (sources_of source0.now source1.now)
+        (sharing_of (state_of memories0.old buffer0.old records status0.old)
         (state_of memories1.old buffer1.old others status1.old) engaged.old) }
 {
     let number = refusal_of_both(
@@ -284,7 +284,7 @@ pub fn fresh(
 
 // The words of a tenant's records after a fresh start that gave this number.
 pub fn clear_records(progress: &mut [u32], number: u32)
-    ensures { progress.new ≡ zerosAfter progress.old number }
+    ensures { progress.new ≡ zeros_after progress.old number }
 {
     if number == 0 {
         zero_words(progress);

@@ -2,9 +2,9 @@
 // The rules of engaging and freeing a processor are crate `tenants`'; the stages are the engine's.
 ghost use Rattle.core.specs.Prelude.{◌≡◌};
 ghost use Rattle.machine.specs.Machine.{state_of};
-ghost use Rattle.tenants.specs.Tenants.{tenantAreas, sharingOf, sourcesOf};
+ghost use Rattle.tenants.specs.Tenants.{tenant_areas, sharing_of, sources_of};
 ghost use Rattle.engine.specs.Calls.{answer};
-ghost use Rattle.sharing.specs.Calls.{turnCallFor, deliverCallFor, collectCallFor, freshSharingCall};
+ghost use Rattle.sharing.specs.Calls.{turn_call_for, deliver_call_for, collect_call_for, fresh_sharing_call};
 
 pub mod admission; // admission.rt: what a call tests first, past the recipe's lines
 pub mod core; // core.rt: the calls without the stores into the records
@@ -28,10 +28,10 @@ pub fn fresh(
     status1: &mut [u8],
     engaged: &mut [u32],
 ) -> u32
-    ensures { answer result (sharingOf (state_of memories0.new buffer0.new progress0.new status0.new)
+    ensures { answer result (sharing_of (state_of memories0.new buffer0.new progress0.new status0.new)
         (state_of memories1.new buffer1.new progress1.new status1.new) engaged.new)
-        ≡ freshSharingCall encoded.now route (sourcesOf source0.now source1.now)
-        (sharingOf (state_of memories0.old buffer0.old progress0.old status0.old)
+        ≡ fresh_sharing_call encoded.now route (sources_of source0.now source1.now)
+        (sharing_of (state_of memories0.old buffer0.old progress0.old status0.old)
         (state_of memories1.old buffer1.old progress1.old status1.old)
         engaged.old) }
 {
@@ -70,9 +70,9 @@ pub fn turn(
     processor: u32,
 ) -> u32
     ensures { answer result
-        (tenantAreas (state_of memories.new buffer.new progress.new status.new) engaged.new)
-        ≡ turnCallFor encoded.now route source.now tenant
-        (tenantAreas (state_of memories.old buffer.old progress.old status.old)
+        (tenant_areas (state_of memories.new buffer.new progress.new status.new) engaged.new)
+        ≡ turn_call_for encoded.now route source.now tenant
+        (tenant_areas (state_of memories.old buffer.old progress.old status.old)
         engaged.old) theirs.now processor }
 {
     let after = core::turn(
@@ -107,9 +107,9 @@ pub fn deliver(
     message: u32,
 ) -> u32
     ensures { answer result
-        (tenantAreas (state_of memories.now buffer.now progress.now status.new) engaged.now)
-        ≡ deliverCallFor encoded.now route source.now tenant
-        (tenantAreas (state_of memories.now buffer.now progress.now status.old)
+        (tenant_areas (state_of memories.now buffer.now progress.now status.new) engaged.now)
+        ≡ deliver_call_for encoded.now route source.now tenant
+        (tenant_areas (state_of memories.now buffer.now progress.now status.old)
         engaged.now) theirs.now message }
 {
     core::deliver(
@@ -142,8 +142,8 @@ pub fn collect(
     grid: &mut [u32],
 ) -> u32
     ensures { answer result grid.new
-        ≡ collectCallFor encoded.now route source.now tenant
-        (tenantAreas (state_of memories.now buffer.now progress.now status.now)
+        ≡ collect_call_for encoded.now route source.now tenant
+        (tenant_areas (state_of memories.now buffer.now progress.now status.now)
         engaged.now) theirs.now grid.old }
 {
     core::collect(

@@ -1,6 +1,6 @@
 // The view at a processor's memory, lent both tenants' memories and nothing else: its number, and the part of the named tenant's memories.
 ghost use Rattle.core.specs.Prelude.{◌≡◌};
-ghost use Rattle.sharing.specs.Calls.{viewNumber, viewPart};
+ghost use Rattle.sharing.specs.Calls.{view_number, view_part};
 
 pub mod core; // core.rt: where a view finds its part
 
@@ -12,7 +12,7 @@ pub fn view_number(
     tenant: u32,
     processor: u32,
 ) -> u32
-    ensures { result ≡ viewNumber encoded.now first.now second.now tenant processor }
+    ensures { result ≡ view_number encoded.now first.now second.now tenant processor }
 {
     let seen = core::view_at(encoded, first.len(), second.len(), tenant, processor);
     seen.number
@@ -26,7 +26,7 @@ pub fn view<'a>(
     tenant: u32,
     processor: u32,
 ) -> &'a [u32]
-    ensures { result.now ≡ viewPart encoded.now first.now second.now tenant processor }
+    ensures { result.now ≡ view_part encoded.now first.now second.now tenant processor }
 {
     let seen = core::view_at(encoded, first.len(), second.len(), tenant, processor);
     let start = seen.start;

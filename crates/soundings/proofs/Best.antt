@@ -11,9 +11,9 @@ use lib.ListN.{get_or}
 use lib.Dec.{eqb, ltb}
 use borrow.Author.Tests.{lt-ltb, ltb-true, eq-eqb, eqb-true, eqb-false}
 use Rattle.base.specs.Tests.{◌and◌, ◌or◌, pick, tabulate}
-use Rattle.base.proofs.Tests.{both, and-true, either, or_left, or_right, is_false, never_both, length-tabulate, tabulate-at}
+use Rattle.base.proofs.Tests.{both, and_true, either, or_left, or_right, is_false, never_both, length_tabulate, tabulate_at}
 use Rattle.nest.specs.Reader.{records}
-use Rattle.soundings.specs.Soundings.{cell_of, dayOf, surveyOf, depth_of, beats, Best, none, its, better, bestOf, depthOr, soundedWord, soundedSource}
+use Rattle.soundings.specs.Soundings.{cell_of, day_of, survey_of, depth_of, beats, Best, none, its, better, best_of, depth_or, sounded_word, sounded_source}
 use Rattle.soundings.specs.Ground.{Counts, Ground, sounded, unsounded, Grounded}
 
 -- ---- the order
@@ -21,34 +21,34 @@ use Rattle.soundings.specs.Ground.{Counts, Ground, sounded, unsounded, Grounded}
 -- what `beats` says
 abbrev pub Beats : List ℕ → ℕ → ℕ → Type 0
 Beats file q r =
-    (dayOf file r < dayOf file q)
-    ⊎ ((dayOf file r ≡ dayOf file q) × ((surveyOf file r < surveyOf file q) ⊎ ((surveyOf file r ≡ surveyOf file q) × (r < q))))
+    (day_of file r < day_of file q)
+    ⊎ ((day_of file r ≡ day_of file q) × ((survey_of file r < survey_of file q) ⊎ ((survey_of file r ≡ survey_of file q) × (r < q))))
 
 module _ (file : List ℕ) where
-  pub beats-says : (q r : ℕ) → beats file q r ≡ true → Beats file q r
+  pub beats_says : (q r : ℕ) → beats file q r ≡ true → Beats file q r
   unfolding beats
-  beats-says q r e = day (either e)
+  beats_says q r e = day (either e)
     where
-      place : (ltb (surveyOf file r) (surveyOf file q) ≡ true) ⊎ ((eqb (surveyOf file r) (surveyOf file q) and ltb r q) ≡ true)
-          → (surveyOf file r < surveyOf file q) ⊎ ((surveyOf file r ≡ surveyOf file q) × (r < q))
+      place : (ltb (survey_of file r) (survey_of file q) ≡ true) ⊎ ((eqb (survey_of file r) (survey_of file q) and ltb r q) ≡ true)
+          → (survey_of file r < survey_of file q) ⊎ ((survey_of file r ≡ survey_of file q) × (r < q))
       place (inl k) = inl (ltb-true _ _ k)
       place (inr k) = inr (eqb-true _ _ (both k).0, ltb-true _ _ (both k).1)
 
-      day : (ltb (dayOf file r) (dayOf file q) ≡ true)
-          ⊎ ((eqb (dayOf file r) (dayOf file q)
-          and (ltb (surveyOf file r) (surveyOf file q) or (eqb (surveyOf file r) (surveyOf file q) and ltb r q))) ≡ true)
+      day : (ltb (day_of file r) (day_of file q) ≡ true)
+          ⊎ ((eqb (day_of file r) (day_of file q)
+          and (ltb (survey_of file r) (survey_of file q) or (eqb (survey_of file r) (survey_of file q) and ltb r q))) ≡ true)
           → Beats file q r
       day (inl k) = inl (ltb-true _ _ k)
       day (inr k) = inr (eqb-true _ _ (both k).0, place (either (both k).1))
 
-  pub says-beats : (q r : ℕ) → Beats file q r → beats file q r ≡ true
+  pub says_beats : (q r : ℕ) → Beats file q r → beats file q r ≡ true
   unfolding beats
-  says-beats q r (inl k) = or_left _ (lt-ltb _ _ k)
-  says-beats q r (inr (e, inl k)) = or_right _ (and-true (eq-eqb _ _ e) (or_left _ (lt-ltb _ _ k)))
-  says-beats q r (inr (e, inr (f, k))) = or_right _ (and-true (eq-eqb _ _ e) (or_right _ (and-true (eq-eqb _ _ f) (lt-ltb _ _ k))))
+  says_beats q r (inl k) = or_left _ (lt-ltb _ _ k)
+  says_beats q r (inr (e, inl k)) = or_right _ (and_true (eq-eqb _ _ e) (or_left _ (lt-ltb _ _ k)))
+  says_beats q r (inr (e, inr (f, k))) = or_right _ (and_true (eq-eqb _ _ e) (or_right _ (and_true (eq-eqb _ _ f) (lt-ltb _ _ k))))
 
   not_itself : (r : ℕ) → beats file r r ≡ false
-  not_itself r = is_false (λ e. go (beats-says r r e))
+  not_itself r = is_false (λ e. go (beats_says r r e))
     where
       go : Beats file r r → ⊥
       go (inl k) = omega arith
@@ -57,7 +57,7 @@ module _ (file : List ℕ) where
 
   -- what beats the new one beats the old one too
   through : (p q r : ℕ) → beats file p q ≡ true → beats file q r ≡ true → beats file p r ≡ true
-  through p q r e f = says-beats p r (go (beats-says p q e) (beats-says q r f))
+  through p q r e f = says_beats p r (go (beats_says p q e) (beats_says q r f))
     where
       go : Beats file p q → Beats file q r → Beats file p r
       go (inl k) (inl l) = inl (omega arith)
@@ -69,19 +69,19 @@ module _ (file : List ℕ) where
       go (inr (a, inr (d, k))) (inr (b, inr (f, l))) = inr (omega arith, inr (omega arith, omega arith))
 
   -- of two records one beats the other
-  one-beats : (r s : ℕ) → r < s → beats file s r ≡ false → beats file r s ≡ true
-  one-beats r s l e = day (dec_lt (dayOf file r) (dayOf file s)) (dec_lt (dayOf file s) (dayOf file r))
+  one_beats : (r s : ℕ) → r < s → beats file s r ≡ false → beats file r s ≡ true
+  one_beats r s l e = day (dec_lt (day_of file r) (day_of file s)) (dec_lt (day_of file s) (day_of file r))
     where
-      survey : dayOf file r ≡ dayOf file s → Dec (surveyOf file r < surveyOf file s) → Dec (surveyOf file s < surveyOf file r)
+      survey : day_of file r ≡ day_of file s → Dec (survey_of file r < survey_of file s) → Dec (survey_of file s < survey_of file r)
           → beats file r s ≡ true
-      survey d (yes k) m = absurd (never_both (says-beats s r (inr (d, inl k))) e)
-      survey d (no k) (yes m) = says-beats r s (inr (sym d, inl m))
-      survey d (no k) (no m) = absurd (never_both (says-beats s r (inr (d, inr (omega arith, l)))) e)
+      survey d (yes k) m = absurd (never_both (says_beats s r (inr (d, inl k))) e)
+      survey d (no k) (yes m) = says_beats r s (inr (sym d, inl m))
+      survey d (no k) (no m) = absurd (never_both (says_beats s r (inr (d, inr (omega arith, l)))) e)
 
-      day : Dec (dayOf file r < dayOf file s) → Dec (dayOf file s < dayOf file r) → beats file r s ≡ true
-      day (yes k) m = absurd (never_both (says-beats s r (inl k)) e)
-      day (no k) (yes m) = says-beats r s (inl m)
-      day (no k) (no m) = survey (omega arith) (dec_lt (surveyOf file r) (surveyOf file s)) (dec_lt (surveyOf file s) (surveyOf file r))
+      day : Dec (day_of file r < day_of file s) → Dec (day_of file s < day_of file r) → beats file r s ≡ true
+      day (yes k) m = absurd (never_both (says_beats s r (inl k)) e)
+      day (no k) (yes m) = says_beats r s (inl m)
+      day (no k) (no m) = survey (omega arith) (dec_lt (survey_of file r) (survey_of file s)) (dec_lt (survey_of file s) (survey_of file r))
 
 -- ---- the record that counts among the first n
 
@@ -102,10 +102,10 @@ module _ (file : List ℕ) (c : ℕ) where
   abbrev Unbeaten : ℕ → ℕ → Type 0
   Unbeaten r q = cell_of file q ≡ c → beats file q r ≡ false
 
-  next-true : (n : ℕ) → cell_of file n ≡ c → (b : Best) → Stands file c n b → Stands file c (suc n) (better file b n)
+  next_true : (n : ℕ) → cell_of file n ≡ c → (b : Best) → Stands file c n b → Stands file c (suc n) (better file b n)
   unfolding better pick
-  next-true n e none h = (omega arith, (e, one_more (Unbeaten n) n (λ q l k. absurd (h q l k)) (λ k. not_itself file n)))
-  next-true n e (its r) h = go (beats file n r) refl
+  next_true n e none h = (omega arith, (e, one_more (Unbeaten n) n (λ q l k. absurd (h q l k)) (λ k. not_itself file n)))
+  next_true n e (its r) h = go (beats file n r) refl
     where
       go : (u : Bool) → beats file n r ≡ u → Stands file c (suc n) (its (pick u n r))
       go true k = (
@@ -114,57 +114,57 @@ module _ (file : List ℕ) (c : ℕ) where
       )
       go false k = (omega arith, (h.1.0, one_more (Unbeaten r) n h.1.1 (λ z. k)))
 
-  next-false : (n : ℕ) → cell_of file n ≢ c → (b : Best) → Stands file c n b → Stands file c (suc n) b
-  next-false n e none h = one_more (λ (q : ℕ). cell_of file q ≢ c) n h e
-  next-false n e (its r) h = (omega arith, (h.1.0, one_more (Unbeaten r) n h.1.1 (λ z. absurd (e z))))
+  next_false : (n : ℕ) → cell_of file n ≢ c → (b : Best) → Stands file c n b → Stands file c (suc n) b
+  next_false n e none h = one_more (λ (q : ℕ). cell_of file q ≢ c) n h e
+  next_false n e (its r) h = (omega arith, (h.1.0, one_more (Unbeaten r) n h.1.1 (λ z. absurd (e z))))
 
-  pub stands : (n : ℕ) → Stands file c n (bestOf file c n)
-  unfolding bestOf pick
+  pub stands : (n : ℕ) → Stands file c n (best_of file c n)
+  unfolding best_of pick
   stands zero = λ q h. absurd (omega arith)
   stands (suc n) = go (stands n) (eqb (cell_of file n) c) refl
     where
-      go : Stands file c n (bestOf file c n) → (t : Bool) → eqb (cell_of file n) c ≡ t
-          → Stands file c (suc n) (pick t (better file (bestOf file c n) n) (bestOf file c n))
-      go ih true e = next-true n (eqb-true _ _ e) (bestOf file c n) ih
-      go ih false e = next-false n (eqb-false _ _ e) (bestOf file c n) ih
+      go : Stands file c n (best_of file c n) → (t : Bool) → eqb (cell_of file n) c ≡ t
+          → Stands file c (suc n) (pick t (better file (best_of file c n) n) (best_of file c n))
+      go ih true e = next_true n (eqb-true _ _ e) (best_of file c n) ih
+      go ih false e = next_false n (eqb-false _ _ e) (best_of file c n) ih
 
 -- ---- the ground
 
 module _ (file : List ℕ) (value c : ℕ) where
-  ground : Ground file value c (soundedWord file value c)
-  unfolding soundedWord depthOr
-  ground = go (bestOf file c (records file)) (stands file c (records file))
+  ground : Ground file value c (sounded_word file value c)
+  unfolding sounded_word depth_or
+  ground = go (best_of file c (records file)) (stands file c (records file))
     where
-      go : (b : Best) → Stands file c (records file) b → Ground file value c (depthOr file value b)
+      go : (b : Best) → Stands file c (records file) b → Ground file value c (depth_or file value b)
       go none h = unsounded h refl
-      go (its r) h = sounded r (record { in-file = h.0; names = h.1.0; unbeaten = h.1.1 }) refl
+      go (its r) h = sounded r (record { in_file = h.0; names = h.1.0; unbeaten = h.1.1 }) refl
 
-  no-later : (r s : ℕ) → Counts file c r → Counts file c s → s ≤ r
-  no-later r s a b = go (dec_lt r s)
+  no_later : (r s : ℕ) → Counts file c r → Counts file c s → s ≤ r
+  no_later r s a b = go (dec_lt r s)
     where
       go : Dec (r < s) → s ≤ r
       go (yes l) =
-          absurd (never_both (one-beats file r s l (a.unbeaten s b.in-file b.names)) (b.unbeaten r a.in-file a.names))
+          absurd (never_both (one_beats file r s l (a.unbeaten s b.in_file b.names)) (b.unbeaten r a.in_file a.names))
       go (no l) = omega arith
 
   -- no two records count for one cell
-  one-counts : (r s : ℕ) → Counts file c r → Counts file c s → r ≡ s
-  one-counts r s a b = omega (arith, no-later r s a b, no-later s r b a)
+  one_counts : (r s : ℕ) → Counts file c r → Counts file c s → r ≡ s
+  one_counts r s a b = omega (arith, no_later r s a b, no_later s r b a)
 
-  same-ground : (v w : ℕ) → Ground file value c v → Ground file value c w → v ≡ w
-  same-ground v w (sounded r a e) (sounded s b f) = e ∙ (ap (depth_of file) (one-counts r s a b) ∙ sym f)
-  same-ground v w (sounded r a e) (unsounded h f) = absurd (h r a.in-file a.names)
-  same-ground v w (unsounded h e) (sounded s b f) = absurd (h s b.in-file b.names)
-  same-ground v w (unsounded h e) (unsounded k f) = e ∙ sym f
+  same_ground : (v w : ℕ) → Ground file value c v → Ground file value c w → v ≡ w
+  same_ground v w (sounded r a e) (sounded s b f) = e ∙ (ap (depth_of file) (one_counts r s a b) ∙ sym f)
+  same_ground v w (sounded r a e) (unsounded h f) = absurd (h r a.in_file a.names)
+  same_ground v w (unsounded h e) (sounded s b f) = absurd (h s b.in_file b.names)
+  same_ground v w (unsounded h e) (unsounded k f) = e ∙ sym f
 
-pub grounded : (size : ℕ) (file : List ℕ) (value : ℕ) → Grounded size file value (soundedSource file value size)
-unfolding soundedSource
+pub grounded : (size : ℕ) (file : List ℕ) (value : ℕ) → Grounded size file value (sounded_source file value size)
+unfolding sounded_source
 grounded size file value =
     record {
-      long = length-tabulate (soundedWord file value) size;
-      each = λ c h. rw (word-at c h) (ground file value c);
-      only = λ c w h g. same-ground file value c w (soundedWord file value c) g (ground file value c) ∙ sym (word-at c h);
+      long = length_tabulate (sounded_word file value) size;
+      each = λ c h. rw (word_at c h) (ground file value c);
+      only = λ c w h g. same_ground file value c w (sounded_word file value c) g (ground file value c) ∙ sym (word_at c h);
     }
   where
-    word-at : (c : ℕ) → c < size → get_or (tabulate (soundedWord file value) size) c 0 ≡ soundedWord file value c
-    word-at = tabulate-at (soundedWord file value) size
+    word_at : (c : ℕ) → c < size → get_or (tabulate (sounded_word file value) size) c 0 ≡ sounded_word file value c
+    word_at = tabulate_at (sounded_word file value) size

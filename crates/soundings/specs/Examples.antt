@@ -2,8 +2,8 @@
 -- Renders document 02, W-210. Ruled out: the first of equal records, survey numbers before days, signed comparisons, 22 before 9.
 use Rattle.std.specs.Prelude.{ℕ, ◌≡◌, List, [], ◌∷◌, ◌++◌}
 use Rattle.machine.specs.Machine.{Answered}
-use Rattle.nest.specs.Recipes.{dimension, bound, distance, close, rowD}
-use Rattle.soundings.specs.Soundings.{filled, fillCall}
+use Rattle.nest.specs.Recipes.{dimension, bound, distance, close, row_d}
+use Rattle.soundings.specs.Soundings.{filled, fill_call}
 
 -- a record: cell, day, survey number and depth, each below 256
 abbrev pub sounding : ℕ → ℕ → ℕ → ℕ → List ℕ
@@ -31,20 +31,20 @@ three = 1 ∷ 2 ∷ 3 ∷ []
 
 -- the call for row D, 99 where a cell has no record
 abbrev pub fills : List ℕ → List ℕ → Answered (List ℕ)
-fills file source = fillCall rowD file 99 source
+fills file source = fill_call row_d file 99 source
 
 pub record SoundingExamples : Type 0 where
   pub counts : fills six four ≡ filled 0 (8 ∷ 40 ∷ 99 ∷ 7 ∷ [])
   pub unsigned : fills (late ++ sounding 0 1 0 5) four ≡ filled 0 (16909060 ∷ 99 ∷ 99 ∷ 99 ∷ [])
   -- an empty file is allowed, a ragged one gives 1, before the recipe's other numbers too
   pub empty : fills [] four ≡ filled 0 (99 ∷ 99 ∷ 99 ∷ 99 ∷ [])
-  pub ragged-file : fills (0 ∷ six) four ≡ filled 1 four
-  pub ragged-first : fillCall (dimension 4 2 2 ++ close) (0 ∷ six) 99 four ≡ filled 1 four
-  pub reader-first : fillCall (dimension 4 2 2 ++ close) (sounding 4 1 1 1) 99 three ≡ filled 2 three
+  pub ragged_file_lem : fills (0 ∷ six) four ≡ filled 1 four
+  pub ragged_first : fill_call (dimension 4 2 2 ++ close) (0 ∷ six) 99 four ≡ filled 1 four
+  pub reader_first : fill_call (dimension 4 2 2 ++ close) (sounding 4 1 1 1) 99 three ≡ filled 2 three
   -- 9 for a source that has not a word for each cell; 22 for a record of cell 4, which no cell of row D is; 9 before 22
-  pub source-short : fills six three ≡ filled 9 three
-  pub off-box : fills (sounding 4 1 1 1) four ≡ filled 22 four
+  pub source_short : fills six three ≡ filled 9 three
+  pub off_box_lem : fills (sounding 4 1 1 1) four ≡ filled 22 four
   pub source_first : fills (sounding 4 1 1 1) three ≡ filled 9 three
   -- 22 wherever that record stands in the file; not for a cell of the box outside the shape
-  pub off-box-again : fills (sounding 4 1 1 1 ++ six) four ≡ filled 22 four
-  pub off-shape : fillCall triangle (sounding 2 1 1 6) 99 four ≡ filled 0 (99 ∷ 99 ∷ 6 ∷ 99 ∷ [])
+  pub off_box_again : fills (sounding 4 1 1 1 ++ six) four ≡ filled 22 four
+  pub off_shape : fill_call triangle (sounding 2 1 1 6) 99 four ≡ filled 0 (99 ∷ 99 ∷ 6 ∷ 99 ∷ [])

@@ -7,7 +7,7 @@ use Rattle.soundings.specs.Soundings.{cell_of, depth_of, beats}
 
 -- record r counts for cell c: it names the cell, and no record that names it beats r
 pub record Counts (file : List ℕ) (c r : ℕ) : Type 0 where
-  pub in-file : r < records file
+  pub in_file : r < records file
   pub names : cell_of file r ≡ c
   pub unbeaten : (q : ℕ) → q < records file → cell_of file q ≡ c → beats file q r ≡ false
 

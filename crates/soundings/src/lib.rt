@@ -5,8 +5,8 @@ ghost use Rattle.base.specs.Tests.{tabulate};
 ghost use Rattle.base.specs.Numbers.{line, first_of};
 ghost use Rattle.machine.specs.Machine.{answered};
 ghost use Rattle.nest.specs.Reader.{records};
-ghost use Rattle.soundings.specs.Soundings.{cell_of, soundedSource, raggedFile, offBox, filled, fillCall};
-ghost use Rattle.soundings.specs.Sifting.{depthIn, Zeros, Blank, Sifted, Noted};
+ghost use Rattle.soundings.specs.Soundings.{cell_of, sounded_source, ragged_file, off_box, filled, fill_call};
+ghost use Rattle.soundings.specs.Sifting.{depth_in, Zeros, Blank, Sifted, Noted};
 
 use base::{refusals, word_at, word_index};
 
@@ -21,7 +21,7 @@ fn cell_of(file: &[u8], r: usize) -> usize
 
 // An empty file is allowed.
 fn ragged(file: &[u8]) -> bool
-    ensures { result ≡ raggedFile file.now }
+    ensures { result ≡ ragged_file file.now }
 {
     file.len() % 16 != 0
 }
@@ -53,9 +53,9 @@ fn note(file: &[u8], r: usize, cell: usize, best: &mut [u32; 49152])
 
 // Goes through the file; true, and the words of no use, where a record names a cell outside.
 fn sift(file: &[u8], size: usize, best: &mut [u32; 49152]) -> bool
-    requires { (size ≤ 16384) × Sifted file.now (depthIn best.old) size 0 best.old }
-    ensures value { result ≡ offBox size file.now }
-    ensures sifted { result ≡ false → Sifted file.now (depthIn best.old) size (records file.now) best.new }
+    requires { (size ≤ 16384) × Sifted file.now (depth_in best.old) size 0 best.old }
+    ensures value { result ≡ off_box size file.now }
+    ensures sifted { result ≡ false → Sifted file.now (depth_in best.old) size (records file.now) best.new }
 {
     let n = file.len() / 16;
     for r in 0..n {
@@ -70,7 +70,7 @@ fn sift(file: &[u8], size: usize, best: &mut [u32; 49152]) -> bool
 
 fn copy(best: &[u32; 49152], source: &mut [u32])
     requires { (length best.now ≡ 49152) × (length source.old ≤ 16384) }
-    ensures { source.new ≡ tabulate (depthIn best.now) (length source.old) }
+    ensures { source.new ≡ tabulate (depth_in best.now) (length source.old) }
 {
     for c in 0..source.len() {
         source[c] = best[3 * c + 2];
@@ -81,8 +81,8 @@ fn copy(best: &[u32; 49152], source: &mut [u32])
 fn fill_source(file: &[u8], value: u32, source: &mut [u32]) -> u32
     requires { length source.old ≤ 16384 }
     ensures { filled result source.new
-        ≡ answered (first_of (line 22 (offBox (length source.old) file.now) ∷ []))
-        (soundedSource file.now value (length source.old)) source.old }
+        ≡ answered (first_of (line 22 (off_box (length source.old) file.now) ∷ []))
+        (sounded_source file.now value (length source.old)) source.old }
 {
     let size = source.len();
     let mut best = [0u32; 49152];
@@ -96,7 +96,7 @@ fn fill_source(file: &[u8], value: u32, source: &mut [u32]) -> u32
 
 // The number, and for 0 the source filled.
 pub fn fill(encoded: &[u8], file: &[u8], value: u32, source: &mut [u32]) -> u32
-    ensures { filled result source.new ≡ fillCall encoded.now file.now value source.old }
+    ensures { filled result source.new ≡ fill_call encoded.now file.now value source.old }
 {
     if ragged(file) {
         return 1;

@@ -1,15 +1,15 @@
 // The stages of a turn and the other work on lent areas below the engine's calls: each asks for areas of their lengths.
 ghost use Rattle.std.specs.Prelude.{◌≡◌, List, [], ℕ, ◌+◌, ◌*◌, ◌≤◌, ◌<◌, length, get_or, ltb, leb};
 ghost use Rattle.base.specs.Tests.{pick, every, some};
-ghost use Rattle.base.specs.Lists.{put, setAll, allAt, unpack, pack, storeAll};
-ghost use Rattle.machine.specs.Plan.{count, words, offset, heldBy, sendsOf, dues_of};
-ghost use Rattle.machine.specs.Machine.{state_of, place_of, setProgress, fitRecord, tilesLeft, unpackAll, carryOut, gather, calculate, send, collected};
+ghost use Rattle.base.specs.Lists.{put, set_all, all_at, unpack, pack, store_all};
+ghost use Rattle.machine.specs.Plan.{count, words, offset, held_by, sends_of, dues_of};
+ghost use Rattle.machine.specs.Machine.{state_of, place_of, set_progress, fit_record, tiles_left, unpack_all, carry_out, gather, calculate, send, collected};
 ghost use Rattle.nest.specs.Nest.{cells, processors};
-ghost use Rattle.plan.specs.Messages.{boxPlan};
+ghost use Rattle.plan.specs.Messages.{box_plan};
 ghost use Rattle.plan.specs.Shaped.{plan_of};
 ghost use Rattle.layout.specs.Sizes.{Sized};
 ghost use Rattle.tables.specs.Tables.{Routed, Tabled, FoundIn};
-ghost use Rattle.stages.specs.Progress.{progressOnly, setRecord};
+ghost use Rattle.stages.specs.Progress.{progress_only, set_record};
 
 use base::{copy_words, word_index};
 use layout::{Sizes, processor_of, tile_of};
@@ -30,7 +30,7 @@ pub fn take_message(
     requires sized { Sized nest sizes × (Tabled nest sizes lens.now × FoundIn sizes.route nest place.number place) }
     requires memory_len { (length memory.old ≡ cells nest) × (length buffer.now ≡ words (plan_of sizes.route nest)) }
     ensures { memory.new
-        ≡ unpack memory.old (heldBy (plan_of sizes.route nest) place.number)
+        ≡ unpack memory.old (held_by (plan_of sizes.route nest) place.number)
         (place_of (plan_of sizes.route nest) buffer.now place.number) }
 {
     let offset = place.offset;
@@ -52,8 +52,8 @@ fn gather(
     requires memory_len { (length memory.old ≡ cells nest) × ((length buffer.now ≡ words (plan_of sizes.route nest))
         × (length status.old ≡ count (plan_of sizes.route nest))) }
     ensures { (memory.new
-        ≡ unpackAll (plan_of sizes.route nest) buffer.now memory.old (dues_of (plan_of sizes.route nest) tile))
-        × (status.new ≡ setAll status.old (dues_of (plan_of sizes.route nest) tile) 3) }
+        ≡ unpack_all (plan_of sizes.route nest) buffer.now memory.old (dues_of (plan_of sizes.route nest) tile))
+        × (status.new ≡ set_all status.old (dues_of (plan_of sizes.route nest) tile) 3) }
 {
     let n = count_at(nest, sizes, lens, tile, 1);
     let mut j = 0;
@@ -76,7 +76,7 @@ pub fn ready(
 ) -> bool
     requires sized { Sized nest sizes × (Tabled nest sizes lens.now × (tile < (plan_of sizes.route nest).tiles)) }
     requires status_len { length status.now ≡ count (plan_of sizes.route nest) }
-    ensures { result ≡ allAt status.now 2 (dues_of (plan_of sizes.route nest) tile) }
+    ensures { result ≡ all_at status.now 2 (dues_of (plan_of sizes.route nest) tile) }
 {
     let n = count_at(nest, sizes, lens, tile, 1);
     let mut j = 0;
@@ -107,8 +107,8 @@ pub fn gather_stage(
     requires memories_len { (length memories.old ≡ processors nest * cells nest) × ((length buffer.now ≡ words (plan_of sizes.route nest))
         × (length status.old ≡ count (plan_of sizes.route nest))) }
     ensures { (l : List ℕ) → finished ≡ get_or l (3 * processor) 0
-        → state_of memories.new buffer.now (setRecord l processor result) status.new
-        ≡ carryOut (plan_of sizes.route nest) [] (state_of memories.old buffer.now l status.old) processor (gather tile) }
+        → state_of memories.new buffer.now (set_record l processor result) status.new
+        ≡ carry_out (plan_of sizes.route nest) [] (state_of memories.old buffer.now l status.old) processor (gather tile) }
 {
     let cells = sizes.cells;
     let base = processor * cells;
@@ -132,7 +132,7 @@ pub fn gather_stage(
 // The record once `sent` of the tile's n messages are sent.
 pub fn next_record(finished: u32, sent: usize, n: usize) -> Progress
     requires { (finished < 16384) × (n ≤ 7168) }
-    ensures { (l : List ℕ) (b : ℕ) → setRecord l b result ≡ pick (ltb sent n) (setProgress l b finished 2 sent) (setProgress l b (finished + 1) 0 0) }
+    ensures { (l : List ℕ) (b : ℕ) → set_record l b result ≡ pick (ltb sent n) (set_progress l b finished 2 sent) (set_progress l b (finished + 1) 0 0) }
 {
     if sent < n {
         return Progress {
@@ -160,7 +160,7 @@ pub fn calculate(
     requires sized { Sized nest sizes × (Tabled nest sizes lens.now × (tile < (plan_of sizes.route nest).tiles)) }
     requires source_len { (length source.now ≡ cells nest) × (length memory.old ≡ cells nest) }
     ensures { memory.new
-        ≡ storeAll ((plan_of sizes.route nest).value source.now) memory.old ((plan_of sizes.route nest).cells_of tile) }
+        ≡ store_all ((plan_of sizes.route nest).value source.now) memory.old ((plan_of sizes.route nest).cells_of tile) }
 {
     if nest.bounds == 0 {
         values::calculate(nest, sizes, source, memory, tile);
@@ -184,8 +184,8 @@ pub fn calculate_stage(
     requires sized { Sized nest sizes × (Tabled nest sizes lens.now × ((processor < processors nest) × (tile < (plan_of sizes.route nest).tiles))) }
     requires source_len { (length source.now ≡ cells nest) × ((length memories.old ≡ processors nest * cells nest) × (finished < 16384)) }
     ensures { (buffer l status : List ℕ) → finished ≡ get_or l (3 * processor) 0
-        → state_of memories.new buffer (setRecord l processor result) status
-        ≡ carryOut (plan_of sizes.route nest) source.now (state_of memories.old buffer l status) processor (calculate tile) }
+        → state_of memories.new buffer (set_record l processor result) status
+        ≡ carry_out (plan_of sizes.route nest) source.now (state_of memories.old buffer l status) processor (calculate tile) }
 {
     let cells = sizes.cells;
     let base = processor * cells;
@@ -208,7 +208,7 @@ pub fn put_message(
     requires memory_len { (length memory.now ≡ cells nest) × (length buffer.old ≡ words (plan_of sizes.route nest)) }
     ensures { buffer.new
         ≡ put buffer.old (offset (plan_of sizes.route nest).messages place.number)
-        (pack memory.now (heldBy (plan_of sizes.route nest) place.number)) }
+        (pack memory.now (held_by (plan_of sizes.route nest) place.number)) }
 {
     let offset = place.offset;
     let end = offset + place.words;
@@ -231,11 +231,11 @@ pub fn send_stage(
     requires sized { Sized nest sizes × (Tabled nest sizes lens.now × ((processor < processors nest) × (tile < (plan_of sizes.route nest).tiles))) }
     requires memories_len { (length memories.now ≡ processors nest * cells nest) × ((length buffer.old ≡ words (plan_of sizes.route nest))
         × (length status.old ≡ count (plan_of sizes.route nest))) }
-    requires finished_bound { (finished < 16384) × (sent < length (sendsOf (plan_of sizes.route nest) tile)) }
+    requires finished_bound { (finished < 16384) × (sent < length (sends_of (plan_of sizes.route nest) tile)) }
     ensures { (l : List ℕ) → finished ≡ get_or l (3 * processor) 0 → sent ≡ get_or l (3 * processor + 2) 0
-        → state_of memories.now buffer.new (setRecord l processor result) status.new
-        ≡ carryOut (plan_of sizes.route nest) [] (state_of memories.now buffer.old l status.old) processor
-        (send (get_or (sendsOf (plan_of sizes.route nest) tile) (get_or l (3 * processor + 2) 0) 0)) }
+        → state_of memories.now buffer.new (set_record l processor result) status.new
+        ≡ carry_out (plan_of sizes.route nest) [] (state_of memories.now buffer.old l status.old) processor
+        (send (get_or (sends_of (plan_of sizes.route nest) tile) (get_or l (3 * processor + 2) 0) 0)) }
 {
     let cells = sizes.cells;
     let base = processor * cells;
@@ -257,7 +257,7 @@ fn fit_record(
     processor: usize,
 ) -> bool
     requires { Sized nest sizes × (Tabled nest sizes lens.now × (3 * processor + 2 < length progress.now)) }
-    ensures { result ≡ fitRecord (plan_of sizes.route nest) (progressOnly progress.now) processor }
+    ensures { result ≡ fit_record (plan_of sizes.route nest) (progress_only progress.now) processor }
 {
     let finished = word_index(progress[3 * processor]);
     let stage = progress[3 * processor + 1];
@@ -286,7 +286,7 @@ fn fit_record(
 // All records are fit.
 pub fn fit_records(nest: Nest, sizes: Sizes, lens: &[u16; TABLE_WORDS], progress: &[u32]) -> bool
     requires { Sized nest sizes × (Tabled nest sizes lens.now × (length progress.now ≡ 3 * processors nest)) }
-    ensures { result ≡ every (fitRecord (plan_of sizes.route nest) (progressOnly progress.now)) (processors nest) }
+    ensures { result ≡ every (fit_record (plan_of sizes.route nest) (progress_only progress.now)) (processors nest) }
 {
     let n = sizes.processors;
     let mut b = 0;
@@ -316,7 +316,7 @@ pub fn fit_status(status: &[u8]) -> bool
 // Some processor has tiles left.
 pub fn tiles_left(nest: Nest, sizes: Sizes, lens: &[u16; TABLE_WORDS], progress: &[u32]) -> bool
     requires { Sized nest sizes × (Tabled nest sizes lens.now × (length progress.now ≡ 3 * processors nest)) }
-    ensures { result ≡ some (tilesLeft (plan_of sizes.route nest) (progressOnly progress.now)) (processors nest) }
+    ensures { result ≡ some (tiles_left (plan_of sizes.route nest) (progress_only progress.now)) (processors nest) }
 {
     let n = sizes.processors;
     let mut b = 0;
@@ -334,7 +334,7 @@ pub fn tiles_left(nest: Nest, sizes: Sizes, lens: &[u16; TABLE_WORDS], progress:
 // Without bounds: each cell from the memory of its tile's processor. The last dimension is never spread, so a row has one processor.
 fn copy_box(nest: Nest, sizes: Sizes, memories: &[u32], grid: &mut [u32])
     requires { Sized nest sizes × ((length memories.now ≡ processors nest * cells nest) × (length grid.old ≡ cells nest)) }
-    ensures { grid.new ≡ collected (boxPlan sizes.route nest) (state_of memories.now [] [] []) }
+    ensures { grid.new ≡ collected (box_plan sizes.route nest) (state_of memories.now [] [] []) }
 {
     let cells = sizes.cells;
     let width = nest.lengths[nest.dimensions - 1];

@@ -9,9 +9,9 @@ ghost use Rattle.plan.specs.Shaped.{plan_of};
 ghost use Rattle.plan.specs.Hops.{hops};
 ghost use Rattle.conformance.specs.Examples.{refused};
 ghost use Rattle.layout.specs.Sizes.{Sized};
-ghost use Rattle.layout.specs.RouteWords.{routeOf};
+ghost use Rattle.layout.specs.RouteWords.{route_of};
 ghost use Rattle.tables.specs.Tables.{Tabled, FoundIn};
-ghost use Rattle.summary.specs.Summary.{asFigures, figuresOf, summaryOf, line_of, noLine, messageLineOf, directionOf, many, noHops, hopsOf};
+ghost use Rattle.summary.specs.Summary.{as_figures, figures_of, summary_of, line_of, no_line, message_line_of, direction_of, many, no_hops, hops_of};
 
 use layout::Sizes;
 use nest::Nest;
@@ -53,7 +53,7 @@ pub struct HopCount {
 // The plan's figures.
 pub fn figures_of(nest: Nest, sizes: Sizes, lens: &[u16; TABLE_WORDS]) -> Figures
     requires { Sized nest sizes × Tabled nest sizes lens.now }
-    ensures { result ≡ figuresOf (plan_of sizes.route nest) }
+    ensures { result ≡ figures_of (plan_of sizes.route nest) }
 {
     let tiles = tables::tiles_of(nest, sizes, lens);
     let total = totals(nest, sizes, lens);
@@ -141,7 +141,7 @@ pub fn line_of(nest: Nest, sizes: Sizes, lens: &[u16; TABLE_WORDS], m: usize) ->
 
 // Figures, line and hops where the recipe or the message's number is refused.
 fn no_figures(number: u32) -> Figures
-    ensures { result ≡ asFigures (refused number) }
+    ensures { result ≡ as_figures (refused number) }
 {
     Figures {
         number: number,
@@ -153,7 +153,7 @@ fn no_figures(number: u32) -> Figures
 }
 
 fn no_line(number: u32) -> MessageLine
-    ensures { result ≡ noLine number }
+    ensures { result ≡ no_line number }
 {
     MessageLine {
         number: number,
@@ -166,7 +166,7 @@ fn no_line(number: u32) -> MessageLine
 }
 
 fn no_hops(number: u32) -> HopCount
-    ensures { result ≡ noHops number }
+    ensures { result ≡ no_hops number }
 {
     HopCount {
         number: number,
@@ -176,7 +176,7 @@ fn no_hops(number: u32) -> HopCount
 
 // Offered to callers: the figures of the recipe's plan on a route, 0 direct, any other indirect.
 pub fn summary(encoded: &[u8], route: u32) -> Figures
-    ensures { result ≡ summaryOf (routeOf route) encoded.now }
+    ensures { result ≡ summary_of (route_of route) encoded.now }
 {
     let mut lens = [0u16; TABLE_WORDS];
     let opening = recipe::open(encoded, route, &mut lens);
@@ -188,7 +188,7 @@ pub fn summary(encoded: &[u8], route: u32) -> Figures
 
 // Offered to callers: the line of message m of the recipe's plan on a route.
 pub fn message(encoded: &[u8], route: u32, m: u32) -> MessageLine
-    ensures { result ≡ messageLineOf (routeOf route) encoded.now m }
+    ensures { result ≡ message_line_of (route_of route) encoded.now m }
 {
     let mut lens = [0u16; TABLE_WORDS];
     let opening = recipe::open(encoded, route, &mut lens);
@@ -235,7 +235,7 @@ fn hops_along(nest: Nest, direction: u32) -> u32
 fn hops_at(nest: Nest, sizes: Sizes, lens: &[u16; TABLE_WORDS], m: usize) -> u32
     requires sized { Sized nest sizes × (Tabled nest sizes lens.now × (sizes.route ≡ Direct)) }
     requires m_bound { m < count (plan_of sizes.route nest) }
-    ensures { result ≡ hops nest (directionOf nest m) }
+    ensures { result ≡ hops nest (direction_of nest m) }
 {
     let place = tables::nth(nest, sizes, lens, m);
     let direction = place.slot % sizes.ways + 1;
@@ -244,7 +244,7 @@ fn hops_at(nest: Nest, sizes: Sizes, lens: &[u16; TABLE_WORDS], m: usize) -> u32
 
 // Offered to callers: the hops on the indirect route of message m of the recipe's direct plan.
 pub fn hops(encoded: &[u8], m: u32) -> HopCount
-    ensures { result ≡ hopsOf encoded.now m }
+    ensures { result ≡ hops_of encoded.now m }
 {
     let mut lens = [0u16; TABLE_WORDS];
     let opening = recipe::open(encoded, 0, &mut lens);

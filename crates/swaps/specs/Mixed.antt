@@ -3,13 +3,13 @@
 use Rattle.machine.specs.Plan.{Plan}
 use Rattle.machine.specs.Machine.{State, Answered}
 use Rattle.tenants.specs.Tenants.{Sharing}
-use Rattle.calendar.specs.AnyCalls.{Mixed, mixedEvent, MixedCall, mixedCall}
+use Rattle.calendar.specs.AnyCalls.{Mixed, mixed_event, MixedCall, mixed_call}
 use Rattle.swaps.specs.OneTenant.{Demand214}
 use Rattle.swaps.specs.TwoTenants.{Demand214For}
 
 -- by the answers that `acts` gives, from `start`, the state after a fresh start
 abbrev pub Mixed214 : (State → Mixed → Answered State) → State → Type 0
-Mixed214 acts start = Demand214 mixedEvent acts start
+Mixed214 acts start = Demand214 mixed_event acts start
 
 abbrev pub Mixed214For : Plan → (Sharing → MixedCall → Answered Sharing) → Sharing → Type 0
-Mixed214For p acts start = Demand214For mixedCall p acts start
+Mixed214For p acts start = Demand214For mixed_call p acts start

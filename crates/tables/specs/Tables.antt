@@ -3,12 +3,12 @@
 -- No sentence of document 02.
 use Rattle.std.specs.Prelude.{ℕ, ◌+◌, ◌≤◌, ◌<◌, ◌≡◌, ◌≢◌, List, length}
 use Rattle.machine.specs.Plan as machine
-use Rattle.machine.specs.Plan.{count, heldBy, message}
+use Rattle.machine.specs.Plan.{count, held_by, message}
 use Rattle.nest.specs.declared.Nest.{Nest}
 use Rattle.plan.specs.declared.Route.{Route}
 use Rattle.plan.specs.declared.Route.TheVariants.{Direct}
-use Rattle.plan.specs.Messages.{slots, slotMessage}
-use Rattle.plan.specs.Shaped.{shapedSlots, shapedMessage, plan_of}
+use Rattle.plan.specs.Messages.{slots, slot_message}
+use Rattle.plan.specs.Shaped.{shaped_slots, shaped_message, plan_of}
 use Rattle.layout.specs.declared.Sizes.{Sizes}
 use Rattle.layout.specs.Sizes.{Sized}
 use Rattle.tables.specs.declared.scans.MessageSlot.{MessageSlot}
@@ -33,8 +33,8 @@ pub record FoundIn (r : Route) (x : Nest) (m : ℕ) (p : MessageSlot) : Type 0 w
   pub number : p.number ≡ m
   pub low : m < count (plan_of r x)
   pub offset : p.offset ≡ machine.offset (plan_of r x).messages m
-  pub words : p.words ≡ length (heldBy (plan_of r x) m)
+  pub words : p.words ≡ length (held_by (plan_of r x) m)
   pub full : 0 < p.words
   pub room : p.offset + p.words ≤ machine.words (plan_of r x)
-  pub box : x.bounds ≡ 0 → (p.slot < slots r x) × (message (plan_of r x) m ≡ slotMessage r x p.slot)
-  pub shape : x.bounds ≢ 0 → (p.slot < shapedSlots x) × (message (plan_of r x) m ≡ shapedMessage x p.slot)
+  pub box : x.bounds ≡ 0 → (p.slot < slots r x) × (message (plan_of r x) m ≡ slot_message r x p.slot)
+  pub shape : x.bounds ≢ 0 → (p.slot < shaped_slots x) × (message (plan_of r x) m ≡ shaped_message x p.slot)

@@ -2,10 +2,10 @@
 // dues one slot along each way.
 ghost use Rattle.std.specs.Prelude.{◌≡◌, ℕ, ◌+◌, ◌*◌, ◌≤◌, ◌<◌, length, get_or};
 ghost use Rattle.machine.specs.Plan.{count, words};
-ghost use Rattle.nest.specs.Nest.{boxTiles};
-ghost use Rattle.plan.specs.Messages.{ways, slots, slotParcel, boxPlan};
+ghost use Rattle.nest.specs.Nest.{box_tiles};
+ghost use Rattle.plan.specs.Messages.{ways, slots, slot_parcel, box_plan};
 ghost use Rattle.layout.specs.Sizes.{Sized, Stepped};
-ghost use Rattle.tables.specs.boxes.Table.{Table, Filling, Likes, Twins, Summing, Only, Ends, FoundAt, atEnd, countBelow};
+ghost use Rattle.tables.specs.boxes.Table.{Table, Filling, Likes, Twins, Summing, Only, Ends, FoundAt, at_end, count_below};
 
 use crate::TABLE_WORDS;
 use crate::scans::{MessageSlot, Total};
@@ -39,7 +39,7 @@ fn places_like(at: usize, two: bool, tiling: usize, length: usize) -> usize
 // The tiles from one on that have twins equally far before them: only at the ends of a dimension do lengths change, so that one tile back
 // along the last dimension that allows it will do, up to where that dimension no longer does.
 fn run_from(nest: Nest, sizes: Sizes, tile: usize) -> Run
-    requires { Sized nest sizes × (tile < boxTiles nest) }
+    requires { Sized nest sizes × (tile < box_tiles nest) }
     ensures { Twins sizes.route nest tile result.back result.tiles }
 {
     let across = sizes.across;
@@ -77,7 +77,7 @@ fn length_back(
 ) -> u16
     requires sized { Sized nest sizes × (Twins sizes.route nest tile run.back run.tiles × Filling sizes.route nest lens.now slot) }
     requires ways_bound { (tile * sizes.ways ≤ slot) × (slot < (tile + run.tiles) * sizes.ways) }
-    ensures { result ≡ length (slotParcel sizes.route nest slot) }
+    ensures { result ≡ length (slot_parcel sizes.route nest slot) }
 {
     lens[slot - run.back * sizes.ways]
 }
@@ -97,7 +97,7 @@ fn copy_run(nest: Nest, sizes: Sizes, lens: &mut [u16; TABLE_WORDS], tile: usize
 
 // The lengths of a tile's parcels, counted.
 fn count_tile(nest: Nest, sizes: Sizes, lens: &mut [u16; TABLE_WORDS], tile: usize)
-    requires { Sized nest sizes × ((tile < boxTiles nest) × Filling sizes.route nest lens.old (tile * sizes.ways)) }
+    requires { Sized nest sizes × ((tile < box_tiles nest) × Filling sizes.route nest lens.old (tile * sizes.ways)) }
     ensures { Filling sizes.route nest lens.new ((tile + 1) * sizes.ways) }
 {
     let n = sizes.ways;
@@ -111,7 +111,7 @@ fn count_tile(nest: Nest, sizes: Sizes, lens: &mut [u16; TABLE_WORDS], tile: usi
 
 // The lengths of the parcels of a tile and, where it begins a run, of the run's other tiles: the tile to go on from.
 fn fill_from(nest: Nest, sizes: Sizes, lens: &mut [u16; TABLE_WORDS], tile: usize) -> usize
-    requires { Sized nest sizes × ((tile < boxTiles nest) × Filling sizes.route nest lens.old (tile * sizes.ways)) }
+    requires { Sized nest sizes × ((tile < box_tiles nest) × Filling sizes.route nest lens.old (tile * sizes.ways)) }
     ensures { (tile < result) × Filling sizes.route nest lens.new (result * sizes.ways) }
 {
     let run = run_from(nest, sizes, tile);
@@ -138,7 +138,7 @@ pub fn fill(nest: Nest, sizes: Sizes, lens: &mut [u16; TABLE_WORDS])
 // The length of a slot's parcel, by the table.
 fn length_at(nest: Nest, sizes: Sizes, lens: &[u16; TABLE_WORDS], slot: usize) -> usize
     requires { Sized nest sizes × (Table sizes.route nest lens.now × (slot < slots sizes.route nest)) }
-    ensures { (result ≡ length (slotParcel sizes.route nest slot)) × (result ≤ 16384) }
+    ensures { (result ≡ length (slot_parcel sizes.route nest slot)) × (result ≤ 16384) }
 {
     lens[slot] as usize
 }
@@ -168,7 +168,7 @@ fn sums_to(nest: Nest, sizes: Sizes, lens: &[u16; TABLE_WORDS], end: usize) -> T
 // How many messages and words there are.
 pub fn totals(nest: Nest, sizes: Sizes, lens: &[u16; TABLE_WORDS]) -> Total
     requires { Sized nest sizes × Table sizes.route nest lens.now }
-    ensures { (result.messages ≡ count (boxPlan sizes.route nest)) × ((result.words ≡ words (boxPlan sizes.route nest))
+    ensures { (result.messages ≡ count (box_plan sizes.route nest)) × ((result.words ≡ words (box_plan sizes.route nest))
         × ((result.messages ≤ 7168) × (result.words ≤ 117440512))) }
 {
     sums_to(nest, sizes, lens, sizes.tiles * sizes.ways)
@@ -225,7 +225,7 @@ fn slots_at(
 // How many of the first n are below a slot.
 fn count_below(ends: [usize; 8], n: usize, slot: usize) -> usize
     requires { n ≤ 8 }
-    ensures { (result ≡ countBelow ends n slot) × (result ≤ n) }
+    ensures { (result ≡ count_below ends n slot) × (result ≤ n) }
 {
     let mut count = 0;
     for way in 0..n {
@@ -245,7 +245,7 @@ pub fn count_at(
     side: usize,
 ) -> usize
     requires { Sized nest sizes × Table sizes.route nest lens.now }
-    ensures { (result ≡ length (atEnd side (boxPlan sizes.route nest) tile)) × (result ≤ 7168) }
+    ensures { (result ≡ length (at_end side (box_plan sizes.route nest) tile)) × (result ≤ 7168) }
 {
     let ends = slots_at(nest, sizes, lens, tile, side);
     let n = sizes.ways;
@@ -262,8 +262,8 @@ pub fn nth_at(
     j: usize,
 ) -> MessageSlot
     requires sized { Sized nest sizes × Table sizes.route nest lens.now }
-    requires j_in_bounds { j < length (atEnd side (boxPlan sizes.route nest) tile) }
-    ensures { FoundAt sizes.route nest (get_or (atEnd side (boxPlan sizes.route nest) tile) j 0) result }
+    requires j_in_bounds { j < length (at_end side (box_plan sizes.route nest) tile) }
+    ensures { FoundAt sizes.route nest (get_or (at_end side (box_plan sizes.route nest) tile) j 0) result }
 {
     let ends = slots_at(nest, sizes, lens, tile, side);
     let n = sizes.ways;
@@ -293,7 +293,7 @@ pub fn nth_at(
 // Message m.
 pub fn nth(nest: Nest, sizes: Sizes, lens: &[u16; TABLE_WORDS], m: usize) -> MessageSlot
     requires sized { Sized nest sizes × Table sizes.route nest lens.now }
-    requires m_bound { m < count (boxPlan sizes.route nest) }
+    requires m_bound { m < count (box_plan sizes.route nest) }
     ensures { FoundAt sizes.route nest m result }
 {
     let slots = sizes.tiles * sizes.ways;

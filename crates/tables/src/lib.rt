@@ -2,11 +2,11 @@
 // Here box and shape meet: a function looks at the number of bounds once, and its contract speaks of the nest's plan.
 ghost use Rattle.std.specs.Prelude.{◌≡◌, ℕ, ◌≤◌, ◌<◌, length, get_or};
 ghost use Rattle.base.specs.Lists.{pack, unpack};
-ghost use Rattle.machine.specs.Plan.{count, words, heldBy, tilesOf};
+ghost use Rattle.machine.specs.Plan.{count, words, held_by, tiles_of};
 ghost use Rattle.nest.specs.Nest.{cells};
 ghost use Rattle.plan.specs.Shaped.{plan_of};
 ghost use Rattle.layout.specs.Sizes.{Sized};
-ghost use Rattle.tables.specs.boxes.Table.{atEnd};
+ghost use Rattle.tables.specs.boxes.Table.{at_end};
 ghost use Rattle.tables.specs.Tables.{Routed, Tabled, FoundIn};
 
 use crate::scans::{MessageSlot, Total};
@@ -55,7 +55,7 @@ pub fn totals(nest: Nest, sizes: Sizes, lens: &[u16; TABLE_WORDS]) -> Total
 // How many tiles the processor has.
 pub fn tile_count(nest: Nest, sizes: Sizes, lens: &[u16; TABLE_WORDS], processor: usize) -> usize
     requires { Sized nest sizes × Tabled nest sizes lens.now }
-    ensures { (result ≡ length (tilesOf (plan_of sizes.route nest) processor)) × (result ≤ 16384) }
+    ensures { (result ≡ length (tiles_of (plan_of sizes.route nest) processor)) × (result ≤ 16384) }
 {
     if nest.bounds == 0 {
         return layout::tile_count(nest, sizes, processor);
@@ -71,8 +71,8 @@ pub fn tile_at(
     processor: usize,
     finished: usize,
 ) -> usize
-    requires { Sized nest sizes × (Tabled nest sizes lens.now × (finished < length (tilesOf (plan_of sizes.route nest) processor))) }
-    ensures { (result ≡ get_or (tilesOf (plan_of sizes.route nest) processor) finished 0) × (result < (plan_of sizes.route nest).tiles) }
+    requires { Sized nest sizes × (Tabled nest sizes lens.now × (finished < length (tiles_of (plan_of sizes.route nest) processor))) }
+    ensures { (result ≡ get_or (tiles_of (plan_of sizes.route nest) processor) finished 0) × (result < (plan_of sizes.route nest).tiles) }
 {
     if nest.bounds == 0 {
         return layout::tile_at(nest, sizes, processor, finished);
@@ -89,7 +89,7 @@ pub fn count_at(
     side: usize,
 ) -> usize
     requires { Sized nest sizes × (Tabled nest sizes lens.now × (tile < (plan_of sizes.route nest).tiles)) }
-    ensures { (result ≡ length (atEnd side (plan_of sizes.route nest) tile)) × (result ≤ 7168) }
+    ensures { (result ≡ length (at_end side (plan_of sizes.route nest) tile)) × (result ≤ 7168) }
 {
     if nest.bounds == 0 {
         return boxes::count_at(nest, sizes, lens, tile, side);
@@ -107,8 +107,8 @@ pub fn nth_at(
     j: usize,
 ) -> MessageSlot
     requires sized { Sized nest sizes × (Tabled nest sizes lens.now × (tile < (plan_of sizes.route nest).tiles)) }
-    requires j_in_bounds { j < length (atEnd side (plan_of sizes.route nest) tile) }
-    ensures { FoundIn sizes.route nest (get_or (atEnd side (plan_of sizes.route nest) tile) j 0) result }
+    requires j_in_bounds { j < length (at_end side (plan_of sizes.route nest) tile) }
+    ensures { FoundIn sizes.route nest (get_or (at_end side (plan_of sizes.route nest) tile) j 0) result }
 {
     if nest.bounds == 0 {
         return boxes::nth_at(nest, sizes, lens, tile, side, j);
@@ -150,7 +150,7 @@ pub fn pack(
 )
     requires sized { Sized nest sizes × (Tabled nest sizes lens.now × FoundIn sizes.route nest place.number place) }
     requires memory_len { (length memory.now ≡ cells nest) × (length words.old ≡ place.words) }
-    ensures { words.new ≡ pack memory.now (heldBy (plan_of sizes.route nest) place.number) }
+    ensures { words.new ≡ pack memory.now (held_by (plan_of sizes.route nest) place.number) }
 {
     let slot = place.slot;
     if nest.bounds == 0 {
@@ -173,7 +173,7 @@ pub fn unpack(
     requires sized { Sized nest sizes × (Tabled nest sizes lens.now × FoundIn sizes.route nest place.number place) }
     requires memory_len { (length memory.old ≡ cells nest) × (length words.now ≡ place.words) }
     ensures { memory.new
-        ≡ unpack memory.old (heldBy (plan_of sizes.route nest) place.number) words.now }
+        ≡ unpack memory.old (held_by (plan_of sizes.route nest) place.number) words.now }
 {
     let slot = place.slot;
     if nest.bounds == 0 {

@@ -1,11 +1,11 @@
 // The cells of a message, listed in the order of its words: without bounds by the rows of its box, with bounds by the runs of its rows.
 ghost use Rattle.std.specs.Prelude.{◌≡◌, ◌+◌, ◌<◌, length};
 ghost use Rattle.base.specs.Lists.{pack};
-ghost use Rattle.machine.specs.Plan.{heldBy};
-ghost use Rattle.nest.specs.Nest.{boxTiles};
+ghost use Rattle.machine.specs.Plan.{held_by};
+ghost use Rattle.nest.specs.Nest.{box_tiles};
 ghost use Rattle.plan.specs.declared.Route.TheVariants.{Direct};
-ghost use Rattle.plan.specs.Messages.{ways, slots, slotParcel};
-ghost use Rattle.plan.specs.Shaped.{shapedParcel, plan_of};
+ghost use Rattle.plan.specs.Messages.{ways, slots, slot_parcel};
+ghost use Rattle.plan.specs.Shaped.{shaped_parcel, plan_of};
 ghost use Rattle.layout.specs.Sizes.{Sized};
 ghost use Rattle.runs.specs.Runs.{Room, Packed};
 ghost use Rattle.tables.specs.Tables.{Tabled, FoundIn};
@@ -45,9 +45,9 @@ fn list_row(
 
 // The cells of a tile of the box and a way, of a nest with bounds, row by row.
 fn list_shaped(nest: Nest, sizes: Sizes, tile: usize, way: usize, cells: &mut [u16])
-    requires sized { Sized nest sizes × ((sizes.route ≡ Direct) × ((tile < boxTiles nest) × (way < ways Direct nest))) }
-    requires cells_len { length cells.old ≡ length (shapedParcel nest tile (way + 1)) }
-    ensures { cells.new ≡ pack numbers (shapedParcel nest tile (way + 1)) }
+    requires sized { Sized nest sizes × ((sizes.route ≡ Direct) × ((tile < box_tiles nest) × (way < ways Direct nest))) }
+    requires cells_len { length cells.old ≡ length (shaped_parcel nest tile (way + 1)) }
+    ensures { cells.new ≡ pack numbers (shaped_parcel nest tile (way + 1)) }
 {
     let rows = parcels::shaped::rows_at(nest, sizes, tile, way);
     let components = nest.components;
@@ -77,8 +77,8 @@ fn list_shaped(nest: Nest, sizes: Sizes, tile: usize, way: usize, cells: &mut [u
 // The cells of a slot of a nest without bounds, row by row: a row's first ones; rows alike that have none are passed over at once.
 fn list_box(nest: Nest, sizes: Sizes, slot: usize, cells: &mut [u16])
     requires { Sized nest sizes × ((slot < slots sizes.route nest)
-        × ((length cells.old ≡ length (slotParcel sizes.route nest slot)) × (0 < length cells.old))) }
-    ensures { cells.new ≡ pack numbers (slotParcel sizes.route nest slot) }
+        × ((length cells.old ≡ length (slot_parcel sizes.route nest slot)) × (0 < length cells.old))) }
+    ensures { cells.new ≡ pack numbers (slot_parcel sizes.route nest slot) }
 {
     let at = layout::place_of_tile(nest, sizes, slot / sizes.ways);
     let ahead = layout::along_of(nest, sizes, slot % sizes.ways);
@@ -112,7 +112,7 @@ pub fn cells_of(
 )
     requires sized { Sized nest sizes × (Tabled nest sizes lens.now × FoundIn sizes.route nest place.number place) }
     requires cells_len { length cells.old ≡ place.words }
-    ensures { cells.new ≡ heldBy (plan_of sizes.route nest) place.number }
+    ensures { cells.new ≡ held_by (plan_of sizes.route nest) place.number }
 {
     let slot = place.slot;
     if nest.bounds == 0 {

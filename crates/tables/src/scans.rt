@@ -1,7 +1,7 @@
 // Scans of a table of parcel lengths by slot: numbers, offsets and totals of messages, whatever the slots hold.
 ghost use Rattle.std.specs.Prelude.{◌≡◌, ℕ, ◌≤◌, ◌<◌, length};
 ghost use Rattle.machine.specs.Plan.{Message};
-ghost use Rattle.plan.specs.Messages.{messagesOf};
+ghost use Rattle.plan.specs.Messages.{messages_of};
 ghost use Rattle.tables.specs.scans.Scans.{Sheet, Lengths, Summing, Found};
 
 use crate::TABLE_WORDS;
@@ -47,7 +47,7 @@ pub fn sums_to(lens: &[u16; TABLE_WORDS], end: usize) -> Total
 // Message m of so many slots.
 pub fn nth(lens: &[u16; TABLE_WORDS], slots: usize, m: usize) -> MessageSlot
     requires { Sheet lens.now slots }
-    ensures { (f : ℕ → Message) → Lengths f slots lens.now → m < length (messagesOf f slots) → Found f slots m result }
+    ensures { (f : ℕ → Message) → Lengths f slots lens.now → m < length (messages_of f slots) → Found f slots m result }
 {
     let mut slot = 0;
     let mut number = 0;

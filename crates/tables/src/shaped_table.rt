@@ -1,20 +1,20 @@
 // The table of a nest with bounds, filled once in a call: the tiles that exist, their processors and the lengths of their parcels; and what
 // is found by it. A tile's number is its place among the tiles that exist; its number in the box is what geometry goes by.
 ghost use Rattle.std.specs.Prelude.{◌≡◌, ◌≢◌, true, false, ℕ, ◌+◌, ◌*◌, ◌≤◌, ◌<◌, length, get_or, replicate, eqb};
-ghost use Rattle.machine.specs.Plan.{count, words, tilesOf};
+ghost use Rattle.machine.specs.Plan.{count, words, tiles_of};
 ghost use Rattle.nest.specs.Accepted.{Accepted};
-ghost use Rattle.nest.specs.Nest.{boxTiles, processors};
-ghost use Rattle.nest.specs.Places.{tilePlace};
+ghost use Rattle.nest.specs.Nest.{box_tiles, processors};
+ghost use Rattle.nest.specs.Places.{tile_place};
 ghost use Rattle.nest.specs.Shape.{exists, tiles};
 ghost use Rattle.plan.specs.declared.Route.TheVariants.{Direct};
-ghost use Rattle.plan.specs.Geometry.{processorOf};
+ghost use Rattle.plan.specs.Geometry.{processor_of};
 ghost use Rattle.plan.specs.Messages.{ways, directions};
-ghost use Rattle.plan.specs.Shaped.{boxTile, shapedMessage, shapedSlotParcel, shapedSlots, plan_of};
+ghost use Rattle.plan.specs.Shaped.{box_tile, shaped_message, shaped_slot_parcel, shaped_slots, plan_of};
 ghost use Rattle.layout.specs.Sizes.{Sized};
 ghost use Rattle.layout.specs.Places.{Has};
 ghost use Rattle.tables.specs.scans.Scans.{Found};
 ghost use Rattle.parcels.specs.shaped.Parcels.{Farthest};
-ghost use Rattle.tables.specs.shaped_table.Table.{Marks, Tiles, Owned, Like, Filling, ShapedTable, Steps, end_of, Ranged, atEnd};
+ghost use Rattle.tables.specs.shaped_table.Table.{Marks, Tiles, Owned, Like, Filling, ShapedTable, Steps, end_of, Ranged, at_end};
 ghost use Rattle.tables.specs.shaped_table.Lines.{OneProcessor, Lined};
 ghost use Rattle.tables.specs.shaped_table.Moves.{Moves};
 
@@ -53,7 +53,7 @@ fn mark_tiles(nest: Nest, marks: &mut [u8])
 
 // Whether a tile of the box is marked.
 fn is_marked(nest: Nest, marks: &[u8], u: usize) -> bool
-    requires { Accepted nest × (Marks nest marks.now × (u < boxTiles nest)) }
+    requires { Accepted nest × (Marks nest marks.now × (u < box_tiles nest)) }
     ensures { result ≡ exists nest u }
 {
     marks[u] > 0
@@ -86,7 +86,7 @@ pub fn tiles_of(nest: Nest, lens: &[u16; TABLE_WORDS]) -> usize
 // A tile's number in the box.
 pub fn box_of(nest: Nest, lens: &[u16; TABLE_WORDS], tile: usize) -> usize
     requires { Accepted nest × (Tiles nest lens.now × (tile < tiles nest)) }
-    ensures { (result ≡ boxTile nest tile) × (result < boxTiles nest) }
+    ensures { (result ≡ box_tile nest tile) × (result < box_tiles nest) }
 {
     lens[MOST_MESSAGES + tile] as usize
 }
@@ -94,15 +94,15 @@ pub fn box_of(nest: Nest, lens: &[u16; TABLE_WORDS], tile: usize) -> usize
 // A tile's processor.
 pub fn owner_of(nest: Nest, lens: &[u16; TABLE_WORDS], tile: usize) -> usize
     requires { Accepted nest × (Owned nest lens.now (tiles nest) × (tile < tiles nest)) }
-    ensures { (result ≡ processorOf nest (boxTile nest tile)) × (result < processors nest) }
+    ensures { (result ≡ processor_of nest (box_tile nest tile)) × (result < processors nest) }
 {
     lens[OWNERS_AT + tile] as usize
 }
 
 // The processor of a tile of the box, and the end of its row; from this tile on those below the old end have the old one.
 fn owner_at(nest: Nest, sizes: Sizes, old: Owner, tile: usize) -> Owner
-    requires { Sized nest sizes × ((tile < boxTiles nest) × OneProcessor nest tile old.number old.end) }
-    ensures { (result.number ≡ processorOf nest tile) × ((result.number < processors nest) × OneProcessor nest tile result.number result.end) }
+    requires { Sized nest sizes × ((tile < box_tiles nest) × OneProcessor nest tile old.number old.end) }
+    ensures { (result.number ≡ processor_of nest tile) × ((result.number < processors nest) × OneProcessor nest tile result.number result.end) }
 {
     if tile < old.end {
         return old;
@@ -139,10 +139,10 @@ fn slot_length(
     at: [usize; 4],
     way: usize,
 ) -> usize
-    requires sized { Sized nest sizes × ((sizes.route ≡ Direct) × ((tile < boxTiles nest) × (way < directions nest))) }
-    requires farthest { Farthest nest most × Has at (tilePlace nest tile) nest.dimensions }
-    ensures { ((t : ℕ) → t < tiles nest → boxTile nest t ≡ tile
-        → result ≡ length (shapedSlotParcel nest (t * directions nest + way))) × (result ≤ 16384) }
+    requires sized { Sized nest sizes × ((sizes.route ≡ Direct) × ((tile < box_tiles nest) × (way < directions nest))) }
+    requires farthest { Farthest nest most × Has at (tile_place nest tile) nest.dimensions }
+    ensures { ((t : ℕ) → t < tiles nest → box_tile nest t ≡ tile
+        → result ≡ length (shaped_slot_parcel nest (t * directions nest + way))) × (result ≤ 16384) }
 {
     let ahead = layout::along_of(nest, sizes, way);
     let counts = nest.counts;
@@ -186,7 +186,7 @@ fn line_at(
     old: TileRow,
     tile: usize,
 ) -> TileRow
-    requires sized { Sized nest sizes × ((tile < boxTiles nest) × (Farthest nest most × Moves nest by.steps by.far)) }
+    requires sized { Sized nest sizes × ((tile < box_tiles nest) × (Farthest nest most × Moves nest by.steps by.far)) }
     requires lined { Lined nest old.far old.from old.to }
     ensures { Lined nest result.far result.from result.to }
 {
@@ -255,7 +255,7 @@ fn length_as(
 ) -> u16
     requires sized { Sized nest sizes × ((sizes.route ≡ Direct) × Like nest tile p) }
     requires tile_bound { (tile < tiles nest) × ((way < directions nest) × Filling nest lens.now (tile * directions nest + way)) }
-    ensures { result ≡ length (shapedSlotParcel nest (tile * directions nest + way)) }
+    ensures { result ≡ length (shaped_slot_parcel nest (tile * directions nest + way)) }
 {
     lens[p * sizes.ways + way]
 }
@@ -334,7 +334,7 @@ pub fn totals(nest: Nest, sizes: Sizes, lens: &[u16; TABLE_WORDS]) -> Total
 // How many tiles the processor has.
 pub fn tile_count(nest: Nest, lens: &[u16; TABLE_WORDS], processor: usize) -> usize
     requires { Accepted nest × ShapedTable nest lens.now }
-    ensures { (result ≡ length (tilesOf (plan_of Direct nest) processor)) × (result ≤ 1024) }
+    ensures { (result ≡ length (tiles_of (plan_of Direct nest) processor)) × (result ≤ 1024) }
 {
     let n = tiles_of(nest, lens);
     let mut count = 0;
@@ -350,8 +350,8 @@ pub fn tile_count(nest: Nest, lens: &[u16; TABLE_WORDS], processor: usize) -> us
 // Its tile after so many finished ones.
 pub fn tile_at(nest: Nest, lens: &[u16; TABLE_WORDS], processor: usize, finished: usize) -> usize
     requires accepted { Accepted nest × ShapedTable nest lens.now }
-    requires finished_in_bounds { finished < length (tilesOf (plan_of Direct nest) processor) }
-    ensures { (result ≡ get_or (tilesOf (plan_of Direct nest) processor) finished 0) × (result < tiles nest) }
+    requires finished_in_bounds { finished < length (tiles_of (plan_of Direct nest) processor) }
+    ensures { (result ≡ get_or (tiles_of (plan_of Direct nest) processor) finished 0) × (result < tiles nest) }
 {
     let n = tiles_of(nest, lens);
     let mut count = 0;
@@ -386,8 +386,8 @@ fn has_end(
     side: usize,
 ) -> bool
     requires sized { Sized nest sizes × ((sizes.route ≡ Direct) × (ShapedTable nest lens.now × Steps nest steps)) }
-    requires slot_bound { (slot < shapedSlots nest) × (tile < tiles nest) }
-    ensures { 0 < length (shapedSlotParcel nest slot) → result ≡ eqb (end_of side (shapedMessage nest slot)) tile }
+    requires slot_bound { (slot < shaped_slots nest) × (tile < tiles nest) }
+    ensures { 0 < length (shaped_slot_parcel nest slot) → result ≡ eqb (end_of side (shaped_message nest slot)) tile }
 {
     let sender = slot / sizes.ways;
     if side == 0 {
@@ -417,9 +417,9 @@ fn sends_at(
     side: usize,
 ) -> bool
     requires sized { Sized nest sizes × ((sizes.route ≡ Direct) × (ShapedTable nest lens.now × Steps nest steps)) }
-    requires slot_bound { (slot < shapedSlots nest) × (tile < tiles nest) }
-    ensures { (result ≡ true → (0 < length (shapedSlotParcel nest slot)) × (end_of side (shapedMessage nest slot) ≡ tile))
-        × (result ≡ false → 0 < length (shapedSlotParcel nest slot) → end_of side (shapedMessage nest slot) ≢ tile) }
+    requires slot_bound { (slot < shaped_slots nest) × (tile < tiles nest) }
+    ensures { (result ≡ true → (0 < length (shaped_slot_parcel nest slot)) × (end_of side (shaped_message nest slot) ≡ tile))
+        × (result ≡ false → 0 < length (shaped_slot_parcel nest slot) → end_of side (shaped_message nest slot) ≢ tile) }
 {
     if lens[slot] == 0 {
         return false;
@@ -453,7 +453,7 @@ pub fn count_at(
     side: usize,
 ) -> usize
     requires { Sized nest sizes × ((sizes.route ≡ Direct) × (ShapedTable nest lens.now × (tile < tiles nest))) }
-    ensures { (result ≡ length (atEnd side (plan_of Direct nest) tile)) × (result ≤ 7168) }
+    ensures { (result ≡ length (at_end side (plan_of Direct nest) tile)) × (result ≤ 7168) }
 {
     let steps = steps_of(nest, sizes);
     let slots = range_of(nest, sizes, tile, side);
@@ -477,8 +477,8 @@ pub fn nth_at(
     j: usize,
 ) -> MessageSlot
     requires sized { Sized nest sizes × ((sizes.route ≡ Direct) × (ShapedTable nest lens.now × (tile < tiles nest))) }
-    requires j_in_bounds { j < length (atEnd side (plan_of Direct nest) tile) }
-    ensures { Found (shapedMessage nest) (shapedSlots nest) (get_or (atEnd side (plan_of Direct nest) tile) j 0) result }
+    requires j_in_bounds { j < length (at_end side (plan_of Direct nest) tile) }
+    ensures { Found (shaped_message nest) (shaped_slots nest) (get_or (at_end side (plan_of Direct nest) tile) j 0) result }
 {
     let steps = steps_of(nest, sizes);
     let slots = range_of(nest, sizes, tile, side);
@@ -508,8 +508,8 @@ pub fn nth_at(
 
 // The tile that takes a slot's message.
 pub fn taker_of(nest: Nest, sizes: Sizes, lens: &[u16; TABLE_WORDS], slot: usize) -> usize
-    requires { Sized nest sizes × ((sizes.route ≡ Direct) × (ShapedTable nest lens.now × (slot < shapedSlots nest))) }
-    ensures { 0 < length (shapedSlotParcel nest slot) → result ≡ end_of 1 (shapedMessage nest slot) }
+    requires { Sized nest sizes × ((sizes.route ≡ Direct) × (ShapedTable nest lens.now × (slot < shaped_slots nest))) }
+    ensures { 0 < length (shaped_slot_parcel nest slot) → result ≡ end_of 1 (shaped_message nest slot) }
 {
     let steps = steps_of(nest, sizes);
     let from = box_of(nest, lens, slot / sizes.ways);

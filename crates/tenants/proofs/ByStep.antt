@@ -10,59 +10,59 @@ use lib.ListN.{length, set}
 use lib.Dec.{eqb}
 use borrow.Author.Tests.{eq-eqb, ne_eqb}
 use Rattle.base.specs.Tests.{pick}
-use Rattle.base.proofs.Tests.{both, pick_true, pick-false, every-at}
+use Rattle.base.proofs.Tests.{both, pick_true, pick_false, every_at}
 use Rattle.machine.specs.Plan.{Plan}
-use Rattle.machine.specs.Machine.{State, stageOf, Answered}
+use Rattle.machine.specs.Machine.{State, stage_of, Answered}
 use Rattle.machine.specs.Machine.{turn}
 use Rattle.machine.proofs.Turns.{can, by_next}
-use Rattle.tenants.specs.Tenants.{TenantAreas, tenantAreas, holderOf, word_for, fitWord, fitFor, heldByOther}
-use Rattle.tenants.specs.Tenants.{carryOutFor, turnFor}
-use Rattle.tenants.proofs.OneCall.{Admits, turn-number, turn-own, turn-done}
-use Rattle.tenants.proofs.SharedWords.{begun-held, acted}
+use Rattle.tenants.specs.Tenants.{TenantAreas, tenant_areas, holder_of, word_for, fit_word, fit_for, held_by_other}
+use Rattle.tenants.specs.Tenants.{carry_out_for, turn_for}
+use Rattle.tenants.proofs.OneCall.{Admits, turn_number, turn_own, turn_done}
+use Rattle.tenants.proofs.SharedWords.{begun_held, acted}
 
 module _ (p : Plan) (source : List ℕ) (o : ℕ) (l : TenantAreas) (theirs : List ℕ) (b : ℕ) (admits : Admits p o l theirs)
-    (free : heldByOther p o l b ≡ false) (len : length l.own.progress ≡ 3 * p.processors)
+    (free : held_by_other p o l b ≡ false) (len : length l.own.progress ≡ 3 * p.processors)
     (wide : length l.engaged ≡ p.processors) where
   abbrev a : Answered State
   a = turn p source l.own b
 
-  holds : b < p.processors → 1 ≤ stageOf l.own b → holderOf l.engaged b ≡ o
-  unfolding fitFor fitWord
-  holds low k = begun-held _ o _ (both (both (every-at _ p.processors (both (both admits.fits).1).1 b low)).1).0 k
+  holds : b < p.processors → 1 ≤ stage_of l.own b → holder_of l.engaged b ≡ o
+  unfolding fit_for fit_word
+  holds low k = begun_held _ o _ (both (both (every_at _ p.processors (both (both admits.fits).1).1 b low)).1).0 k
 
-  same : (turnFor p source o l theirs b).number ≡ a.number
-  same = turn-number p o l theirs source b admits free
+  same : (turn_for p source o l theirs b).number ≡ a.number
+  same = turn_number p o l theirs source b admits free
 
-  words-done : a.number ≡ 0 → (turnFor p source o l theirs b).after.engaged ≡ set l.engaged b (word_for o (stageOf a.after b))
-  unfolding carryOutFor
-  words-done z =
-      ap (λ (x : TenantAreas). x.engaged) (turn-done p o l theirs source b (same ∙ z))
+  words_done : a.number ≡ 0 → (turn_for p source o l theirs b).after.engaged ≡ set l.engaged b (word_for o (stage_of a.after b))
+  unfolding carry_out_for
+  words_done z =
+      ap (λ (x : TenantAreas). x.engaged) (turn_done p o l theirs source b (same ∙ z))
       ∙ (acted p source o l b low len wide _ _ _ (holds low)).word
-      ∙ ap (λ (s : State). set l.engaged b (word_for o (stageOf s b))) (sym (by_next p source l.own b z))
+      ∙ ap (λ (s : State). set l.engaged b (word_for o (stage_of s b))) (sym (by_next p source l.own b z))
     where
       low : b < p.processors
       low = (can p source l.own b z).low
 
-  words-kept : a.number ≢ 0 → (turnFor p source o l theirs b).after.engaged ≡ l.engaged
-  unfolding turnFor
-  words-kept n = ap (λ (x : TenantAreas). x.engaged) (pick-false _ _ _ (ne_eqb _ 0 (λ z. n (sym same ∙ z))))
+  words_kept : a.number ≢ 0 → (turn_for p source o l theirs b).after.engaged ≡ l.engaged
+  unfolding turn_for
+  words_kept n = ap (λ (x : TenantAreas). x.engaged) (pick_false _ _ _ (ne_eqb _ 0 (λ z. n (sym same ∙ z))))
 
-  words : (turnFor p source o l theirs b).after.engaged
-      ≡ pick (eqb a.number 0) (set l.engaged b (word_for o (stageOf a.after b))) l.engaged
+  words : (turn_for p source o l theirs b).after.engaged
+      ≡ pick (eqb a.number 0) (set l.engaged b (word_for o (stage_of a.after b))) l.engaged
   words = go (ℕ_discrete a.number 0)
     where
-      go : Dec (a.number ≡ 0) → (turnFor p source o l theirs b).after.engaged
-          ≡ pick (eqb a.number 0) (set l.engaged b (word_for o (stageOf a.after b))) l.engaged
-      go (yes z) = words-done z ∙ sym (pick_true _ _ _ (eq-eqb _ 0 z))
-      go (no n) = words-kept n ∙ sym (pick-false _ _ _ (ne_eqb _ 0 n))
+      go : Dec (a.number ≡ 0) → (turn_for p source o l theirs b).after.engaged
+          ≡ pick (eqb a.number 0) (set l.engaged b (word_for o (stage_of a.after b))) l.engaged
+      go (yes z) = words_done z ∙ sym (pick_true _ _ _ (eq-eqb _ 0 z))
+      go (no n) = words_kept n ∙ sym (pick_false _ _ _ (ne_eqb _ 0 n))
 
-  pub turn_by : turnFor p source o l theirs b
+  pub turn_by : turn_for p source o l theirs b
       ≡ record {
         number = a.number;
-        after = tenantAreas a.after (pick (eqb a.number 0) (set l.engaged b (word_for o (stageOf a.after b))) l.engaged);
+        after = tenant_areas a.after (pick (eqb a.number 0) (set l.engaged b (word_for o (stage_of a.after b))) l.engaged);
       }
-  turn_by = alike same (turn-own p o l theirs source b admits free) words
+  turn_by = alike same (turn_own p o l theirs source b admits free) words
     where
       alike : {x : Answered TenantAreas} {n : ℕ} {s : State} {ws : List ℕ} → x.number ≡ n → x.after.own ≡ s → x.after.engaged ≡ ws
-          → x ≡ record { number = n; after = tenantAreas s ws }
+          → x ≡ record { number = n; after = tenant_areas s ws }
       alike e f g = rw (sym e, sym f, sym g)

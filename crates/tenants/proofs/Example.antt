@@ -2,9 +2,9 @@
 use mathlib.Core.List.{List}
 use Rattle.machine.proofs.ComputedRun.{rows}
 use Rattle.machine.proofs.Example.{sound}
-use Rattle.tenants.specs.Tenants.{Sources, freshSharing, Call, actOn, collectOn}
+use Rattle.tenants.specs.Tenants.{Sources, fresh_sharing, Call, act_on, collect_on}
 use Rattle.tenants.specs.Demand208.{Demand208}
 use Rattle.tenants.proofs.Theorem208.{theorem208}
 
-holds : (sources : Sources) (calls : List Call) → Demand208 (actOn rows sources) (freshSharing rows) calls rows sources (collectOn rows)
+holds : (sources : Sources) (calls : List Call) → Demand208 (act_on rows sources) (fresh_sharing rows) calls rows sources (collect_on rows)
 holds = theorem208 rows sound

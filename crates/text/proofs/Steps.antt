@@ -17,8 +17,8 @@ use lib.ListN.{length, get_or, drop, length-append}
 use lib.Seq.{drop-cons, drop-nil}
 use Rattle.text.specs.Decimal.{decimal, signed}
 use Rattle.text.specs.Writing.{Pen, pen, write}
-use Rattle.text.proofs.Decimals.{decimal-small, decimal-more}
-use Rattle.text.proofs.Pens.{next, room, write-at, write-both, write-none}
+use Rattle.text.proofs.Decimals.{decimal_small, decimal_more}
+use Rattle.text.proofs.Pens.{next, room, write_at, write_both, write_none}
 
 abbrev pub most : ℕ
 most = 4294967295
@@ -26,25 +26,25 @@ most = 4294967295
 -- ---- decimals
 
 module _ (n : ℕ) (h : n < 10) where
-  pub small-room : (p : ℕ) → p + length (decimal n) ≤ most → p + 1 ≤ most
-  small-room p r = rw (decimal-small n h) at r
+  pub small_room : (p : ℕ) → p + length (decimal n) ≤ most → p + 1 ≤ most
+  small_room p r = rw (decimal_small n h) at r
 
-  pub small-done : (u w : Pen) → u ≡ write w ((48 + n) ∷ []) → u ≡ write w (decimal n)
-  small-done u w e = rw (decimal-small n h) e
+  pub small_done : (u w : Pen) → u ≡ write w ((48 + n) ∷ []) → u ≡ write w (decimal n)
+  small_done u w e = rw (decimal_small n h) e
 
 module _ (n : ℕ) (h : 10 ≤ n) (p : ℕ) (r : p + length (decimal n) ≤ most) where
-  both-room : p + length (decimal (n / 10) ++ ((48 + n % 10) ∷ [])) ≤ most
-  both-room = rw (decimal-more n h) at r
+  both_room : p + length (decimal (n / 10) ++ ((48 + n % 10) ∷ [])) ≤ most
+  both_room = rw (decimal_more n h) at r
 
-  pub high-room : p + length (decimal (n / 10)) ≤ most
-  high-room = omega (arith, both-room, length-append (decimal (n / 10)) ((48 + n % 10) ∷ []))
+  pub high_room : p + length (decimal (n / 10)) ≤ most
+  high_room = omega (arith, both_room, length-append (decimal (n / 10)) ((48 + n % 10) ∷ []))
 
   module _ (q : ℕ) (s t : List ℕ) (e : pen q t ≡ write (pen p s) (decimal (n / 10))) where
-    pub last-room : q + 1 ≤ most
-    last-room = room p q most s t (decimal (n / 10)) ((48 + n % 10) ∷ []) e both-room
+    pub last_room : q + 1 ≤ most
+    last_room = room p q most s t (decimal (n / 10)) ((48 + n % 10) ∷ []) e both_room
 
     pub last_done : (u : Pen) → u ≡ write (pen q t) ((48 + n % 10) ∷ []) → u ≡ write (pen p s) (decimal n)
-    last_done u f = rw (decimal-more n h) (next (pen q t) (pen p s) u (decimal (n / 10)) ((48 + n % 10) ∷ []) e f)
+    last_done u f = rw (decimal_more n h) (next (pen q t) (pen p s) u (decimal (n / 10)) ((48 + n % 10) ∷ []) e f)
 
 -- ---- numbers of either sign
 
@@ -60,20 +60,20 @@ module _ (z : ℤ) (f : SFits w32 z) (neg : lt_z z (pos 0) ≡ true) where
   pub minus : negsuc 0 -ℤ to_z w32 (of_z w32 z) ≡ pos (nat_abs z - 1)
   minus = rw (to_z-of_z w32 z f) (less z f neg)
 
-  pub minus-fits : SFits w32 (negsuc 0 -ℤ to_z w32 (of_z w32 z))
-  minus-fits = rw minus (record { sfits = omega (arith, (size_small z f neg).0) })
+  pub minus_fits : SFits w32 (negsuc 0 -ℤ to_z w32 (of_z w32 z))
+  minus_fits = rw minus (record { sfits = omega (arith, (size_small z f neg).0) })
 
-  pub minus-read : to_z w32 (of_z w32 (negsuc 0 -ℤ to_z w32 (of_z w32 z))) ≡ pos (nat_abs z - 1)
-  minus-read = to_z-of_z w32 _ minus-fits ∙ minus
+  pub minus_read : to_z w32 (of_z w32 (negsuc 0 -ℤ to_z w32 (of_z w32 z))) ≡ pos (nat_abs z - 1)
+  minus_read = to_z-of_z w32 _ minus_fits ∙ minus
 
-  pub minus-cast : T (non_neg (to_z w32 (of_z w32 (negsuc 0 -ℤ to_z w32 (of_z w32 z))))) × Fits w32 (nat_abs (to_z w32 (of_z w32 (negsuc 0 -ℤ to_z w32 (of_z w32 z)))))
-  minus-cast = rw minus-read (tt, record { fits = omega (arith, (size_small z f neg).0) })
+  pub minus_cast : T (non_neg (to_z w32 (of_z w32 (negsuc 0 -ℤ to_z w32 (of_z w32 z))))) × Fits w32 (nat_abs (to_z w32 (of_z w32 (negsuc 0 -ℤ to_z w32 (of_z w32 z)))))
+  minus_cast = rw minus_read (tt, record { fits = omega (arith, (size_small z f neg).0) })
 
-  pub minus-add : Fits w32 (nat_abs (to_z w32 (of_z w32 (negsuc 0 -ℤ to_z w32 (of_z w32 z)))) + 1)
-  minus-add = rw minus-read (record { fits = omega (arith, (size_small z f neg).0) })
+  pub minus_add : Fits w32 (nat_abs (to_z w32 (of_z w32 (negsuc 0 -ℤ to_z w32 (of_z w32 z)))) + 1)
+  minus_add = rw minus_read (record { fits = omega (arith, (size_small z f neg).0) })
 
-  pub minus-done : nat_abs (to_z w32 (of_z w32 (negsuc 0 -ℤ to_z w32 (of_z w32 z)))) + 1 ≡ nat_abs z
-  minus-done = rw minus-read (omega (arith, (size_small z f neg).1))
+  pub minus_done : nat_abs (to_z w32 (of_z w32 (negsuc 0 -ℤ to_z w32 (of_z w32 z)))) + 1 ≡ nat_abs z
+  minus_done = rw minus_read (omega (arith, (size_small z f neg).1))
 
 -- ---- loops: what is left to write at the place gives what the whole gives at the start
 
@@ -87,13 +87,13 @@ module _ (s : List ℕ) (p : ℕ) (text : List ℕ) where
   going_start r = record { same = refl; fits = r; long = refl }
 
   module _ (t : List ℕ) (q : ℕ) (left a b : List ℕ) (is : left ≡ a ++ b) (g : Going s p text t q left) where
-    pub going-fits : q + length a ≤ most
-    going-fits = let r : q + length (a ++ b) ≤ most = rw is at g.fits in omega (arith, length-append a b)
+    pub going_fits : q + length a ≤ most
+    going_fits = let r : q + length (a ++ b) ≤ most = rw is at g.fits in omega (arith, length-append a b)
 
     pub going_on : (u : List ℕ) (v : ℕ) → pen v u ≡ write (pen q t) a → length u ≡ length t → Going s p text u v b
     going_on u v e l =
         record {
-          same = ap (λ (w : Pen). write w b) e ∙ sym (write-both (pen q t) a b) ∙ ap (write (pen q t)) (sym is) ∙ g.same;
+          same = ap (λ (w : Pen). write w b) e ∙ sym (write_both (pen q t) a b) ∙ ap (write (pen q t)) (sym is) ∙ g.same;
           fits = room q v most t u a b e (rw is at g.fits);
           long = l ∙ g.long;
         }
@@ -102,16 +102,16 @@ module _ (s : List ℕ) (p : ℕ) (text : List ℕ) where
     pub going_done : (u : Pen) (a : List ℕ) → left ≡ a → u ≡ write (pen q t) a → u ≡ write (pen p s) text
     going_done u a is e = e ∙ ap (write (pen q t)) (sym is) ∙ g.same
 
-    pub going-over : left ≡ [] → pen q t ≡ write (pen p s) text
-    going-over is = going_done (pen q t) [] is (sym (write-none (pen q t)))
+    pub going_over : left ≡ [] → pen q t ≡ write (pen p s) text
+    going_over is = going_done (pen q t) [] is (sym (write_none (pen q t)))
 
 pub bytes_left : (l : List ℕ) (i : ℕ) → i < length l → drop i l ≡ (get_or l i 0 ∷ []) ++ drop (i + 1) l
 bytes_left l i h = rw (add-one, drop-cons l i 0)
 
-pub bytes-none : (l : List ℕ) (i : ℕ) → length l ≤ i → drop i l ≡ []
-bytes-none [] i h = drop-nil i
-bytes-none (x ∷ l) zero h = absurd (omega arith)
-bytes-none (x ∷ l) (suc i) h = bytes-none l i (omega arith)
+pub bytes_none : (l : List ℕ) (i : ℕ) → length l ≤ i → drop i l ≡ []
+bytes_none [] i h = drop-nil i
+bytes_none (x ∷ l) zero h = absurd (omega arith)
+bytes_none (x ∷ l) (suc i) h = bytes_none l i (omega arith)
 
 -- ---- one text from its parts: a ++ (b ++ ..), each part written by a call
 
@@ -120,22 +120,22 @@ pub record Run (w : Pen) (text : List ℕ) (v : Pen) (left : List ℕ) : Type 0 
   pub same : write v left ≡ write w text
   pub fits : v.at + length left ≤ most
 
-pub run-start : (w : Pen) (text : List ℕ) → w.at + length text ≤ most → Run w text w text
-run-start w text r = record { same = refl; fits = r }
+pub run_start : (w : Pen) (text : List ℕ) → w.at + length text ≤ most → Run w text w text
+run_start w text r = record { same = refl; fits = r }
 
 pub run_fits : {w v : Pen} {text : List ℕ} (a b : List ℕ) → Run w text v (a ++ b) → v.at + length a ≤ most
 run_fits a b g = omega (arith, length-append a b, g.fits)
 
 pub run_on : {w v : Pen} {text : List ℕ} (a b : List ℕ) → Run w text v (a ++ b) → (u : Pen) → u ≡ write v a → Run w text u b
 run_on {v = v} a b g u e =
-    let q : u.at ≡ v.at + length a = ap (λ (z : Pen). z.at) e ∙ write-at v a in
+    let q : u.at ≡ v.at + length a = ap (λ (z : Pen). z.at) e ∙ write_at v a in
     record {
-      same = ap (λ (z : Pen). write z b) e ∙ sym (write-both v a b) ∙ g.same;
+      same = ap (λ (z : Pen). write z b) e ∙ sym (write_both v a b) ∙ g.same;
       fits = omega (arith, length-append a b, g.fits);
     }
 
-pub run-done : {w v : Pen} {text : List ℕ} (a : List ℕ) → Run w text v a → (u : Pen) → u ≡ write v a → u ≡ write w text
-run-done a g u e = e ∙ g.same
+pub run_done : {w v : Pen} {text : List ℕ} (a : List ℕ) → Run w text v a → (u : Pen) → u ≡ write v a → u ≡ write w text
+run_done a g u e = e ∙ g.same
 
 -- ---- a number of either sign in two parts; y is z, as the machine reads it back
 
@@ -143,43 +143,43 @@ module _ (z : ℤ) (f : SFits w32 z) where
   read_back : to_z w32 (of_z w32 z) ≡ z
   read_back = to_z-of_z w32 z f
 
-  reads-negative : {t : Bool} → lt_z (to_z w32 (of_z w32 z)) (pos 0) ≡ t → lt_z z (pos 0) ≡ t
-  reads-negative e = rw read_back at e
+  reads_negative : {t : Bool} → lt_z (to_z w32 (of_z w32 z)) (pos 0) ≡ t → lt_z z (pos 0) ≡ t
+  reads_negative e = rw read_back at e
 
-  negative-is : (y : ℤ) → lt_z y (pos 0) ≡ true → signed y ≡ (45 ∷ []) ++ decimal (nat_abs y)
+  negative_is : (y : ℤ) → lt_z y (pos 0) ≡ true → signed y ≡ (45 ∷ []) ++ decimal (nat_abs y)
   unfolding signed
-  negative-is (pos n) e = absurd (omega (arith, ltb-true n 0 e))
-  negative-is (negsuc n) e = refl
+  negative_is (pos n) e = absurd (omega (arith, ltb-true n 0 e))
+  negative_is (negsuc n) e = refl
 
-  positive-is : (y : ℤ) → lt_z y (pos 0) ≡ false → (signed y ≡ decimal (nat_abs y)) × (y ≡ pos (nat_abs y))
+  positive_is : (y : ℤ) → lt_z y (pos 0) ≡ false → (signed y ≡ decimal (nat_abs y)) × (y ≡ pos (nat_abs y))
   unfolding signed
-  positive-is (pos n) e = (refl, refl)
-  positive-is (negsuc n) e = absurd (true≢false e)
+  positive_is (pos n) e = (refl, refl)
+  positive_is (negsuc n) e = absurd (true≢false e)
 
   module _ (w : Pen) (r : w.at + length (signed z) ≤ most) where
     module _ (neg : lt_z (to_z w32 (of_z w32 z)) (pos 0) ≡ true) (k : ℕ) (ek : k ≡ nat_abs (to_z w32 (of_z w32 z))) where
-      sign-start : Run w (signed z) w ((45 ∷ []) ++ decimal k)
-      sign-start = rw (ek, read_back) (rw (sym (negative-is z (reads-negative neg))) (run-start w (signed z) r))
+      sign_start : Run w (signed z) w ((45 ∷ []) ++ decimal k)
+      sign_start = rw (ek, read_back) (rw (sym (negative_is z (reads_negative neg))) (run_start w (signed z) r))
 
-      pub sign-minus : w.at + 1 ≤ most
-      sign-minus = run_fits (45 ∷ []) (decimal k) sign-start
+      pub sign_minus : w.at + 1 ≤ most
+      sign_minus = run_fits (45 ∷ []) (decimal k) sign_start
 
       module _ (w₁ : Pen) (e₁ : w₁ ≡ write w (45 ∷ [])) where
-        sign-one : Run w (signed z) w₁ (decimal k)
-        sign-one = run_on (45 ∷ []) (decimal k) sign-start w₁ e₁
+        sign_one : Run w (signed z) w₁ (decimal k)
+        sign_one = run_on (45 ∷ []) (decimal k) sign_start w₁ e₁
 
-        pub sign-rest : w₁.at + length (decimal k) ≤ most
-        sign-rest = sign-one.fits
+        pub sign_rest : w₁.at + length (decimal k) ≤ most
+        sign_rest = sign_one.fits
 
-        pub sign-done : (u : Pen) → u ≡ write w₁ (decimal k) → u ≡ write w (signed z)
-        sign-done u g = run-done (decimal k) sign-one u g
+        pub sign_done : (u : Pen) → u ≡ write w₁ (decimal k) → u ≡ write w (signed z)
+        sign_done u g = run_done (decimal k) sign_one u g
 
     module _ (not_neg : lt_z (to_z w32 (of_z w32 z)) (pos 0) ≡ false) where
-      pub plain-room : w.at + length (decimal (nat_abs (to_z w32 (of_z w32 z)))) ≤ most
-      plain-room = rw read_back (rw (positive-is z (reads-negative not_neg)).0 at r)
+      pub plain_room : w.at + length (decimal (nat_abs (to_z w32 (of_z w32 z)))) ≤ most
+      plain_room = rw read_back (rw (positive_is z (reads_negative not_neg)).0 at r)
 
       pub plain_done : (u : Pen) → u ≡ write w (decimal (nat_abs (to_z w32 (of_z w32 z)))) → u ≡ write w (signed z)
-      plain_done u g = rw (positive-is z (reads-negative not_neg)).0 (rw read_back at g)
+      plain_done u g = rw (positive_is z (reads_negative not_neg)).0 (rw read_back at g)
 
-  pub plain-cast : lt_z (to_z w32 (of_z w32 z)) (pos 0) ≡ false → T (non_neg (to_z w32 (of_z w32 z))) × Fits w32 (nat_abs (to_z w32 (of_z w32 z)))
-  plain-cast e = rw (read_back, (positive-is z (reads-negative e)).1) (tt, record { fits = lt_of_le_of_lt (nat_abs-le z f.sfits) (lit< tt) })
+  pub plain_cast : lt_z (to_z w32 (of_z w32 z)) (pos 0) ≡ false → T (non_neg (to_z w32 (of_z w32 z))) × Fits w32 (nat_abs (to_z w32 (of_z w32 z)))
+  plain_cast e = rw (read_back, (positive_is z (reads_negative e)).1) (tt, record { fits = lt_of_le_of_lt (nat_abs-le z f.sfits) (lit< tt) })

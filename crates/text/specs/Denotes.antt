@@ -13,15 +13,15 @@ denotes a (b ∷ bs) = denotes (a * 10 + (b - 48)) bs
 pub record IsDecimal (n : ℕ) (bs : List ℕ) : Type 0 where
   pub digits : (b : ℕ) → In b bs → (48 ≤ b) × (b ≤ 57)
   pub some : 1 ≤ length bs
-  pub no-leading-zero : 2 ≤ length bs → get_or bs 0 0 ≢ 48
+  pub no_leading_zero : 2 ≤ length bs → get_or bs 0 0 ≢ 48
   pub number : denotes 0 bs ≡ n
 
 pub record Decimals : Type 0 where
-  pub decimal-is : (n : ℕ) → IsDecimal n (decimal n)
+  pub decimal_is : (n : ℕ) → IsDecimal n (decimal n)
   pub only : (n : ℕ) (bs : List ℕ) → IsDecimal n bs → bs ≡ decimal n
   -- of a number below 0 a minus sign, 45, and then the decimal of the number without its sign: negsuc n is -(n + 1)
-  pub signed-pos : (n : ℕ) → signed (pos n) ≡ decimal n
-  pub signed-neg : (n : ℕ) → signed (negsuc n) ≡ 45 ∷ decimal (suc n)
+  pub signed_pos : (n : ℕ) → signed (pos n) ≡ decimal n
+  pub signed_neg : (n : ℕ) → signed (negsuc n) ≡ 45 ∷ decimal (suc n)
 
 -- "0", "7", "10", "305", "4294967295", computed
 pub record DecimalExamples : Type 0 where

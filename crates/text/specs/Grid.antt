@@ -46,18 +46,18 @@ abbrev pub frame : ℕ → ℕ → ℤ → ℤ → ℕ → Frame
 frame rows columns x y size = record { rows = rows; columns = columns; x = x; y = y; size = size }
 
 -- a name, a space, its value, a line feed
-unfoldable pub headLine : List ℕ → List ℕ → List ℕ
-headLine name value = name ++ (space ∷ (value ++ (feed ∷ [])))
+unfoldable pub head_line : List ℕ → List ℕ → List ℕ
+head_line name value = name ++ (space ∷ (value ++ (feed ∷ [])))
 
 -- the six lines
 unfoldable pub header : Frame → List ℕ
 header f =
-    headLine ncols (decimal f.columns)
-    ++ (headLine nrows (decimal f.rows)
-    ++ (headLine xllcorner (signed f.x)
-    ++ (headLine yllcorner (signed f.y)
-    ++ (headLine cellsize (decimal f.size)
-    ++ headLine nodata missing))))
+    head_line ncols (decimal f.columns)
+    ++ (head_line nrows (decimal f.rows)
+    ++ (head_line xllcorner (signed f.x)
+    ++ (head_line yllcorner (signed f.y)
+    ++ (head_line cellsize (decimal f.size)
+    ++ head_line nodata missing))))
 
 -- the text of cell c: its value, or -9999 outside the shape, whatever the grid has there
 unfoldable pub cell : List ℕ → (ℕ → Bool) → ℕ → List ℕ
@@ -78,5 +78,5 @@ unfoldable pub rows_from : List ℕ → (ℕ → Bool) → ℕ → ℕ → ℕ �
 rows_from grid shape n c zero = []
 rows_from grid shape n c (suc k) = row grid shape c n ++ rows_from grid shape n (c + n) k
 
-unfoldable pub gridText : Frame → List ℕ → (ℕ → Bool) → List ℕ
-gridText f grid shape = header f ++ rows_from grid shape f.columns 0 f.rows
+unfoldable pub grid_text : Frame → List ℕ → (ℕ → Bool) → List ℕ
+grid_text f grid shape = header f ++ rows_from grid shape f.columns 0 f.rows

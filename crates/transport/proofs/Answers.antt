@@ -6,173 +6,173 @@ use borrow.Author.Tests.{eq-eqb, ne_eqb, le-ltb, lt-ltb}
 use Rattle.base.specs.Tests.{◌and◌, not, tabulate}
 use Rattle.base.specs.Numbers.{Line, line, first_of}
 use Rattle.base.proofs.Tests.{and_no, not-true, not-false}
-use Rattle.base.proofs.Numbers.{first-true, first-false, first-behind, first_some}
+use Rattle.base.proofs.Numbers.{first_true, first_false, first_behind, first_some}
 use Rattle.machine.specs.Plan.{Plan, count}
-use Rattle.machine.specs.Machine.{State, fit, tilesLeft, Answered, answered}
-use Rattle.nest.specs.Reader.{readLines}
+use Rattle.machine.specs.Machine.{State, fit, tiles_left, Answered, answered}
+use Rattle.nest.specs.Reader.{read_lines}
 use Rattle.nest.proofs.Numbered.{numbered}
-use Rattle.recipe.specs.Routes.{linesFor}
-use Rattle.recipe.proofs.Laws.{numbered-for, reads-for}
-use Rattle.layout.specs.RouteWords.{routeOf}
+use Rattle.recipe.specs.Routes.{lines_for}
+use Rattle.recipe.proofs.Laws.{numbered_for, reads_for}
+use Rattle.layout.specs.RouteWords.{route_of}
 use Rattle.network.specs.Apart.{received}
-use Rattle.engine.specs.Given.{unfitLines}
+use Rattle.engine.specs.Given.{unfit_lines}
 use Rattle.engine.specs.Calls.{answer, areas}
-use Rattle.engine.proofs.Lines.{Opened, unfit-none, call-read, call-later, call-done, and_right}
-use Rattle.network.specs.Brought.{takenBy, asLong}
-use Rattle.transport.specs.arrivals.Taking.{receivedOr}
-use Rattle.transport.specs.Calls.{rows_to, messagesCall, ownerOf, ownersCall, Waits, waitsOf, waited, waitAreas, awaitedCall, takeInCall}
-use Rattle.transport.specs.Given.{unaskedLines, waitedOr13}
+use Rattle.engine.proofs.Lines.{Opened, unfit_none, call_read, call_later, call_done, and_right}
+use Rattle.network.specs.Brought.{taken_by, as_long}
+use Rattle.transport.specs.arrivals.Taking.{received_or}
+use Rattle.transport.specs.Calls.{rows_to, messages_call, owner_of, owners_call, Waits, waits_of, waited, wait_areas, awaited_call, take_in_call}
+use Rattle.transport.specs.Given.{unasked_lines, waited_or13}
 use Rattle.transport.proofs.Awaiting.{lines_none}
 
 none : (n : ℕ) (t : Bool) → t ≡ false → first_of (line n t ∷ []) ≡ 0
 unfolding first_of
-none n t e = first-false n t [] e
+none n t e = first_false n t [] e
 
 -- ---- all messages
 
 module _ (l : List ℕ) (route : ℕ) (out : List ℕ) where
-  pub messages-read : (r : ℕ) → r ≡ first_of (linesFor (routeOf route) l) → r ≢ 0 → answer r out ≡ messagesCall l route out
-  unfolding messagesCall
-  messages-read r e h = call-read (linesFor (routeOf route) l) (numbered-for (routeOf route) l) _ r _ out e h
+  pub messages-read : (r : ℕ) → r ≡ first_of (lines_for (route_of route) l) → r ≢ 0 → answer r out ≡ messages_call l route out
+  unfolding messages_call
+  messages-read r e h = call_read (lines_for (route_of route) l) (numbered_for (route_of route) l) _ r _ out e h
 
   module _ (p : Plan) (o : Opened l route p) where
-    messages-at : answered (first_of (linesFor (routeOf route) l ++ (line 9 (not (eqb (length out) (6 * count p))) ∷ []))) (rows_to p (count p)) out
-        ≡ messagesCall l route out
-    unfolding messagesCall
+    messages-at : answered (first_of (lines_for (route_of route) l ++ (line 9 (not (eqb (length out) (6 * count p))) ∷ []))) (rows_to p (count p)) out
+        ≡ messages_call l route out
+    unfolding messages_call
     messages-at =
-        ap (λ (q : Plan). answered (first_of (linesFor (routeOf route) l ++ (line 9 (not (eqb (length out) (6 * count q))) ∷ []))) (rows_to q (count q))
+        ap (λ (q : Plan). answered (first_of (lines_for (route_of route) l ++ (line 9 (not (eqb (length out) (6 * count q))) ∷ []))) (rows_to q (count q))
         out) o.is
 
-    pub messages-area : length out ≢ 6 * count p → answer 9 out ≡ messagesCall l route out
+    pub messages-area : length out ≢ 6 * count p → answer 9 out ≡ messages_call l route out
     messages-area h =
-        call-later (linesFor (routeOf route) l) (numbered-for (routeOf route) l) _ 9 _ out o.none (sym (first-true 9 _ _ (not-false (ne_eqb _ _ h))))
+        call_later (lines_for (route_of route) l) (numbered_for (route_of route) l) _ 9 _ out o.none (sym (first_true 9 _ _ (not-false (ne_eqb _ _ h))))
         (λ q. omega arith) ∙ messages-at
 
-    pub messages-done : length out ≡ 6 * count p → (new : List ℕ) → new ≡ rows_to p (count p) → answer 0 new ≡ messagesCall l route out
+    pub messages-done : length out ≡ 6 * count p → (new : List ℕ) → new ≡ rows_to p (count p) → answer 0 new ≡ messages_call l route out
     messages-done e new c =
         ap (answer 0) c
-        ∙ call-done (linesFor (routeOf route) l) (numbered-for (routeOf route) l) _ 0 _ out o.none (none 9 _ (not-true (eq-eqb _ _ e)))
+        ∙ call_done (lines_for (route_of route) l) (numbered_for (route_of route) l) _ 0 _ out o.none (none 9 _ (not-true (eq-eqb _ _ e)))
         ∙ messages-at
 
 -- ---- the processor of each cell
 
 module _ (l out : List ℕ) where
-  pub owners-read : (r : ℕ) → r ≡ first_of (readLines l) → r ≢ 0 → answer r out ≡ ownersCall l out
-  unfolding ownersCall
-  owners-read r e h = call-read (readLines l) (numbered l) _ r _ out e h
+  pub owners-read : (r : ℕ) → r ≡ first_of (read_lines l) → r ≢ 0 → answer r out ≡ owners_call l out
+  unfolding owners_call
+  owners-read r e h = call_read (read_lines l) (numbered l) _ r _ out e h
 
   module _ (p : Plan) (o : Opened l 0 p) where
-    owners-at : answered (first_of (readLines l ++ (line 9 (not (eqb (length out) p.cells)) ∷ []))) (tabulate (ownerOf p) p.cells) out ≡ ownersCall l out
-    unfolding ownersCall
+    owners-at : answered (first_of (read_lines l ++ (line 9 (not (eqb (length out) p.cells)) ∷ []))) (tabulate (owner_of p) p.cells) out ≡ owners_call l out
+    unfolding owners_call
     owners-at =
-        ap (λ (q : Plan). answered (first_of (readLines l ++ (line 9 (not (eqb (length out) q.cells)) ∷ []))) (tabulate (ownerOf q) q.cells) out) o.is
+        ap (λ (q : Plan). answered (first_of (read_lines l ++ (line 9 (not (eqb (length out) q.cells)) ∷ []))) (tabulate (owner_of q) q.cells) out) o.is
 
-    pub owners-area : length out ≢ p.cells → answer 9 out ≡ ownersCall l out
+    pub owners-area : length out ≢ p.cells → answer 9 out ≡ owners_call l out
     owners-area h =
-        call-later (readLines l) (numbered l) _ 9 _ out (reads-for (routeOf 0) l o.none) (sym (first-true 9 _ _ (not-false (ne_eqb _ _ h))))
+        call_later (read_lines l) (numbered l) _ 9 _ out (reads_for (route_of 0) l o.none) (sym (first_true 9 _ _ (not-false (ne_eqb _ _ h))))
         (λ q. omega arith) ∙ owners-at
 
-    pub owners-done : length out ≡ p.cells → (new : List ℕ) → new ≡ tabulate (ownerOf p) p.cells → answer 0 new ≡ ownersCall l out
+    pub owners-done : length out ≡ p.cells → (new : List ℕ) → new ≡ tabulate (owner_of p) p.cells → answer 0 new ≡ owners_call l out
     owners-done e new c =
         ap (answer 0) c
-        ∙ call-done (readLines l) (numbered l) _ 0 _ out (reads-for (routeOf 0) l o.none) (none 9 _ (not-true (eq-eqb _ _ e)))
+        ∙ call_done (read_lines l) (numbered l) _ 0 _ out (reads_for (route_of 0) l o.none) (none 9 _ (not-true (eq-eqb _ _ e)))
         ∙ owners-at
 
 -- ---- what a processor waits for
 
 abbrev askedLines : Plan → State → ℕ → List Line
-askedLines p s b = line 11 (not (ltb b p.processors)) ∷ line 13 (not (tilesLeft p s b)) ∷ []
+askedLines p s b = line 11 (not (ltb b p.processors)) ∷ line 13 (not (tiles_left p s b)) ∷ []
 
 module _ (l : List ℕ) (route : ℕ) (s : State) (b : ℕ) (marks : List ℕ) where
   -- as a refusal leaves it
   abbrev w : Waits
-  w = waitsOf marks 0
+  w = waits_of marks 0
 
-  pub awaited-read : (r : ℕ) → r ≡ first_of (linesFor (routeOf route) l) → r ≢ 0 → answer r w ≡ awaitedCall l route s b marks
-  unfolding awaitedCall
-  awaited-read r e h = call-read (linesFor (routeOf route) l) (numbered-for (routeOf route) l) _ r _ w e h
+  pub awaited-read : (r : ℕ) → r ≡ first_of (lines_for (route_of route) l) → r ≢ 0 → answer r w ≡ awaited_call l route s b marks
+  unfolding awaited_call
+  awaited-read r e h = call_read (lines_for (route_of route) l) (numbered_for (route_of route) l) _ r _ w e h
 
   module _ (p : Plan) (o : Opened l route p) where
-    awaited-at : answered (first_of (linesFor (routeOf route) l ++ (unaskedLines p s marks ++ askedLines p s b))) (waited p s b) w ≡ awaitedCall l route s b marks
-    unfolding awaitedCall
-    awaited-at = ap (λ (q : Plan). answered (first_of (linesFor (routeOf route) l ++ (unaskedLines q s marks ++ askedLines q s b))) (waited q s b) w) o.is
+    awaited-at : answered (first_of (lines_for (route_of route) l ++ (unasked_lines p s marks ++ askedLines p s b))) (waited p s b) w ≡ awaited_call l route s b marks
+    unfolding awaited_call
+    awaited-at = ap (λ (q : Plan). answered (first_of (lines_for (route_of route) l ++ (unasked_lines q s marks ++ askedLines q s b))) (waited q s b) w) o.is
 
-    module _ (r : ℕ) (e : r ≡ first_of (unaskedLines p s marks)) where
-      pub awaited-unasked : r ≢ 0 → answer r w ≡ awaitedCall l route s b marks
+    module _ (r : ℕ) (e : r ≡ first_of (unasked_lines p s marks)) where
+      pub awaited-unasked : r ≢ 0 → answer r w ≡ awaited_call l route s b marks
       awaited-unasked h =
-          call-later (linesFor (routeOf route) l) (numbered-for (routeOf route) l) _ r _ w o.none
-          (e ∙ sym (first_some (unaskedLines p s marks) _ (λ q. h (e ∙ q)))) h
+          call_later (lines_for (route_of route) l) (numbered_for (route_of route) l) _ r _ w o.none
+          (e ∙ sym (first_some (unasked_lines p s marks) _ (λ q. h (e ∙ q)))) h
           ∙ awaited-at
 
       module _ (z : r ≡ 0) where
-        past : first_of (unaskedLines p s marks ++ askedLines p s b) ≡ first_of (askedLines p s b)
+        past : first_of (unasked_lines p s marks ++ askedLines p s b) ≡ first_of (askedLines p s b)
         past =
             let q = lines_none p s marks r e z in
-            first-false 9 (not (waitAreas p s marks)) _ (not-true q.0) ∙ first-false 10 (not (fit p s)) (askedLines p s b) (not-true q.1)
+            first_false 9 (not (wait_areas p s marks)) _ (not-true q.0) ∙ first_false 10 (not (fit p s)) (askedLines p s b) (not-true q.1)
 
-        pub awaited-beyond : p.processors ≤ b → answer 11 w ≡ awaitedCall l route s b marks
+        pub awaited-beyond : p.processors ≤ b → answer 11 w ≡ awaited_call l route s b marks
         awaited-beyond h =
-            call-later (linesFor (routeOf route) l) (numbered-for (routeOf route) l) _ 11 _ w o.none
-            (sym (past ∙ first-true 11 _ _ (not-false (le-ltb b p.processors h)))) (λ q. omega arith)
+            call_later (lines_for (route_of route) l) (numbered_for (route_of route) l) _ 11 _ w o.none
+            (sym (past ∙ first_true 11 _ _ (not-false (le-ltb b p.processors h)))) (λ q. omega arith)
             ∙ awaited-at
 
-        pub awaited-told : b < p.processors → (a : Answered Waits) → a ≡ waitedOr13 p s b marks → a ≡ awaitedCall l route s b marks
+        pub awaited-told : b < p.processors → (a : Answered Waits) → a ≡ waited_or13 p s b marks → a ≡ awaited_call l route s b marks
         awaited-told h a t =
             t
             ∙ ap (λ (n : ℕ). answered n (waited p s b) w)
             (sym
-            (first-behind (linesFor (routeOf route) l) (unaskedLines p s marks ++ askedLines p s b) (numbered-for (routeOf route) l) o.none
-            ∙ past ∙ first-false 11 (not (ltb b p.processors)) (line 13 (not (tilesLeft p s b)) ∷ []) (not-true (lt-ltb b p.processors h))))
+            (first_behind (lines_for (route_of route) l) (unasked_lines p s marks ++ askedLines p s b) (numbered_for (route_of route) l) o.none
+            ∙ past ∙ first_false 11 (not (ltb b p.processors)) (line 13 (not (tiles_left p s b)) ∷ []) (not-true (lt-ltb b p.processors h))))
             ∙ awaited-at
 
 -- ---- a message taken in
 
 abbrev takingLines : Plan → State → ℕ → ℕ → List Line
-takingLines p s b m = line 11 (not (takenBy p b m)) ∷ line 14 (not (eqb (get_or s.status m 0) 0)) ∷ []
+takingLines p s b m = line 11 (not (taken_by p b m)) ∷ line 14 (not (eqb (get_or s.status m 0) 0)) ∷ []
 
 abbrev longLine : Plan → List ℕ → State → ℕ → List ℕ → Line
-longLine p source s m ws = line 9 (not (areas p source s and asLong p m ws))
+longLine p source s m ws = line 9 (not (areas p source s and as_long p m ws))
 
 module _ (l : List ℕ) (route : ℕ) (source : List ℕ) (s : State) (b m : ℕ) (ws : List ℕ) where
-  pub take-in-read : (r : ℕ) → r ≡ first_of (linesFor (routeOf route) l) → r ≢ 0 → answer r s ≡ takeInCall l route source s b m ws
-  unfolding takeInCall
-  take-in-read r e h = call-read (linesFor (routeOf route) l) (numbered-for (routeOf route) l) _ r _ s e h
+  pub take-in-read : (r : ℕ) → r ≡ first_of (lines_for (route_of route) l) → r ≢ 0 → answer r s ≡ take_in_call l route source s b m ws
+  unfolding take_in_call
+  take-in-read r e h = call_read (lines_for (route_of route) l) (numbered_for (route_of route) l) _ r _ s e h
 
   module _ (p : Plan) (o : Opened l route p) where
-    take-in-at : answered (first_of (linesFor (routeOf route) l ++ (longLine p source s m ws ∷ line 10 (not (fit p s)) ∷ takingLines p s b m)))
-        (received p s m ws) s ≡ takeInCall l route source s b m ws
-    unfolding takeInCall
+    take-in-at : answered (first_of (lines_for (route_of route) l ++ (longLine p source s m ws ∷ line 10 (not (fit p s)) ∷ takingLines p s b m)))
+        (received p s m ws) s ≡ take_in_call l route source s b m ws
+    unfolding take_in_call
     take-in-at =
         ap
         (λ (q : Plan).
-        answered (first_of (linesFor (routeOf route) l ++ (longLine q source s m ws ∷ line 10 (not (fit q s)) ∷ takingLines q s b m)))
+        answered (first_of (lines_for (route_of route) l ++ (longLine q source s m ws ∷ line 10 (not (fit q s)) ∷ takingLines q s b m)))
         (received q s m ws) s)
         o.is
 
-    pub take-in-length : asLong p m ws ≡ false → answer 9 s ≡ takeInCall l route source s b m ws
+    pub take-in-length : as_long p m ws ≡ false → answer 9 s ≡ take_in_call l route source s b m ws
     take-in-length h =
-        call-later (linesFor (routeOf route) l) (numbered-for (routeOf route) l) _ 9 _ s o.none (sym (first-true 9 _ _ (not-false (and_no _ _ h))))
+        call_later (lines_for (route_of route) l) (numbered_for (route_of route) l) _ 9 _ s o.none (sym (first_true 9 _ _ (not-false (and_no _ _ h))))
         (λ q. omega arith) ∙ take-in-at
 
-    module _ (long : asLong p m ws ≡ true) (r : ℕ) (e : r ≡ first_of (unfitLines p source s)) where
+    module _ (long : as_long p m ws ≡ true) (r : ℕ) (e : r ≡ first_of (unfit_lines p source s)) where
       same_lines : first_of (longLine p source s m ws ∷ line 10 (not (fit p s)) ∷ takingLines p s b m)
-          ≡ first_of (unfitLines p source s ++ takingLines p s b m)
+          ≡ first_of (unfit_lines p source s ++ takingLines p s b m)
       same_lines =
-          ap (λ (t : Bool). first_of (line 9 (not t) ∷ line 10 (not (fit p s)) ∷ takingLines p s b m)) (and_right (areas p source s) (asLong p m ws) long)
+          ap (λ (t : Bool). first_of (line 9 (not t) ∷ line 10 (not (fit p s)) ∷ takingLines p s b m)) (and_right (areas p source s) (as_long p m ws) long)
 
-      pub take-in-unfit : r ≢ 0 → answer r s ≡ takeInCall l route source s b m ws
+      pub take-in-unfit : r ≢ 0 → answer r s ≡ take_in_call l route source s b m ws
       take-in-unfit h =
-          call-later (linesFor (routeOf route) l) (numbered-for (routeOf route) l) _ r _ s o.none
-          (e ∙ sym (same_lines ∙ first_some (unfitLines p source s) _ (λ q. h (e ∙ q)))) h
+          call_later (lines_for (route_of route) l) (numbered_for (route_of route) l) _ r _ s o.none
+          (e ∙ sym (same_lines ∙ first_some (unfit_lines p source s) _ (λ q. h (e ∙ q)))) h
           ∙ take-in-at
 
-      pub take-in-received : r ≡ 0 → (a : Answered State) → a ≡ receivedOr p s b m ws → a ≡ takeInCall l route source s b m ws
+      pub take-in-received : r ≡ 0 → (a : Answered State) → a ≡ received_or p s b m ws → a ≡ take_in_call l route source s b m ws
       take-in-received z a t =
-          let q = unfit-none p source s r e z in
+          let q = unfit_none p source s r e z in
           t
           ∙ ap (λ (n : ℕ). answered n (received p s m ws) s)
           (sym
-          (first-behind (linesFor (routeOf route) l) (longLine p source s m ws ∷ line 10 (not (fit p s)) ∷ takingLines p s b m)
-          (numbered-for (routeOf route) l) o.none
-          ∙ same_lines ∙ first-false 9 (not (areas p source s)) _ (not-true q.0) ∙ first-false 10 (not (fit p s)) (takingLines p s b m) (not-true q.1)))
+          (first_behind (lines_for (route_of route) l) (longLine p source s m ws ∷ line 10 (not (fit p s)) ∷ takingLines p s b m)
+          (numbered_for (route_of route) l) o.none
+          ∙ same_lines ∙ first_false 9 (not (areas p source s)) _ (not-true q.0) ∙ first_false 10 (not (fit p s)) (takingLines p s b m) (not-true q.1)))
           ∙ take-in-at

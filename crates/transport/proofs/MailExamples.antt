@@ -5,24 +5,24 @@ use Rattle.base.specs.Tests.{◌and◌, ◌or◌, not, pick, one, every, some, k
 use Rattle.machine.specs.Plan.{Plan, offset}
 use Rattle.machine.specs.Machine.{fresh}
 use Rattle.nest.specs.declared.Nest.{Nest}
-use Rattle.nest.specs.Nest.{tileCount, cells, boxTiles, processors}
-use Rattle.nest.specs.Places.{rank, place, cell_at, cellPlace, tileAt, tilePlace, boxTileOf}
-use Rattle.nest.specs.Shape.{level, raised, meets, inShape, exists, existing, tiles}
-use Rattle.nest.specs.Reader.{ofKind, filled, nestBy, nestOf}
-use Rattle.nest.specs.Recipes.{rowB, rowD}
+use Rattle.nest.specs.Nest.{tile_count, cells, box_tiles, processors}
+use Rattle.nest.specs.Places.{rank, place, cell_at, cell_place, tile_at, tile_place, box_tile_of}
+use Rattle.nest.specs.Shape.{level, raised, meets, in_shape, exists, existing, tiles}
+use Rattle.nest.specs.Reader.{of_kind, filled, nest_by, nest_of}
+use Rattle.nest.specs.Recipes.{row_b, row_d}
 use Rattle.plan.specs.declared.Route.TheVariants.{Direct}
-use Rattle.plan.specs.Geometry.{processorOf, inside}
-use Rattle.plan.specs.Messages.{directions, ahead, reaches, taker, messagesOf}
-use Rattle.plan.specs.Shaped.{boxTile, tileOf, reachesShape, shapedParcel, follows, shapedTaker, shapedSlotTaker, shapedHome, shapedSlotParcel, plan_of}
-use Rattle.conformance.specs.ShapedExamples.{rowTriangle}
-use Rattle.conformance.proofs.RowNests.{nestB, nestD, is_b, isD}
-use Rattle.layout.specs.RouteWords.{routeOf}
+use Rattle.plan.specs.Geometry.{processor_of, inside}
+use Rattle.plan.specs.Messages.{directions, ahead, reaches, taker, messages_of}
+use Rattle.plan.specs.Shaped.{box_tile, tile_of, reaches_shape, shaped_parcel, follows, shaped_taker, shaped_slot_taker, shaped_home, shaped_slot_parcel, plan_of}
+use Rattle.conformance.specs.ShapedExamples.{row_triangle}
+use Rattle.conformance.proofs.RowNests.{nest_b, nest_d, is_b, is_d}
+use Rattle.layout.specs.RouteWords.{route_of}
 use Rattle.engine.specs.Calls.{recipe}
-use Rattle.transport.specs.Calls.{row_of, rows_to, ownerOf, awaits, waitsOf, waited}
+use Rattle.transport.specs.Calls.{row_of, rows_to, owner_of, awaits, waits_of, waited}
 use Rattle.transport.specs.MailExamples.{MailExamples}
 
-abbrev nestTriangle : Nest
-nestTriangle =
+abbrev nest_triangle : Nest
+nest_triangle =
     record {
       dimensions = 2;
       spread = 1;
@@ -42,56 +42,56 @@ nestTriangle =
       boundary = 7;
     }
 
-isTriangle : nestOf rowTriangle ≡ nestTriangle
-unfolding ofKind filled nestBy nestOf pick keep those tabulate
-isTriangle = refl
+is_triangle : nest_of row_triangle ≡ nest_triangle
+unfolding of_kind filled nest_by nest_of pick keep those tabulate
+is_triangle = refl
 
-plan-B : recipe rowB 0 ≡ plan_of Direct nestB
-unfolding routeOf
-plan-B = ap (plan_of Direct) is_b
+plan_B : recipe row_b 0 ≡ plan_of Direct nest_b
+unfolding route_of
+plan_B = ap (plan_of Direct) is_b
 
-plan-D : recipe rowD 0 ≡ plan_of Direct nestD
-unfolding routeOf
-plan-D = ap (plan_of Direct) isD
+plan_D : recipe row_d 0 ≡ plan_of Direct nest_d
+unfolding route_of
+plan_D = ap (plan_of Direct) is_d
 
-plan-triangle : recipe rowTriangle 0 ≡ plan_of Direct nestTriangle
-unfolding routeOf
-plan-triangle = ap (plan_of Direct) isTriangle
+plan_triangle : recipe row_triangle 0 ≡ plan_of Direct nest_triangle
+unfolding route_of
+plan_triangle = ap (plan_of Direct) is_triangle
 
-rows-B : rows_to (plan_of Direct nestB) 2 ≡ 0 ∷ 2 ∷ 0 ∷ 1 ∷ 8 ∷ 0 ∷ 1 ∷ 3 ∷ 0 ∷ 1 ∷ 6 ∷ 8 ∷ []
-unfolding rows_to row_of offset ◌and◌ ◌or◌ pick every some keep product tileCount cells boxTiles rank place cell_at cellPlace tileAt tilePlace boxTileOf level
-    raised meets inShape exists existing tiles inside directions ahead reaches taker messagesOf boxTile reachesShape shapedParcel follows shapedTaker
-    shapedSlotTaker shapedHome shapedSlotParcel processorOf
-rows-B = refl
+rows_B : rows_to (plan_of Direct nest_b) 2 ≡ 0 ∷ 2 ∷ 0 ∷ 1 ∷ 8 ∷ 0 ∷ 1 ∷ 3 ∷ 0 ∷ 1 ∷ 6 ∷ 8 ∷ []
+unfolding rows_to row_of offset ◌and◌ ◌or◌ pick every some keep product tile_count cells box_tiles rank place cell_at cell_place tile_at tile_place box_tile_of level
+    raised meets in_shape exists existing tiles inside directions ahead reaches taker messages_of box_tile reaches_shape shaped_parcel follows shaped_taker
+    shaped_slot_taker shaped_home shaped_slot_parcel processor_of
+rows_B = refl
 
-on-D : tabulate (ownerOf (plan_of Direct nestD)) 4 ≡ 0 ∷ 0 ∷ 1 ∷ 1 ∷ []
-unfolding tabulate ◌and◌ ◌or◌ pick every some keep product tileCount cells boxTiles rank place cell_at cellPlace tileAt tilePlace boxTileOf level raised
-    meets inShape exists existing tileOf boxTile processorOf processors
-on-D = refl
+on_D : tabulate (owner_of (plan_of Direct nest_d)) 4 ≡ 0 ∷ 0 ∷ 1 ∷ 1 ∷ []
+unfolding tabulate ◌and◌ ◌or◌ pick every some keep product tile_count cells box_tiles rank place cell_at cell_place tile_at tile_place box_tile_of level raised
+    meets in_shape exists existing tile_of box_tile processor_of processors
+on_D = refl
 
-on-triangle : tabulate (ownerOf (plan_of Direct nestTriangle)) 4 ≡ 0 ∷ 0 ∷ 2 ∷ 1 ∷ []
-unfolding tabulate ◌and◌ ◌or◌ pick every some keep product tileCount cells boxTiles rank place cell_at cellPlace tileAt tilePlace boxTileOf level raised
-    meets inShape exists existing tileOf boxTile processorOf processors
-on-triangle = refl
+on_triangle : tabulate (owner_of (plan_of Direct nest_triangle)) 4 ≡ 0 ∷ 0 ∷ 2 ∷ 1 ∷ []
+unfolding tabulate ◌and◌ ◌or◌ pick every some keep product tile_count cells box_tiles rank place cell_at cell_place tile_at tile_place box_tile_of level raised
+    meets in_shape exists existing tile_of box_tile processor_of processors
+on_triangle = refl
 
-waits : waited (plan_of Direct nestD) (fresh (plan_of Direct nestD)) 1 ≡ waitsOf (1 ∷ []) 1
-unfolding waited awaits fresh tabulate one not those offset ◌and◌ ◌or◌ pick every some keep product tileCount cells boxTiles rank place cell_at cellPlace
-    tileAt tilePlace boxTileOf level raised meets inShape exists existing tiles inside directions ahead reaches taker messagesOf boxTile reachesShape
-    shapedParcel follows shapedTaker shapedSlotTaker shapedHome shapedSlotParcel processorOf processors
+waits : waited (plan_of Direct nest_d) (fresh (plan_of Direct nest_d)) 1 ≡ waits_of (1 ∷ []) 1
+unfolding waited awaits fresh tabulate one not those offset ◌and◌ ◌or◌ pick every some keep product tile_count cells box_tiles rank place cell_at cell_place
+    tile_at tile_place box_tile_of level raised meets in_shape exists existing tiles inside directions ahead reaches taker messages_of box_tile reaches_shape
+    shaped_parcel follows shaped_taker shaped_slot_taker shaped_home shaped_slot_parcel processor_of processors
 waits = refl
 
-goes : waited (plan_of Direct nestD) (fresh (plan_of Direct nestD)) 0 ≡ waitsOf (0 ∷ []) 0
-unfolding waited awaits fresh tabulate one not those offset ◌and◌ ◌or◌ pick every some keep product tileCount cells boxTiles rank place cell_at cellPlace
-    tileAt tilePlace boxTileOf level raised meets inShape exists existing tiles inside directions ahead reaches taker messagesOf boxTile reachesShape
-    shapedParcel follows shapedTaker shapedSlotTaker shapedHome shapedSlotParcel processorOf processors
+goes : waited (plan_of Direct nest_d) (fresh (plan_of Direct nest_d)) 0 ≡ waits_of (0 ∷ []) 0
+unfolding waited awaits fresh tabulate one not those offset ◌and◌ ◌or◌ pick every some keep product tile_count cells box_tiles rank place cell_at cell_place
+    tile_at tile_place box_tile_of level raised meets in_shape exists existing tiles inside directions ahead reaches taker messages_of box_tile reaches_shape
+    shaped_parcel follows shaped_taker shaped_slot_taker shaped_home shaped_slot_parcel processor_of processors
 goes = refl
 
-pub mail-rows : MailExamples
-mail-rows =
+pub mail_rows : MailExamples
+mail_rows =
     record {
-      B = ap (λ (p : Plan). rows_to p 2) plan-B ∙ rows-B;
-      owners-D = ap (λ (p : Plan). tabulate (ownerOf p) 4) plan-D ∙ on-D;
-      owners-triangle = ap (λ (p : Plan). tabulate (ownerOf p) 4) plan-triangle ∙ on-triangle;
-      waits-D = ap (λ (p : Plan). waited p (fresh p) 1) plan-D ∙ waits;
-      goes-D = ap (λ (p : Plan). waited p (fresh p) 0) plan-D ∙ goes;
+      B = ap (λ (p : Plan). rows_to p 2) plan_B ∙ rows_B;
+      owners_D = ap (λ (p : Plan). tabulate (owner_of p) 4) plan_D ∙ on_D;
+      owners_triangle = ap (λ (p : Plan). tabulate (owner_of p) 4) plan_triangle ∙ on_triangle;
+      waits_D = ap (λ (p : Plan). waited p (fresh p) 1) plan_D ∙ waits;
+      goes_D = ap (λ (p : Plan). waited p (fresh p) 0) plan_D ∙ goes;
     }

@@ -4,13 +4,13 @@
 use Rattle.core.specs.Prelude.{◌≡◌, ℕ, ◌*◌, ◌<◌, List, [], ◌∷◌, length, ◌==◌, nat_eq, slice_index}
 use Rattle.base.specs.Tests.{◌and◌, not, one, tabulate}
 use Rattle.base.specs.Numbers.{Line, line, first_of}
-use Rattle.machine.specs.Plan.{Plan, count, takerOf}
-use Rattle.machine.specs.Machine.{State, tilesLeft, fit, Answered, answered}
-use Rattle.transport.specs.Calls.{Waits, waitsOf, waitAreas, waited}
+use Rattle.machine.specs.Plan.{Plan, count, taker_of}
+use Rattle.machine.specs.Machine.{State, tiles_left, fit, Answered, answered}
+use Rattle.transport.specs.Calls.{Waits, waits_of, wait_areas, waited}
 
 -- the marks of the messages due at tile t that are not delivered
 abbrev pub undelivered : Plan → List ℕ → ℕ → List ℕ
-undelivered p status t = tabulate (λ m. one (nat_eq (takerOf p m) t and not (slice_index status m == 2))) (count p)
+undelivered p status t = tabulate (λ m. one (nat_eq (taker_of p m) t and not (slice_index status m == 2))) (count p)
 
 -- the areas of one who asks what processor b waits for
 pub record MayAsk (p : Plan) (s : State) (b : ℕ) (marks : List ℕ) : Type 0 where
@@ -20,9 +20,9 @@ pub record MayAsk (p : Plan) (s : State) (b : ℕ) (marks : List ℕ) : Type 0 w
   pub processor : b < p.processors
 
 -- lines 9 and 10 of asking
-abbrev pub unaskedLines : Plan → State → List ℕ → List Line
-unaskedLines p s marks = line 9 (not (waitAreas p s marks)) ∷ line 10 (not (fit p s)) ∷ []
+abbrev pub unasked_lines : Plan → State → List ℕ → List Line
+unasked_lines p s marks = line 9 (not (wait_areas p s marks)) ∷ line 10 (not (fit p s)) ∷ []
 
 -- past the lines before it: 13, or what is waited for
-abbrev pub waitedOr13 : Plan → State → ℕ → List ℕ → Answered Waits
-waitedOr13 p s b marks = answered (first_of (line 13 (not (tilesLeft p s b)) ∷ [])) (waited p s b) (waitsOf marks 0)
+abbrev pub waited_or13 : Plan → State → ℕ → List ℕ → Answered Waits
+waited_or13 p s b marks = answered (first_of (line 13 (not (tiles_left p s b)) ∷ [])) (waited p s b) (waits_of marks 0)

@@ -5,7 +5,7 @@ ghost use Rattle.plan.specs.Shaped.{plan_of};
 ghost use Rattle.layout.specs.Sizes.{Sized};
 ghost use Rattle.tables.specs.Tables.{Tabled};
 ghost use Rattle.engine.specs.Calls.{answer};
-ghost use Rattle.transport.specs.arrivals.Taking.{MayTake, receivedOr};
+ghost use Rattle.transport.specs.arrivals.Taking.{MayTake, received_or};
 
 use base::{copy_words, refusals};
 use layout::Sizes;
@@ -26,7 +26,7 @@ pub fn receive(
     requires { (Sized nest sizes × Tabled nest sizes lens.now) × MayTake (plan_of sizes.route nest) buffer.old status.old m words.now }
     ensures { (memories records : List ℕ)
         → answer result (state_of memories buffer.new records status.new)
-        ≡ receivedOr (plan_of sizes.route nest) (state_of memories buffer.old records status.old) processor m words.now }
+        ≡ received_or (plan_of sizes.route nest) (state_of memories buffer.old records status.old) processor m words.now }
 {
     if m >= status.len() {
         return refusals::NO_SUCH;

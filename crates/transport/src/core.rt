@@ -14,9 +14,9 @@ ghost use Rattle.layout.specs.Sizes.{Sized};
 ghost use Rattle.tables.specs.Tables.{FoundIn, Planned};
 ghost use Rattle.records.specs.Records.{Flattens};
 ghost use Rattle.engine.specs.Calls.{answer};
-ghost use Rattle.network.specs.Brought.{asLong};
-ghost use Rattle.transport.specs.Calls.{row_of, rows_to, ownerOf, waitsOf, awaitedCall, takeInCall};
-ghost use Rattle.transport.specs.Given.{undelivered, unaskedLines, MayAsk, waitedOr13};
+ghost use Rattle.network.specs.Brought.{as_long};
+ghost use Rattle.transport.specs.Calls.{row_of, rows_to, owner_of, waits_of, awaited_call, take_in_call};
+ghost use Rattle.transport.specs.Given.{undelivered, unasked_lines, MayAsk, waited_or13};
 
 use crate::Waiting;
 use crate::arrivals::receive;
@@ -113,7 +113,7 @@ fn owner_row(row: &mut [u32], s: Interval, processor: u32, none: u32)
 // Each cell's processor. The last dimension is never spread, so the cells of a row that are in the shape have one.
 pub fn put_owners(nest: Nest, sizes: Sizes, out: &mut [u32])
     requires { Sized nest sizes × (length out.old ≡ cells nest) }
-    ensures { out.new ≡ tabulate (ownerOf (plan_of Direct nest)) (cells nest) }
+    ensures { out.new ≡ tabulate (owner_of (plan_of Direct nest)) (cells nest) }
 {
     let none = sizes.processors as u32;
     let width = nest.lengths[nest.dimensions - 1];
@@ -168,8 +168,8 @@ fn tell_awaited(
 ) -> Waiting
     requires planned { Planned nest sizes lens.now }
     requires may_ask { MayAsk (plan_of sizes.route nest) (state_of [] [] progress.now status.now) b marks.old }
-    ensures { answer result.number (waitsOf marks.new result.tile)
-        ≡ waitedOr13 (plan_of sizes.route nest) (state_of [] [] progress.now status.now) b marks.old }
+    ensures { answer result.number (waits_of marks.new result.tile)
+        ≡ waited_or13 (plan_of sizes.route nest) (state_of [] [] progress.now status.now) b marks.old }
 {
     let i = word_index(progress[3 * b]);
     let stage = progress[3 * b + 1];
@@ -202,7 +202,7 @@ fn unasked(
 ) -> u32
     requires { Planned nest sizes lens.now × (length progress.words ≡ 192) }
     ensures { ((records ms : List ℕ) → Flattens progress records → marks ≡ length ms
-        → result ≡ first_of (unaskedLines (plan_of sizes.route nest) (state_of [] [] records status.now) ms))
+        → result ≡ first_of (unasked_lines (plan_of sizes.route nest) (state_of [] [] records status.now) ms))
         × (result ≡ 0 → progress.count ≡ 3 * processors nest) }
 {
     let t = totals(nest, sizes, lens);
@@ -237,8 +237,8 @@ pub fn awaited(
 ) -> Waiting
     requires { length progress.words ≡ 192 }
     ensures { (records : List ℕ) → Flattens progress records
-        → answer result.number (waitsOf marks.new result.tile)
-        ≡ awaitedCall encoded.now route (state_of [] [] records status.now) processor
+        → answer result.number (waits_of marks.new result.tile)
+        ≡ awaited_call encoded.now route (state_of [] [] records status.now) processor
         marks.old }
 {
     let mut lens = [0u16; TABLE_WORDS];
@@ -273,7 +273,7 @@ pub fn awaited(
 // As many words as message m has, where there is one.
 pub fn as_long(nest: Nest, sizes: Sizes, lens: &[u16; TABLE_WORDS], m: usize, words: usize) -> bool
     requires { Planned nest sizes lens.now }
-    ensures { (l : List ℕ) → words ≡ length l → result ≡ asLong (plan_of sizes.route nest) m l }
+    ensures { (l : List ℕ) → words ≡ length l → result ≡ as_long (plan_of sizes.route nest) m l }
 {
     let t = totals(nest, sizes, lens);
     if m >= t.messages {
@@ -299,7 +299,7 @@ pub fn take_in(
     requires { length progress.words ≡ 192 }
     ensures { (records : List ℕ) → Flattens progress records
         → answer result (state_of memories.now buffer.new records status.new)
-        ≡ takeInCall encoded.now route source.now
+        ≡ take_in_call encoded.now route source.now
         (state_of memories.now buffer.old records status.old) processor message words.now }
 {
     let mut lens = [0u16; TABLE_WORDS];

@@ -3,7 +3,7 @@
 ghost use Rattle.core.specs.Prelude.{◌≡◌, []};
 ghost use Rattle.machine.specs.Machine.{state_of};
 ghost use Rattle.engine.specs.Calls.{answer};
-ghost use Rattle.transport.specs.Calls.{messagesCall, ownersCall, waitsOf, awaitedCall, takeInCall};
+ghost use Rattle.transport.specs.Calls.{messages_call, owners_call, waits_of, awaited_call, take_in_call};
 
 pub mod core; // core.rt: the work of the calls, and those that are lent records without their form
 pub mod arrivals; // arrivals.rt: a message at its taker's: its words into their place, and its mark
@@ -18,7 +18,7 @@ use tables::{TABLE_WORDS, totals};
 
 // All messages of the route, six words each: sending tile, taking tile, sending processor, taking processor, words, their place in the buffer.
 pub fn messages(encoded: &[u8], route: u32, out: &mut [u32]) -> u32
-    ensures { answer result out.new ≡ messagesCall encoded.now route out.old }
+    ensures { answer result out.new ≡ messages_call encoded.now route out.old }
 {
     let mut lens = [0u16; TABLE_WORDS];
     let opening = open(encoded, route, &mut lens);
@@ -38,7 +38,7 @@ pub fn messages(encoded: &[u8], route: u32, out: &mut [u32]) -> u32
 
 // The processor of each cell, the number of processors for one outside the shape.
 pub fn owners(encoded: &[u8], out: &mut [u32]) -> u32
-    ensures { answer result out.new ≡ ownersCall encoded.now out.old }
+    ensures { answer result out.new ≡ owners_call encoded.now out.old }
 {
     let reading = read(encoded);
     let number = reading.number;
@@ -71,8 +71,8 @@ pub fn awaited(
     processor: u32,
     marks: &mut [u8],
 ) -> Waiting
-    ensures { answer result.number (waitsOf marks.new result.tile)
-        ≡ awaitedCall encoded.now route (state_of [] [] progress.now status.now) processor
+    ensures { answer result.number (waits_of marks.new result.tile)
+        ≡ awaited_call encoded.now route (state_of [] [] progress.now status.now) processor
         marks.old }
 {
     core::awaited(encoded, route, flat_of(progress), status, processor, marks)
@@ -92,7 +92,7 @@ pub fn take_in(
     words: &[u32],
 ) -> u32
     ensures { answer result (state_of memories.now buffer.new progress.now status.new)
-        ≡ takeInCall encoded.now route source.now
+        ≡ take_in_call encoded.now route source.now
         (state_of memories.now buffer.old progress.now status.old) processor message words.now }
 {
     core::take_in(

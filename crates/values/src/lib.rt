@@ -1,18 +1,18 @@
 // Values in code: a tile and the sequential sweep of the whole grid, by the rows of a box of cells.
 ghost use Rattle.std.specs.Prelude.{◌≡◌, ◌*◌, ◌-◌, ◌≤◌, ◌<◌, length, get_or};
 ghost use Rattle.base.specs.Tests.{product};
-ghost use Rattle.base.specs.Lists.{storeAll};
+ghost use Rattle.base.specs.Lists.{store_all};
 ghost use Rattle.machine.specs.Machine.{sweep};
 ghost use Rattle.nest.specs.Accepted.{Accepted};
-ghost use Rattle.nest.specs.Nest.{cells, boxTiles};
+ghost use Rattle.nest.specs.Nest.{cells, box_tiles};
 ghost use Rattle.plan.specs.Geometry.{cells_of, value};
 ghost use Rattle.plan.specs.declared.Route.TheVariants.{Direct};
-ghost use Rattle.plan.specs.Messages.{boxPlan};
+ghost use Rattle.plan.specs.Messages.{box_plan};
 ghost use Rattle.layout.specs.Sizes.{Sized};
 ghost use Rattle.layout.specs.Places.{nth};
 ghost use Rattle.nest.specs.declared.Nest.{Nest};
 ghost use Rattle.bands.specs.lagged.Bands.{rows_of};
-ghost use Rattle.values.specs.row_values.Given.{withBody};
+ghost use Rattle.values.specs.row_values.Given.{with_body};
 ghost use Rattle.values.specs.row_values.Boxes.{Boxed, row_at, RowsGiven};
 
 use crate::row_values::{
@@ -56,12 +56,12 @@ fn all_rows(
     groups: usize,
     own: bool,
 )
-    requires { (x : Nest) × (RowsGiven (withBody x body) components.now lasts.now back.now weights.now margin.now source.now memory.old
+    requires { (x : Nest) × (RowsGiven (with_body x body) components.now lasts.now back.now weights.now margin.now source.now memory.old
         grid.now lengths.now corner corner 0 × ((4 * groups ≤ rows) × (rows ≤ 16384))) }
-    ensures { (x : Nest) → RowsGiven (withBody x body) components.now lasts.now back.now weights.now
+    ensures { (x : Nest) → RowsGiven (with_body x body) components.now lasts.now back.now weights.now
         margin.now source.now memory.old grid.now lengths.now corner corner 0
-        → memory.new ≡ storeAll (value (withBody x body) source.now) memory.old
-        (rows_of (row_at (withBody x body) lengths.now corner) (get_or lengths.now (body.dimensions - 1) 0) rows) }
+        → memory.new ≡ store_all (value (with_body x body) source.now) memory.old
+        (rows_of (row_at (with_body x body) lengths.now corner) (get_or lengths.now (body.dimensions - 1) 0) rows) }
 {
     let mut at = corner;
     box_fours(
@@ -95,7 +95,7 @@ fn box_values(
     corner: [usize; 4],
 )
     requires { Accepted nest × (Boxed nest lengths corner × ((length source.now ≡ cells nest) × (length memory.old ≡ cells nest))) }
-    ensures { memory.new ≡ storeAll (value nest source.now) memory.old
+    ensures { memory.new ≡ store_all (value nest source.now) memory.old
         (rows_of (row_at nest lengths corner) (get_or lengths (nest.dimensions - 1) 0) (product (nth lengths) (nest.dimensions - 1))) }
 {
     let components = nest.components;
@@ -136,8 +136,8 @@ fn box_values(
 
 // The values of a tile's cells, in index order.
 pub fn calculate(nest: Nest, sizes: Sizes, source: &[u32], memory: &mut [u32], tile: usize)
-    requires { Sized nest sizes × ((tile < boxTiles nest) × ((length source.now ≡ cells nest) × (length memory.old ≡ cells nest))) }
-    ensures { memory.new ≡ storeAll (value nest source.now) memory.old (cells_of nest tile) }
+    requires { Sized nest sizes × ((tile < box_tiles nest) × ((length source.now ≡ cells nest) × (length memory.old ≡ cells nest))) }
+    ensures { memory.new ≡ store_all (value nest source.now) memory.old (cells_of nest tile) }
 {
     let bounds = layout::bounds_of(nest, sizes, tile);
     let lengths = bounds.lengths;
@@ -148,7 +148,7 @@ pub fn calculate(nest: Nest, sizes: Sizes, source: &[u32], memory: &mut [u32], t
 // The sequential sweep: all cells in index order.
 pub fn sweep(nest: Nest, sizes: Sizes, source: &[u32], grid: &mut [u32])
     requires { Sized nest sizes × ((length source.now ≡ cells nest) × (length grid.old ≡ cells nest)) }
-    ensures { grid.new ≡ sweep (boxPlan Direct nest) source.now }
+    ensures { grid.new ≡ sweep (box_plan Direct nest) source.now }
 {
     let lengths = nest.lengths;
     let corner = [0; 4];

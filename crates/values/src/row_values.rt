@@ -1,16 +1,16 @@
 // Rows in code: the values of a row, and of the rows of a box of cells, one by one or four side by side.
 ghost use Rattle.std.specs.Prelude.{◌≡◌, ◌+◌, ◌*◌, ◌-◌, ◌≤◌, ◌<◌, length, get_or, leb, true};
 ghost use Rattle.base.specs.Tests.{every};
-ghost use Rattle.base.specs.Lists.{storeAll};
+ghost use Rattle.base.specs.Lists.{store_all};
 ghost use Rattle.nest.specs.Accepted.{Accepted};
 ghost use Rattle.plan.specs.Geometry.{value};
 ghost use Rattle.layout.specs.Places.{Has, Places, Inside, Follows};
 ghost use Rattle.layout.specs.CellRows.{Given, row_of};
 ghost use Rattle.nest.specs.declared.Nest.{Nest};
 ghost use Rattle.values.specs.row_values.Waves.{most_of, Lasts, Inner};
-ghost use Rattle.values.specs.row_values.Given.{withBody, ReadsBy, RowGiven};
+ghost use Rattle.values.specs.row_values.Given.{with_body, ReadsBy, RowGiven};
 ghost use Rattle.values.specs.row_values.Boxes.{RowsGiven, Stored};
-ghost use Rattle.values.specs.row_values.Reads.{firstRead, stepBack, Firsts, Backs};
+ghost use Rattle.values.specs.row_values.Reads.{first_read, step_back, Firsts, Backs};
 
 use bands::edge_rows::{edge_row, short_row};
 use bands::side_by_side;
@@ -29,7 +29,7 @@ pub struct Body {
 // its dimension's length.
 fn back_of(nest: Nest, components: &[usize; 32], e: usize) -> usize
     requires { Accepted nest × ((e < nest.distances) × Given nest components.now) }
-    ensures { result ≡ stepBack nest e }
+    ensures { result ≡ step_back nest e }
 {
     let lengths = nest.lengths;
     let n = nest.dimensions;
@@ -56,8 +56,8 @@ pub fn backs_of(nest: Nest, components: &[usize; 32]) -> [usize; 8]
 
 // From which last component on distance e reads a cell, in the row of a place; 1024 if nowhere.
 pub fn first_of(body: Body, components: &[usize; 32], at: [usize; 4], e: usize) -> usize
-    requires { (x : Nest) × ReadsBy (withBody x body) components.now e }
-    ensures { (x : Nest) → ReadsBy (withBody x body) components.now e → result ≡ firstRead (withBody x body) at e }
+    requires { (x : Nest) × ReadsBy (with_body x body) components.now e }
+    ensures { (x : Nest) → ReadsBy (with_body x body) components.now e → result ≡ first_read (with_body x body) at e }
 {
     let last = body.dimensions - 1;
     for j in 0..last {
@@ -69,9 +69,9 @@ pub fn first_of(body: Body, components: &[usize; 32], at: [usize; 4], e: usize) 
 }
 
 fn firsts_of(body: Body, components: &[usize; 32], at: [usize; 4]) -> [usize; 8]
-    requires { (x : Nest) × (Accepted (withBody x body) × Given (withBody x body) components.now) }
-    ensures { (x : Nest) → Accepted (withBody x body) → Given (withBody x body) components.now
-        → Firsts (withBody x body) at result }
+    requires { (x : Nest) × (Accepted (with_body x body) × Given (with_body x body) components.now) }
+    ensures { (x : Nest) → Accepted (with_body x body) → Given (with_body x body) components.now
+        → Firsts (with_body x body) at result }
 {
     let mut first = [0; 8];
     let n = body.distances;
@@ -95,11 +95,11 @@ fn row(
     first: usize,
     width: usize,
 )
-    requires { (x : Nest) × RowGiven (withBody x body) components.now lasts.now back.now weights.now margin.now source.now memory.old
+    requires { (x : Nest) × RowGiven (with_body x body) components.now lasts.now back.now weights.now margin.now source.now memory.old
         at.now first width }
-    ensures { (x : Nest) → RowGiven (withBody x body) components.now lasts.now back.now weights.now
+    ensures { (x : Nest) → RowGiven (with_body x body) components.now lasts.now back.now weights.now
         margin.now source.now memory.old at.now first width
-        → memory.new ≡ storeAll (value (withBody x body) source.now) memory.old (row_of first width) }
+        → memory.new ≡ store_all (value (with_body x body) source.now) memory.old (row_of first width) }
 {
     let last = body.dimensions - 1;
     let component = at[last];
@@ -260,11 +260,11 @@ pub fn box_rows(
     first: usize,
     end: usize,
 )
-    requires { (x : Nest) × (RowsGiven (withBody x body) components.now lasts.now back.now weights.now margin.now source.now memory.old
+    requires { (x : Nest) × (RowsGiven (with_body x body) components.now lasts.now back.now weights.now margin.now source.now memory.old
         grid.now lengths.now corner.now at.old first × ((first ≤ end) × (end ≤ 16384))) }
-    ensures { (x : Nest) → RowsGiven (withBody x body) components.now lasts.now back.now weights.now
+    ensures { (x : Nest) → RowsGiven (with_body x body) components.now lasts.now back.now weights.now
         margin.now source.now memory.old grid.now lengths.now corner.now
-        at.old first → Stored (withBody x body) source.now lengths.now corner.now memory.old
+        at.old first → Stored (with_body x body) source.now lengths.now corner.now memory.old
         memory.new at.new first (end - first) }
 {
     let n = body.dimensions;
@@ -297,11 +297,11 @@ fn four_rows(
     first: usize,
     own: bool,
 )
-    requires { (x : Nest) × (RowsGiven (withBody x body) components.now lasts.now back.now weights.now margin.now source.now memory.old
+    requires { (x : Nest) × (RowsGiven (with_body x body) components.now lasts.now back.now weights.now margin.now source.now memory.old
         grid.now lengths.now corner.now at.old first × (first + 4 ≤ 16384)) }
-    ensures { (x : Nest) → RowsGiven (withBody x body) components.now lasts.now back.now weights.now
+    ensures { (x : Nest) → RowsGiven (with_body x body) components.now lasts.now back.now weights.now
         margin.now source.now memory.old grid.now lengths.now corner.now
-        at.old first → Stored (withBody x body) source.now lengths.now corner.now memory.old
+        at.old first → Stored (with_body x body) source.now lengths.now corner.now memory.old
         memory.new at.new first 4 }
 {
     let n = body.dimensions;
@@ -371,11 +371,11 @@ pub fn box_fours(
     groups: usize,
     own: bool,
 )
-    requires { (x : Nest) × (RowsGiven (withBody x body) components.now lasts.now back.now weights.now margin.now source.now memory.old
+    requires { (x : Nest) × (RowsGiven (with_body x body) components.now lasts.now back.now weights.now margin.now source.now memory.old
         grid.now lengths.now corner.now at.old 0 × (4 * groups ≤ 16384)) }
-    ensures { (x : Nest) → RowsGiven (withBody x body) components.now lasts.now back.now weights.now
+    ensures { (x : Nest) → RowsGiven (with_body x body) components.now lasts.now back.now weights.now
         margin.now source.now memory.old grid.now lengths.now corner.now
-        at.old 0 → Stored (withBody x body) source.now lengths.now corner.now memory.old
+        at.old 0 → Stored (with_body x body) source.now lengths.now corner.now memory.old
         memory.new at.new 0 (4 * groups) }
 {
     for g in 0..groups {

@@ -4,18 +4,18 @@
 // so what a cell reads is told by comparing its last component with two numbers a distance.
 ghost use Rattle.std.specs.Prelude.{◌≡◌, true, [], ℕ, ◌+◌, ◌*◌, ◌-◌, ◌≤◌, ◌<◌, length, get_or};
 ghost use Rattle.base.specs.Tests.{pick};
-ghost use Rattle.base.specs.Lists.{storeAll};
+ghost use Rattle.base.specs.Lists.{store_all};
 ghost use Rattle.machine.specs.Machine.{state_of, sweep, collected};
 ghost use Rattle.nest.specs.Accepted.{Accepted};
-ghost use Rattle.nest.specs.Nest.{length_of, component, cells, processors, boxTiles};
+ghost use Rattle.nest.specs.Nest.{length_of, component, cells, processors, box_tiles};
 ghost use Rattle.nest.specs.Spans.{last, Narrow};
 ghost use Rattle.plan.specs.declared.Route.TheVariants.{Direct};
-ghost use Rattle.plan.specs.Shaped.{plan_of, shapedCells, shapedValue};
+ghost use Rattle.plan.specs.Shaped.{plan_of, shaped_cells, shaped_value};
 ghost use Rattle.layout.specs.Sizes.{Sized};
 ghost use Rattle.layout.specs.Places.{Located};
 ghost use Rattle.layout.specs.CellRows.{Given, row_of};
 ghost use Rattle.values.specs.row_values.Reads.{Backs};
-ghost use Rattle.values.specs.shaped_values.Rows.{insideOnly, heldWord, between, Overlaps, ReadsRun, ReadsRuns, mixedWord, mixedAlong, Readable};
+ghost use Rattle.values.specs.shaped_values.Rows.{inside_only, held_word, between, Overlaps, ReadsRun, ReadsRuns, mixed_word, mixed_along, Readable};
 
 use crate::row_values::Body;
 use kernels::{closed, word_of};
@@ -68,7 +68,7 @@ fn value_at(
 ) -> u32
     requires { Readable n firsts.now ends.now backs.now weights.now boundary shift from cell component 1 (length source.now)
         (length memory.now) }
-    ensures { result ≡ mixedWord n firsts.now ends.now backs.now weights.now boundary shift
+    ensures { result ≡ mixed_word n firsts.now ends.now backs.now weights.now boundary shift
         source.now from component memory.now cell }
 {
     let mut total = word_of(source, from);
@@ -99,7 +99,7 @@ pub fn store_row(
 )
     requires { Readable n firsts.now ends.now backs.now weights.now boundary shift from cell component width (length source.now)
         (length memory.old) }
-    ensures { memory.new ≡ storeAll (mixedAlong n firsts.now ends.now backs.now
+    ensures { memory.new ≡ store_all (mixed_along n firsts.now ends.now backs.now
         weights.now boundary shift source.now from cell component) memory.old (row_of cell width) }
 {
     for y in 0..width {
@@ -226,7 +226,7 @@ fn row(
     requires accepted { Accepted nest × ((Given nest components.now × (Backs nest back.now × (weights.now ≡ nest.weights)))
         × ((length source.now ≡ cells nest) × (length memory.old ≡ cells nest))) }
     requires located { Located nest cell.number cell × (get_or cell.place (last nest) 0 + width ≤ length_of nest (last nest)) }
-    ensures { memory.new ≡ storeAll (insideOnly nest (shapedValue nest source.now)) memory.old
+    ensures { memory.new ≡ store_all (inside_only nest (shaped_value nest source.now)) memory.old
         (row_of cell.number width) }
 {
     let at = cell.place;
@@ -263,8 +263,8 @@ fn row(
 
 // The values of the cells of the shape in a tile of the box, in index order, row by row.
 pub fn calculate(nest: Nest, sizes: Sizes, source: &[u32], memory: &mut [u32], tile: usize)
-    requires { Sized nest sizes × ((tile < boxTiles nest) × ((length source.now ≡ cells nest) × (length memory.old ≡ cells nest))) }
-    ensures { memory.new ≡ storeAll (shapedValue nest source.now) memory.old (shapedCells nest tile) }
+    requires { Sized nest sizes × ((tile < box_tiles nest) × ((length source.now ≡ cells nest) × (length memory.old ≡ cells nest))) }
+    ensures { memory.new ≡ store_all (shaped_value nest source.now) memory.old (shaped_cells nest tile) }
 {
     let bounds = layout::bounds_of(nest, sizes, tile);
     let components = nest.components;
@@ -342,7 +342,7 @@ pub fn sweep(nest: Nest, sizes: Sizes, source: &[u32], grid: &mut [u32])
 fn copy_row(nest: Nest, sizes: Sizes, memories: &[u32], grid: &mut [u32], cell: Cell, width: usize)
     requires sized { Sized nest sizes × ((length memories.now ≡ processors nest * cells nest) × (length grid.old ≡ cells nest)) }
     requires located { Located nest cell.number cell × ((get_or cell.place (last nest) 0 ≡ 0) × (width ≡ length_of nest (last nest))) }
-    ensures { grid.new ≡ storeAll (insideOnly nest (heldWord nest memories.now)) grid.old
+    ensures { grid.new ≡ store_all (inside_only nest (held_word nest memories.now)) grid.old
         (row_of cell.number width) }
 {
     let at = cell.place;

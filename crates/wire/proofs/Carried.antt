@@ -9,40 +9,40 @@ use borrow.Author.Tests.{eq-eqb, ne_eqb, lt-ltb}
 use Rattle.base.specs.Tests.{not, pick}
 use Rattle.base.specs.Lists.{Bytes, sublist}
 use Rattle.base.specs.Numbers.{Line, line, first_of}
-use Rattle.base.proofs.Tests.{and-true, not-true, pick_true, pick-false}
-use Rattle.base.proofs.Numbers.{first-nil, first-true, first-false, first-cons, first_some, first-behind, none-front, none-behind}
-use Rattle.machine.specs.Plan.{Plan, Sound, count, heldBy, senderOf, takerOf}
+use Rattle.base.proofs.Tests.{and_true, not-true, pick_true, pick_false}
+use Rattle.base.proofs.Numbers.{first_nil, first_true, first_false, first_cons, first_some, first_behind, none_front, none_behind}
+use Rattle.machine.specs.Plan.{Plan, Sound, count, held_by, sender_of, taker_of}
 use Rattle.machine.specs.Machine.{State, place_of, fit, Answered, answered}
-use Rattle.network.specs.Apart.{senderAt, takerAt}
+use Rattle.network.specs.Apart.{sender_at, taker_at}
 use Rattle.nest.specs.Accepted.{Accepted}
-use Rattle.nest.specs.Reader.{nestOf}
+use Rattle.nest.specs.Reader.{nest_of}
 use Rattle.nest.specs.Nest.{cells}
 use Rattle.nest.proofs.Facts.{accepted}
 use Rattle.plan.proofs.ShapedSound.{sound}
-use Rattle.layout.specs.RouteWords.{routeOf}
-use Rattle.recipe.specs.Routes.{linesFor}
-use Rattle.recipe.proofs.Laws.{numbered-for, reads-for}
+use Rattle.layout.specs.RouteWords.{route_of}
+use Rattle.recipe.specs.Routes.{lines_for}
+use Rattle.recipe.proofs.Laws.{numbered_for, reads_for}
 use Rattle.engine.specs.Calls.{answer, recipe, areas}
-use Rattle.engine.proofs.Turns.{answered-no, answered-yes}
+use Rattle.engine.proofs.Turns.{answered_no, answered_yes}
 use Rattle.packets.specs.declared.Header.{Header}
 use Rattle.packets.specs.Bits.{Burst}
-use Rattle.packets.specs.Fingerprint.{fingerprintOf}
-use Rattle.packets.specs.Packet.{Words, Fit, encodePacket, headerOf, words_of, damaged, stale, decodeLines, Decoded, packet, refused, decodedBy, decodePacket}
-use Rattle.packets.specs.Cut.{chunksOf, chunkLength, Chunk, chunk_of, cut, Assembly, complete, placed, fits}
-use Rattle.packets.proofs.Laws.{packets-hold}
-use Rattle.packets.proofs.Assembling.{few, cut-length}
-use Rattle.packets.proofs.RoundTrip.{header_is, words_are, whole, fresh, decode-encode, encode-bytes}
-use Rattle.packets.proofs.Bursts.{burst-damaged, damaged-refused}
-use Rattle.wire.specs.Wire.{Label, headed, itemPacket, Letter, letter, letterOf, messageLabel, packetOf, sendLines, sendCall, Inbox, cameOf, inboxFits}
-use Rattle.wire.specs.Wire.{addressLines, Received, receivedAs, cameNow, takenPacket, receiveLines, receiveCall}
-use Rattle.wire.specs.Carried.{Sent, sentBytes, arrivalLines, chunkCame, WireHolds}
-use Rattle.wire.proofs.Sending.{Sendable, sendable, place-long}
-use Rattle.wire.proofs.Receiving.{rising-few, decoded-numbered}
+use Rattle.packets.specs.Fingerprint.{fingerprint_of}
+use Rattle.packets.specs.Packet.{Words, Fit, encode_packet, header_of, words_of, damaged, stale, decode_lines, Decoded, packet, refused, decoded_by, decode_packet}
+use Rattle.packets.specs.Cut.{chunks_of, chunk_length, Chunk, chunk_of, cut, Assembly, complete, placed, fits}
+use Rattle.packets.proofs.Laws.{packets_hold}
+use Rattle.packets.proofs.Assembling.{few, cut_length}
+use Rattle.packets.proofs.RoundTrip.{header_is, words_are, whole, fresh, decode_encode, encode_bytes}
+use Rattle.packets.proofs.Bursts.{burst_damaged, damaged_refused}
+use Rattle.wire.specs.Wire.{Label, headed, item_packet, Letter, letter, letter_of, message_label, packet_of, send_lines, send_call, Inbox, came_of, inbox_fits}
+use Rattle.wire.specs.Wire.{address_lines, Received, received_as, came_now, taken_packet, receive_lines, receive_call}
+use Rattle.wire.specs.Carried.{Sent, sent_bytes, arrival_lines, chunk_came, WireHolds}
+use Rattle.wire.proofs.Sending.{Sendable, sendable, place_long}
+use Rattle.wire.proofs.Receiving.{rising_few, decoded_numbered}
 
 -- words of a part are words
-part-words : (l : List ℕ) (i n : ℕ) → Words l → Words (sublist l i n)
+part_words : (l : List ℕ) (i n : ℕ) → Words l → Words (sublist l i n)
 unfolding sublist
-part-words l i n w j = go (dec_lt j n)
+part_words l i n w j = go (dec_lt j n)
   where
     go : Dec (j < n) → get_or (take n (drop i l)) j 0 < 2 ^ 32
     go (yes h) = let e = get_or-take n (drop i l) j 0 h ∙ get_or-drop i l j 0 in omega (arith, e, w (i + j))
@@ -62,184 +62,184 @@ module _ (bytes : List ℕ) (route run life : ℕ) (buffer status : List ℕ) (b
   p = recipe bytes route
 
   abbrev f : ℕ
-  f = fingerprintOf bytes route
+  f = fingerprint_of bytes route
 
   abbrev words : List ℕ
   words = (cut (place_of p buffer m) k).words
 
   abbrev header : Header
-  header = headed (messageLabel p f run life m) k (length (heldBy p m))
+  header = headed (message_label p f run life m) k (length (held_by p m))
 
-  numbers : first_of (linesFor (routeOf route) bytes ++ sendLines p (length buffer) status b m k (length space)) ≡ 0
-  unfolding sendCall
+  numbers : first_of (lines_for (route_of route) bytes ++ send_lines p (length buffer) status b m k (length space)) ≡ 0
+  unfolding send_call
   numbers = sent.done
 
-  pub open-lines : first_of (linesFor (routeOf route) bytes) ≡ 0
-  open-lines = none-front (linesFor (routeOf route) bytes) (sendLines p (length buffer) status b m k (length space)) numbers
+  pub open_lines : first_of (lines_for (route_of route) bytes) ≡ 0
+  open_lines = none_front (lines_for (route_of route) bytes) (send_lines p (length buffer) status b m k (length space)) numbers
 
-  its-lines : first_of (sendLines p (length buffer) status b m k (length space)) ≡ 0
-  its-lines =
-      none-behind (linesFor (routeOf route) bytes) (sendLines p (length buffer) status b m k (length space)) (numbered-for (routeOf route) bytes) numbers
+  its_lines : first_of (send_lines p (length buffer) status b m k (length space)) ≡ 0
+  its_lines =
+      none_behind (lines_for (route_of route) bytes) (send_lines p (length buffer) status b m k (length space)) (numbered_for (route_of route) bytes) numbers
 
   abbrev known : Sendable p (length buffer) status b m k (length space)
-  known = sendable p (length buffer) status b m k (length space) its-lines
+  known = sendable p (length buffer) status b m k (length space) its_lines
 
-  ok : Accepted (nestOf bytes)
-  ok = accepted bytes sent.small (reads-for (routeOf route) bytes open-lines)
+  ok : Accepted (nest_of bytes)
+  ok = accepted bytes sent.small (reads_for (route_of route) bytes open_lines)
 
   so : Sound p
-  so = sound (routeOf route) (nestOf bytes) ok
+  so = sound (route_of route) (nest_of bytes) ok
 
-  held-few : length (heldBy p m) ≤ 18240
-  held-few =
-      omega (arith, rising-few (heldBy p m) (cells (nestOf bytes)) (so.held-rising m known.low) (λ c i. so.held_low m c known.low i), ok.cells-most)
+  held_few : length (held_by p m) ≤ 18240
+  held_few =
+      omega (arith, rising_few (held_by p m) (cells (nest_of bytes)) (so.held_rising m known.low) (λ c i. so.held_low m c known.low i), ok.cells_most)
 
-  long : length (place_of p buffer m) ≡ length (heldBy p m)
-  long = place-long p f run life buffer status b m k space its-lines held-few
+  long : length (place_of p buffer m) ≡ length (held_by p m)
+  long = place_long p f run life buffer status b m k space its_lines held_few
 
-  low-processor : (t : ℕ) → t < p.tiles → p.processorOf t < 2 ^ 32
-  low-processor t h = omega (arith, so.processor-low t h, ok.processors-most)
+  low_processor : (t : ℕ) → t < p.tiles → p.processor_of t < 2 ^ 32
+  low_processor t h = omega (arith, so.processor_low t h, ok.processors_most)
 
-  chunks-few : chunksOf (length (heldBy p m)) ≤ 64
-  chunks-few = few (length (heldBy p m)) held-few
+  chunks_few : chunks_of (length (held_by p m)) ≤ 64
+  chunks_few = few (length (held_by p m)) held_few
 
-  pub fit-sent : Fit header words
+  pub fit_sent : Fit header words
   unfolding headed cut
-  fit-sent =
+  fit_sent =
       record {
-        fingerprint = packets-hold.marked bytes route sent.small;
+        fingerprint = packets_hold.marked bytes route sent.small;
         run = sent.run_fits;
-        life = sent.life-fits;
+        life = sent.life_fits;
         kind = omega arith;
-        sender = low-processor (senderOf p m) (omega (arith, so.forward m known.low, so.taker-low m known.low));
-        taker = low-processor (takerOf p m) (so.taker-low m known.low);
-        item = sent.message-fits;
-        chunk = omega (arith, known.chunk-low, chunks-few);
-        chunks = omega (arith, chunks-few);
-        count = omega (arith, cut-length (place_of p buffer m) k);
-        words = part-words (place_of p buffer m) (k * 285) 285 (part-words buffer _ _ sent.words-fit);
+        sender = low_processor (sender_of p m) (omega (arith, so.forward m known.low, so.taker_low m known.low));
+        taker = low_processor (taker_of p m) (so.taker_low m known.low);
+        item = sent.message_fits;
+        chunk = omega (arith, known.chunk_low, chunks_few);
+        chunks = omega (arith, chunks_few);
+        count = omega (arith, cut_length (place_of p buffer m) k);
+        words = part_words (place_of p buffer m) (k * 285) 285 (part_words buffer _ _ sent.words_fit);
       }
 
-  packet-is : packetOf p f run life buffer m k ≡ encodePacket header words
-  unfolding packetOf itemPacket
-  packet-is = ap (λ (n : ℕ). encodePacket (headed (messageLabel p f run life m) k n) words) long
+  packet_is : packet_of p f run life buffer m k ≡ encode_packet header words
+  unfolding packet_of item_packet
+  packet_is = ap (λ (n : ℕ). encode_packet (headed (message_label p f run life m) k n) words) long
 
-  after_is : (sendCall bytes route run life buffer status b m k space).after ≡ letter (packetOf p f run life buffer m k) space
-  unfolding sendCall
+  after_is : (send_call bytes route run life buffer status b m k space).after ≡ letter (packet_of p f run life buffer m k) space
+  unfolding send_call
   after_is =
       ap (λ (a : Answered Letter). a.after)
-      (sym (answered-yes (first_of (linesFor (routeOf route) bytes ++ sendLines p (length buffer) status b m k (length space)))
-      (letter (packetOf p f run life buffer m k) space) (letterOf 0 space) numbers))
+      (sym (answered_yes (first_of (lines_for (route_of route) bytes ++ send_lines p (length buffer) status b m k (length space)))
+      (letter (packet_of p f run life buffer m k) space) (letter_of 0 space) numbers))
 
-  sent_is : sentBytes (sendCall bytes route run life buffer status b m k space) ≡ encodePacket header words
+  sent_is : sent_bytes (send_call bytes route run life buffer status b m k space) ≡ encode_packet header words
   unfolding letter
   sent_is =
       ap (λ (a : Letter). take a.long a.space) after_is
-      ∙ take_at (packetOf p f run life buffer m k) (drop (length (packetOf p f run life buffer m k)) space) (length (packetOf p f run life buffer m k)) refl
-      ∙ packet-is
+      ∙ take_at (packet_of p f run life buffer m k) (drop (length (packet_of p f run life buffer m k)) space) (length (packet_of p f run life buffer m k)) refl
+      ∙ packet_is
 
-  pub decoded : decodePacket f run (sentBytes (sendCall bytes route run life buffer status b m k space)) ≡ packet header words
+  pub decoded : decode_packet f run (sent_bytes (send_call bytes route run life buffer status b m k space)) ≡ packet header words
   unfolding headed
-  decoded = ap (decodePacket f run) sent_is ∙ decode-encode header words fit-sent
+  decoded = ap (decode_packet f run) sent_is ∙ decode_encode header words fit_sent
 
-  whole_sent : damaged (encodePacket header words) ≡ false
-  whole_sent = whole header words fit-sent
+  whole_sent : damaged (encode_packet header words) ≡ false
+  whole_sent = whole header words fit_sent
 
-  fresh-sent : stale f run (encodePacket header words) ≡ false
+  fresh_sent : stale f run (encode_packet header words) ≡ false
   unfolding headed
-  fresh-sent = fresh header words fit-sent
+  fresh_sent = fresh header words fit_sent
 
   module _ (source : List ℕ) (s : State) (c : ℕ) (i : Inbox) where
     abbrev q : List ℕ
-    q = encodePacket header words
+    q = encode_packet header words
 
     abbrev rest : Header → List ℕ → List Line
-    rest h ws = line 9 (not (inboxFits p i)) ∷ line 9 (not (areas p source s)) ∷ line 10 (not (fit p s)) ∷ addressLines p s.status c h ws
+    rest h ws = line 9 (not (inbox_fits p i)) ∷ line 9 (not (areas p source s)) ∷ line 10 (not (fit p s)) ∷ address_lines p s.status c h ws
 
-    its_own : fits (length (heldBy p m)) (chunk_of k (chunksOf (length (heldBy p m))) words) ≡ true
+    its_own : fits (length (held_by p m)) (chunk_of k (chunks_of (length (held_by p m))) words) ≡ true
     unfolding fits cut
     its_own =
-        and-true (eq-eqb (chunksOf (length (heldBy p m))) (chunksOf (length (heldBy p m))) refl)
-        (and-true (lt-ltb k (chunksOf (length (heldBy p m))) known.chunk-low)
-        (eq-eqb (length words) (chunkLength (length (heldBy p m)) k) (cut-length (place_of p buffer m) k ∙ ap (λ (n : ℕ). chunkLength n k) long)))
+        and_true (eq-eqb (chunks_of (length (held_by p m))) (chunks_of (length (held_by p m))) refl)
+        (and_true (lt-ltb k (chunks_of (length (held_by p m))) known.chunk_low)
+        (eq-eqb (length words) (chunk_length (length (held_by p m)) k) (cut_length (place_of p buffer m) k ∙ ap (λ (n : ℕ). chunk_length n k) long)))
 
-    address_is : first_of (addressLines p s.status c header words)
-        ≡ first_of (line 11 (not (eqb (takerAt p m) c)) ∷ line 14 (not (eqb (get_or s.status m 0) 0)) ∷ [])
+    address_is : first_of (address_lines p s.status c header words)
+        ≡ first_of (line 11 (not (eqb (taker_at p m) c)) ∷ line 14 (not (eqb (get_or s.status m 0) 0)) ∷ [])
     unfolding headed
     address_is =
-        first-false 11 _ _ (not-true (eq-eqb 1 1 refl))
-        ∙ first-false 11 _ _ (not-true (lt-ltb m (count p) known.low))
-        ∙ first-false 11 _ _ (not-true (eq-eqb (senderAt p m) (senderAt p m) refl))
-        ∙ first-false 11 _ _ (not-true (eq-eqb (takerAt p m) (takerAt p m) refl))
-        ∙ first-cons 11 (not (eqb (takerAt p m) c)) _ _ (first-false 11 _ _ (not-true its_own))
+        first_false 11 _ _ (not-true (eq-eqb 1 1 refl))
+        ∙ first_false 11 _ _ (not-true (lt-ltb m (count p) known.low))
+        ∙ first_false 11 _ _ (not-true (eq-eqb (sender_at p m) (sender_at p m) refl))
+        ∙ first_false 11 _ _ (not-true (eq-eqb (taker_at p m) (taker_at p m) refl))
+        ∙ first_cons 11 (not (eqb (taker_at p m) c)) _ _ (first_false 11 _ _ (not-true its_own))
 
-    lines_are : first_of (receiveLines bytes route run source s c q i) ≡ first_of (arrivalLines p source s c m i)
+    lines_are : first_of (receive_lines bytes route run source s c q i) ≡ first_of (arrival_lines p source s c m i)
     lines_are =
-        first-behind (linesFor (routeOf route) bytes) (decodeLines f run q ++ rest (headerOf q) (words_of q)) (numbered-for (routeOf route) bytes) open-lines
-        ∙ first-behind (decodeLines f run q) (rest (headerOf q) (words_of q)) (decoded-numbered f run q)
-        (first-false 26 _ _ whole_sent ∙ first-false 27 _ _ fresh-sent ∙ first-nil)
-        ∙ ap₂ (λ (h : Header) (ws : List ℕ). first_of (rest h ws)) (header_is header words fit-sent) (words_are header words fit-sent)
-        ∙ first-cons 9 _ _ _ (first-cons 9 _ _ _ (first-cons 10 _ _ _ address_is))
+        first_behind (lines_for (route_of route) bytes) (decode_lines f run q ++ rest (header_of q) (words_of q)) (numbered_for (route_of route) bytes) open_lines
+        ∙ first_behind (decode_lines f run q) (rest (header_of q) (words_of q)) (decoded_numbered f run q)
+        (first_false 26 _ _ whole_sent ∙ first_false 27 _ _ fresh_sent ∙ first_nil)
+        ∙ ap₂ (λ (h : Header) (ws : List ℕ). first_of (rest h ws)) (header_is header words fit_sent) (words_are header words fit_sent)
+        ∙ first_cons 9 _ _ _ (first_cons 9 _ _ _ (first_cons 10 _ _ _ address_is))
 
-    taken_is : takenPacket p s i (headerOf q) (words_of q) ≡ chunkCame p s i m (place_of p buffer m) k
-    unfolding takenPacket headed
-    taken_is = ap₂ (λ (h : Header) (ws : List ℕ). takenPacket p s i h ws) (header_is header words fit-sent) (words_are header words fit-sent)
+    taken_is : taken_packet p s i (header_of q) (words_of q) ≡ chunk_came p s i m (place_of p buffer m) k
+    unfolding taken_packet headed
+    taken_is = ap₂ (λ (h : Header) (ws : List ℕ). taken_packet p s i h ws) (header_is header words fit_sent) (words_are header words fit_sent)
 
-    pub carried : receiveCall bytes route run source s c (sentBytes (sendCall bytes route run life buffer status b m k space)) i
-        ≡ answered (first_of (arrivalLines p source s c m i)) (chunkCame p s i m (place_of p buffer m) k) (receivedAs 0 0 i s)
-    unfolding receiveCall
+    pub carried : receive_call bytes route run source s c (sent_bytes (send_call bytes route run life buffer status b m k space)) i
+        ≡ answered (first_of (arrival_lines p source s c m i)) (chunk_came p s i m (place_of p buffer m) k) (received_as 0 0 i s)
+    unfolding receive_call
     carried =
-        ap (λ (l : List ℕ). receiveCall bytes route run source s c l i) sent_is
-        ∙ ap₂ (λ (n : ℕ) (x : Received). answered n x (receivedAs 0 0 i s)) lines_are taken_is
+        ap (λ (l : List ℕ). receive_call bytes route run source s c l i) sent_is
+        ∙ ap₂ (λ (n : ℕ) (x : Received). answered n x (received_as 0 0 i s)) lines_are taken_is
 
 -- ---- what is refused
 
 module _ (bytes : List ℕ) (route run : ℕ) (source : List ℕ) (s : State) (b : ℕ) (q : List ℕ) (i : Inbox) where
   abbrev unchanged : Received
-  unchanged = receivedAs 0 0 i s
+  unchanged = received_as 0 0 i s
 
-  refusal : (receiveCall bytes route run source s b q i).number ≢ 0 → (receiveCall bytes route run source s b q i).after ≡ unchanged
-  unfolding receiveCall
-  refusal h = pick-false _ _ _ (ne_eqb _ 0 h)
+  refusal : (receive_call bytes route run source s b q i).number ≢ 0 → (receive_call bytes route run source s b q i).after ≡ unchanged
+  unfolding receive_call
+  refusal h = pick_false _ _ _ (ne_eqb _ 0 h)
 
-  turned : (n : ℕ) → first_of (linesFor (routeOf route) bytes) ≡ 0 → decodePacket (fingerprintOf bytes route) run q ≡ refused n
-      → receiveCall bytes route run source s b q i ≡ answer n unchanged
-  unfolding decodePacket receiveCall
-  turned n z e = by (damaged q) refl (stale (fingerprintOf bytes route) run q) refl
+  turned : (n : ℕ) → first_of (lines_for (route_of route) bytes) ≡ 0 → decode_packet (fingerprint_of bytes route) run q ≡ refused n
+      → receive_call bytes route run source s b q i ≡ answer n unchanged
+  unfolding decode_packet receive_call
+  turned n z e = by (damaged q) refl (stale (fingerprint_of bytes route) run q) refl
     where
-      number : (k : ℕ) → first_of (decodeLines (fingerprintOf bytes route) run q) ≡ suc k → suc k ≡ n
-      number k g = let y : refused (suc k) ≡ refused n = sym (ap (λ (x : ℕ). decodedBy x q) g) ∙ e in cc
+      number : (k : ℕ) → first_of (decode_lines (fingerprint_of bytes route) run q) ≡ suc k → suc k ≡ n
+      number k g = let y : refused (suc k) ≡ refused n = sym (ap (λ (x : ℕ). decoded_by x q) g) ∙ e in cc
 
-      stops : (k : ℕ) → first_of (decodeLines (fingerprintOf bytes route) run q) ≡ suc k → receiveCall bytes route run source s b q i ≡ answer n unchanged
+      stops : (k : ℕ) → first_of (decode_lines (fingerprint_of bytes route) run q) ≡ suc k → receive_call bytes route run source s b q i ≡ answer n unchanged
       stops k g =
-          ap (λ (x : ℕ). answered x (takenPacket (recipe bytes route) s i (headerOf q) (words_of q)) unchanged)
-          (first-behind (linesFor (routeOf route) bytes) _ (numbered-for (routeOf route) bytes) z
-          ∙ first_some (decodeLines (fingerprintOf bytes route) run q) _ (λ y. absurd (omega (arith, g, y))) ∙ g)
-          ∙ sym (answered-no (suc k) (takenPacket (recipe bytes route) s i (headerOf q) (words_of q)) unchanged (λ y. absurd (omega (arith, y))))
+          ap (λ (x : ℕ). answered x (taken_packet (recipe bytes route) s i (header_of q) (words_of q)) unchanged)
+          (first_behind (lines_for (route_of route) bytes) _ (numbered_for (route_of route) bytes) z
+          ∙ first_some (decode_lines (fingerprint_of bytes route) run q) _ (λ y. absurd (omega (arith, g, y))) ∙ g)
+          ∙ sym (answered_no (suc k) (taken_packet (recipe bytes route) s i (header_of q) (words_of q)) unchanged (λ y. absurd (omega (arith, y))))
           ∙ ap (λ (x : ℕ). answer x unchanged) (number k g)
 
-      by : (d : Bool) → damaged q ≡ d → (t : Bool) → stale (fingerprintOf bytes route) run q ≡ t
-          → receiveCall bytes route run source s b q i ≡ answer n unchanged
-      by true d t g = stops 25 (first-true 26 _ _ d)
-      by false d true g = stops 26 (first-false 26 _ _ d ∙ first-true 27 _ _ g)
+      by : (d : Bool) → damaged q ≡ d → (t : Bool) → stale (fingerprint_of bytes route) run q ≡ t
+          → receive_call bytes route run source s b q i ≡ answer n unchanged
+      by true d t g = stops 25 (first_true 26 _ _ d)
+      by false d true g = stops 26 (first_false 26 _ _ d ∙ first_true 27 _ _ g)
       by false d false g =
-          let y : packet (headerOf q) (words_of q) ≡ refused n =
-          sym (ap (λ (x : ℕ). decodedBy x q) (first-false 26 _ _ d ∙ first-false 27 _ _ g ∙ first-nil)) ∙ e in
+          let y : packet (header_of q) (words_of q) ≡ refused n =
+          sym (ap (λ (x : ℕ). decoded_by x q) (first_false 26 _ _ d ∙ first_false 27 _ _ g ∙ first_nil)) ∙ e in
           let w : ◌≡◌ {A = ℕ} 0 1 = cc in
           absurd (omega arith)
 
-pub wire-holds : WireHolds
-wire-holds =
+pub wire_holds : WireHolds
+wire_holds =
     record {
       decoded = decoded;
       carried = carried;
       refusal = refusal;
-      turned-away = turned;
+      turned_away = turned;
       burst = λ bytes route run life buffer status b m k space sent source s c q i g u.
-          turned bytes route run source s c q i 26 (open-lines bytes route run life buffer status b m k space sent)
-          (damaged-refused (fingerprintOf bytes route) run q
-          (burst-damaged
-          (encodePacket (header bytes route run life buffer status b m k space sent) (words bytes route run life buffer status b m k space sent)) q
-          (encode-bytes _ _) g (whole_sent bytes route run life buffer status b m k space sent)
+          turned bytes route run source s c q i 26 (open_lines bytes route run life buffer status b m k space sent)
+          (damaged_refused (fingerprint_of bytes route) run q
+          (burst_damaged
+          (encode_packet (header bytes route run life buffer status b m k space sent) (words bytes route run life buffer status b m k space sent)) q
+          (encode_bytes _ _) g (whole_sent bytes route run life buffer status b m k space sent)
           (rw (sent_is bytes route run life buffer status b m k space sent) at u)));
     }

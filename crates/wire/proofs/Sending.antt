@@ -11,119 +11,119 @@ use lib.Seq.{get_or-take, get_or-drop, ext_get_or}
 use Rattle.base.specs.Tests.{not}
 use Rattle.base.specs.Lists.{sublist, put}
 use Rattle.base.specs.Numbers.{Line, line, first_of}
-use Rattle.base.proofs.Tests.{not-true, not-false, true-not}
+use Rattle.base.proofs.Tests.{not-true, not-false, true_not}
 use Rattle.base.proofs.Lists.{part_length}
-use Rattle.base.proofs.Numbers.{first-nil, first-true, first-false, first-behind, none_first}
-use Rattle.machine.specs.Plan.{Plan, count, words, heldBy, offset}
+use Rattle.base.proofs.Numbers.{first_nil, first_true, first_false, first_behind, none_first}
+use Rattle.machine.specs.Plan.{Plan, count, words, held_by, offset}
 use Rattle.machine.specs.Machine.{place_of, Answered, answered}
-use Rattle.machine.proofs.Values.{offset-apart}
+use Rattle.machine.proofs.Values.{offset_apart}
 use Rattle.nest.specs.declared.Nest.{Nest}
 use Rattle.plan.specs.declared.Route.{Route}
 use Rattle.plan.specs.Shaped.{plan_of}
-use Rattle.layout.specs.RouteWords.{routeOf}
-use Rattle.recipe.specs.Routes.{linesFor}
-use Rattle.recipe.proofs.Laws.{numbered-for}
-use Rattle.network.specs.Apart.{senderAt, takerAt}
+use Rattle.layout.specs.RouteWords.{route_of}
+use Rattle.recipe.specs.Routes.{lines_for}
+use Rattle.recipe.proofs.Laws.{numbered_for}
+use Rattle.network.specs.Apart.{sender_at, taker_at}
 use Rattle.tables.specs.declared.scans.MessageSlot.{MessageSlot}
 use Rattle.tables.specs.Tables.{FoundIn}
 use Rattle.summary.specs.declared.MessageLine.{MessageLine}
 use Rattle.summary.specs.Summary.{line_of}
-use Rattle.stages.proofs.Parts.{mid-is}
+use Rattle.stages.proofs.Parts.{mid_is}
 use Rattle.engine.specs.Calls.{answer, recipe}
-use Rattle.engine.proofs.Turns.{answered-no, answered-yes}
-use Rattle.engine.proofs.Lines.{Opened, call-read}
+use Rattle.engine.proofs.Turns.{answered_no, answered_yes}
+use Rattle.engine.proofs.Lines.{Opened, call_read}
 use Rattle.packets.specs.declared.Header.{Header}
-use Rattle.packets.specs.Fingerprint.{fingerprintOf}
-use Rattle.packets.specs.Packet.{packetLength, encodePacket, unfit}
-use Rattle.packets.specs.Cut.{chunksOf, chunkLength, cut}
-use Rattle.packets.specs.Calls.{Written, written_of, writeCall}
+use Rattle.packets.specs.Fingerprint.{fingerprint_of}
+use Rattle.packets.specs.Packet.{packet_length, encode_packet, unfit}
+use Rattle.packets.specs.Cut.{chunks_of, chunk_length, cut}
+use Rattle.packets.specs.Calls.{Written, written_of, write_call}
 use Rattle.packets.proofs.Answers.{headerFrom, fit_is, write_done}
-use Rattle.packets.proofs.Assembling.{begins, ends, cut-length}
-use Rattle.packets.proofs.RoundTrip.{encode-length}
-use Rattle.wire.specs.Wire.{Label, label, headed, itemPacket, Letter, letterOf, letter, packetLines, packetCall, messageLabel, packetOf, sendLines}
-use Rattle.wire.specs.Wire.{sentOr, sendCall}
+use Rattle.packets.proofs.Assembling.{begins, ends, cut_length}
+use Rattle.packets.proofs.RoundTrip.{encode_length}
+use Rattle.wire.specs.Wire.{Label, label, headed, item_packet, Letter, letter_of, letter, packet_lines, packet_call, message_label, packet_of, send_lines}
+use Rattle.wire.specs.Wire.{sent_or, send_call}
 use Rattle.wire.specs.declared.Written as declared
 
 -- ---- a packet into a space
 
 -- written into its first n bytes, which is the packet's length
 pub put_in : (h : Header) (ws space ys : List ℕ) (a n : ℕ) → n ≡ 60 + 4 * length ws → length ws ≤ 285 → length space ≡ 1200
-    → written_of a ys ≡ writeCall h ws (take (n - 0) (drop 0 space))
-    → letterOf n (put_mid 0 (n - 0) space ys) ≡ letter (encodePacket h ws) space
+    → written_of a ys ≡ write_call h ws (take (n - 0) (drop 0 space))
+    → letter_of n (put_mid 0 (n - 0) space ys) ≡ letter (encode_packet h ws) space
 unfolding letter
-put_in h ws space ys a n e few long w = ap₂ letterOf as_long bytes
+put_in h ws space ys a n e few long w = ap₂ letter_of as_long_lem bytes
   where
     many : n - 0 ≡ n
     many = sub-zero n
 
-    fits-is : unfit (length ws) (length (take (n - 0) (drop 0 space))) ≡ false
-    fits-is = fit_is (length ws) (length (take (n - 0) (drop 0 space))) few (length-take (n - 0) space ∙ least)
+    fits_is : unfit (length ws) (length (take (n - 0) (drop 0 space))) ≡ false
+    fits_is = fit_is (length ws) (length (take (n - 0) (drop 0 space))) few (length-take (n - 0) space ∙ least)
       where
-        least : Prim.Native.Nat.min (n - 0) (length space) ≡ packetLength (length ws)
+        least : Prim.Native.Nat.min (n - 0) (length space) ≡ packet_length (length ws)
         least = omega (arith, e, few, long)
 
-    is : ys ≡ encodePacket h ws
-    is = ap (λ (z : Written). z.space) (w ∙ sym (write_done h ws (take (n - 0) (drop 0 space)) (encodePacket h ws) fits-is refl))
+    is : ys ≡ encode_packet h ws
+    is = ap (λ (z : Written). z.space) (w ∙ sym (write_done h ws (take (n - 0) (drop 0 space)) (encode_packet h ws) fits_is refl))
 
-    as_long : n ≡ length (encodePacket h ws)
-    as_long = omega (arith, e, encode-length h ws)
+    as_long_lem : n ≡ length (encode_packet h ws)
+    as_long_lem = omega (arith, e, encode_length h ws)
 
-    bytes : put_mid 0 (n - 0) space ys ≡ encodePacket h ws ++ drop (length (encodePacket h ws)) space
-    bytes = ap₂ (λ (l : List ℕ) (k : ℕ). l ++ drop k space) is (many ∙ as_long)
+    bytes : put_mid 0 (n - 0) space ys ≡ encode_packet h ws ++ drop (length (encode_packet h ws)) space
+    bytes = ap₂ (λ (l : List ℕ) (k : ℕ). l ++ drop k space) is (many ∙ as_long_lem)
 
 -- ---- any item
 
 -- a refusal tells 0
-pub told-no : {A : Type 0} (r : declared.Written) (j : ℕ) (f : ℕ → A) → (r.number ≡ j) × (r.length ≡ 0) → answer r.number (f r.length) ≡ answer j (f 0)
-told-no r j f is = ap₂ (λ (x y : ℕ). answer x (f y)) is.0 is.1
+pub told_no : {A : Type 0} (r : declared.Written) (j : ℕ) (f : ℕ → A) → (r.number ≡ j) × (r.length ≡ 0) → answer r.number (f r.length) ≡ answer j (f 0)
+told_no r j f is = ap₂ (λ (x y : ℕ). answer x (f y)) is.0 is.1
 
 module _ (l : Label) (ws : List ℕ) (k : ℕ) (space : List ℕ) where
-  packet-no : (r : declared.Written) (j : ℕ) → (r.number ≡ j) × (r.length ≡ 0) → j ≡ first_of (packetLines ws k space) → j ≢ 0
-      → answer r.number (letterOf r.length space) ≡ packetCall l ws k space
-  unfolding packetCall
-  packet-no r j is e h =
-      told-no r j (λ n. letterOf n space) is
-      ∙ answered-no j (letter (itemPacket l ws k) space) (letterOf 0 space) h
-      ∙ ap (λ (x : ℕ). answered x (letter (itemPacket l ws k) space) (letterOf 0 space)) e
+  packet_no : (r : declared.Written) (j : ℕ) → (r.number ≡ j) × (r.length ≡ 0) → j ≡ first_of (packet_lines ws k space) → j ≢ 0
+      → answer r.number (letter_of r.length space) ≡ packet_call l ws k space
+  unfolding packet_call
+  packet_no r j is e h =
+      told_no r j (λ n. letter_of n space) is
+      ∙ answered_no j (letter (item_packet l ws k) space) (letter_of 0 space) h
+      ∙ ap (λ (x : ℕ). answered x (letter (item_packet l ws k) space) (letter_of 0 space)) e
 
-  pub packet-space : (r : declared.Written) → (r.number ≡ 9) × (r.length ≡ 0) → (length space ≡ 1200 → ⊥)
-      → answer r.number (letterOf r.length space) ≡ packetCall l ws k space
-  packet-space r is h = packet-no r 9 is (sym (first-true 9 _ _ (not-false (ne_eqb (length space) 1200 h)))) (λ q. omega arith)
+  pub packet_space : (r : declared.Written) → (r.number ≡ 9) × (r.length ≡ 0) → (length space ≡ 1200 → ⊥)
+      → answer r.number (letter_of r.length space) ≡ packet_call l ws k space
+  packet_space r is h = packet_no r 9 is (sym (first_true 9 _ _ (not-false (ne_eqb (length space) 1200 h)))) (λ q. omega arith)
 
   module _ (e : length space ≡ 1200) where
-    pub packet-long : (r : declared.Written) → (r.number ≡ 9) × (r.length ≡ 0) → 18240 < length ws
-        → answer r.number (letterOf r.length space) ≡ packetCall l ws k space
-    packet-long r is h =
-        packet-no r 9 is (sym (first-false 9 _ _ (not-true (eq-eqb (length space) 1200 e)) ∙ first-true 9 _ _ (lt-ltb 18240 (length ws) h)))
+    pub packet_long : (r : declared.Written) → (r.number ≡ 9) × (r.length ≡ 0) → 18240 < length ws
+        → answer r.number (letter_of r.length space) ≡ packet_call l ws k space
+    packet_long r is h =
+        packet_no r 9 is (sym (first_false 9 _ _ (not-true (eq-eqb (length space) 1200 e)) ∙ first_true 9 _ _ (lt-ltb 18240 (length ws) h)))
         (λ q. omega arith)
 
     module _ (few : length ws ≤ 18240) where
-      pub packet-none : (r : declared.Written) → (r.number ≡ 11) × (r.length ≡ 0) → chunksOf (length ws) ≤ k
-          → answer r.number (letterOf r.length space) ≡ packetCall l ws k space
-      packet-none r is h =
-          packet-no r 11 is
-          (sym (first-false 9 _ _ (not-true (eq-eqb (length space) 1200 e)) ∙ first-false 9 _ _ (le-ltb 18240 (length ws) few)
-          ∙ first-true 11 _ _ (not-false (le-ltb k (chunksOf (length ws)) h)))) (λ q. omega arith)
+      pub packet_none : (r : declared.Written) → (r.number ≡ 11) × (r.length ≡ 0) → chunks_of (length ws) ≤ k
+          → answer r.number (letter_of r.length space) ≡ packet_call l ws k space
+      packet_none r is h =
+          packet_no r 11 is
+          (sym (first_false 9 _ _ (not-true (eq-eqb (length space) 1200 e)) ∙ first_false 9 _ _ (le-ltb 18240 (length ws) few)
+          ∙ first_true 11 _ _ (not-false (le-ltb k (chunks_of (length ws)) h)))) (λ q. omega arith)
 
-      pub packet-lines : k < chunksOf (length ws) → first_of (packetLines ws k space) ≡ 0
-      packet-lines h =
-          first-false 9 _ _ (not-true (eq-eqb (length space) 1200 e)) ∙ first-false 9 _ _ (le-ltb 18240 (length ws) few)
-          ∙ first-false 11 _ _ (not-true (lt-ltb k (chunksOf (length ws)) h)) ∙ first-nil
+      pub packet_lines_lem : k < chunks_of (length ws) → first_of (packet_lines ws k space) ≡ 0
+      packet_lines_lem h =
+          first_false 9 _ _ (not-true (eq-eqb (length space) 1200 e)) ∙ first_false 9 _ _ (le-ltb 18240 (length ws) few)
+          ∙ first_false 11 _ _ (not-true (lt-ltb k (chunks_of (length ws)) h)) ∙ first_nil
 
-      pub packet-done : (n : ℕ) (out : List ℕ) → k < chunksOf (length ws) → letterOf n out ≡ letter (itemPacket l ws k) space
-          → answer 0 (letterOf n out) ≡ packetCall l ws k space
-      unfolding packetCall
-      packet-done n out h w =
-          ap (answer 0) w ∙ answered-yes (first_of (packetLines ws k space)) (letter (itemPacket l ws k) space) (letterOf 0 space) (packet-lines h)
+      pub packet_done : (n : ℕ) (out : List ℕ) → k < chunks_of (length ws) → letter_of n out ≡ letter (item_packet l ws k) space
+          → answer 0 (letter_of n out) ≡ packet_call l ws k space
+      unfolding packet_call
+      packet_done n out h w =
+          ap (answer 0) w ∙ answered_yes (first_of (packet_lines ws k space)) (letter (item_packet l ws k) space) (letter_of 0 space) (packet_lines_lem h)
 
 -- the chunk, as the code has it
-module _ (ws : List ℕ) (k j s : ℕ) (ej : j ≡ k) (es : s ≡ chunkLength (length ws) k) (low : k < chunksOf (length ws)) where
-  pub chunk-room : j * 285 + s ≤ length ws
-  chunk-room = omega (arith, ej, es, ends (length ws) k low)
+module _ (ws : List ℕ) (k j s : ℕ) (ej : j ≡ k) (es : s ≡ chunk_length (length ws) k) (low : k < chunks_of (length ws)) where
+  pub chunk_room : j * 285 + s ≤ length ws
+  chunk_room = omega (arith, ej, es, ends (length ws) k low)
 
-  pub chunk-words : take (j * 285 + s - j * 285) (drop (j * 285) ws) ≡ (cut ws k).words
+  pub chunk_words : take (j * 285 + s - j * 285) (drop (j * 285) ws) ≡ (cut ws k).words
   unfolding cut sublist
-  chunk-words =
+  chunk_words =
       ap (λ (x : ℕ). take x (drop (j * 285) ws)) (add-sub_cancel_left (j * 285) s)
       ∙ ext_get_or 0 (take s (drop (j * 285) ws)) (take 285 (drop (k * 285) ws)) (left ∙ sym right) each
     where
@@ -131,10 +131,10 @@ module _ (ws : List ℕ) (k j s : ℕ) (ej : j ≡ k) (es : s ≡ chunkLength (l
       left = length-take s (drop (j * 285) ws) ∙ inner (length-drop (j * 285) ws)
         where
           inner : length (drop (j * 285) ws) ≡ length ws - j * 285 → Prim.Native.Nat.min s (length (drop (j * 285) ws)) ≡ s
-          inner q = omega (arith, q, chunk-room)
+          inner q = omega (arith, q, chunk_room)
 
       right : length (take 285 (drop (k * 285) ws)) ≡ s
-      right = cut-length ws k ∙ sym es
+      right = cut_length ws k ∙ sym es
 
       each : (i : ℕ) → i < length (take s (drop (j * 285) ws)) → get_or (take s (drop (j * 285) ws)) i 0 ≡ get_or (take 285 (drop (k * 285) ws)) i 0
       each i h =
@@ -144,83 +144,83 @@ module _ (ws : List ℕ) (k j s : ℕ) (ej : j ≡ k) (es : s ≡ chunkLength (l
           ∙ sym (get_or-take 285 (drop (k * 285) ws) i 0 (omega (arith, es, below)))
 
   -- and its packet
-  pub chunk-packet : (f n life kind from to item c : ℕ) (space : List ℕ) → c ≡ chunksOf (length ws) → (x : Letter)
-      → x ≡ letter (encodePacket (headerFrom f n life kind from to item k c) (take (j * 285 + s - j * 285) (drop (j * 285) ws))) space
-      → x ≡ letter (itemPacket (label f n life kind from to item) ws k) space
-  unfolding itemPacket headed
-  chunk-packet f n life kind from to item c space ec x e =
-      e ∙ ap₂ (λ (y : ℕ) (l : List ℕ). letter (encodePacket (headerFrom f n life kind from to item k y) l) space) ec chunk-words
+  pub chunk_packet : (f n life kind from to item c : ℕ) (space : List ℕ) → c ≡ chunks_of (length ws) → (x : Letter)
+      → x ≡ letter (encode_packet (headerFrom f n life kind from to item k c) (take (j * 285 + s - j * 285) (drop (j * 285) ws))) space
+      → x ≡ letter (item_packet (label f n life kind from to item) ws k) space
+  unfolding item_packet headed
+  chunk_packet f n life kind from to item c space ec x e =
+      e ∙ ap₂ (λ (y : ℕ) (l : List ℕ). letter (encode_packet (headerFrom f n life kind from to item k y) l) space) ec chunk_words
 
 -- ---- a message: the number
 
 module _ (p : Plan) (buffer : ℕ) (status : List ℕ) (b m k space : ℕ) where
   number : ℕ
-  number = first_of (sendLines p buffer status b m k space)
+  number = first_of (send_lines p buffer status b m k space)
 
-  pub number-buffer : buffer ≢ words p → 9 ≡ first_of (sendLines p buffer status b m k space)
-  number-buffer h = sym (first-true 9 _ _ (not-false (ne_eqb buffer (words p) h)))
+  pub number_buffer : buffer ≢ words p → 9 ≡ first_of (send_lines p buffer status b m k space)
+  number_buffer h = sym (first_true 9 _ _ (not-false (ne_eqb buffer (words p) h)))
 
   module _ (e : buffer ≡ words p) where
-    pub number-status : length status ≢ count p → 9 ≡ first_of (sendLines p buffer status b m k space)
-    number-status h = sym (first-false 9 _ _ (not-true (eq-eqb buffer (words p) e)) ∙ first-true 9 _ _ (not-false (ne_eqb (length status) (count p) h)))
+    pub number_status : length status ≢ count p → 9 ≡ first_of (send_lines p buffer status b m k space)
+    number_status h = sym (first_false 9 _ _ (not-true (eq-eqb buffer (words p) e)) ∙ first_true 9 _ _ (not-false (ne_eqb (length status) (count p) h)))
 
     module _ (f : length status ≡ count p) where
-      two : first_of (sendLines p buffer status b m k space)
-          ≡ first_of (line 9 (not (eqb space 1200)) ∷ line 11 (not (ltb m (count p))) ∷ line 11 (not (eqb (senderAt p m) b))
-          ∷ line 11 (not (ltb k (chunksOf (length (heldBy p m))))) ∷ line 14 (ltb (get_or status m 0) 2) ∷ [])
-      two = first-false 9 _ _ (not-true (eq-eqb buffer (words p) e)) ∙ first-false 9 _ _ (not-true (eq-eqb (length status) (count p) f))
+      two : first_of (send_lines p buffer status b m k space)
+          ≡ first_of (line 9 (not (eqb space 1200)) ∷ line 11 (not (ltb m (count p))) ∷ line 11 (not (eqb (sender_at p m) b))
+          ∷ line 11 (not (ltb k (chunks_of (length (held_by p m))))) ∷ line 14 (ltb (get_or status m 0) 2) ∷ [])
+      two = first_false 9 _ _ (not-true (eq-eqb buffer (words p) e)) ∙ first_false 9 _ _ (not-true (eq-eqb (length status) (count p) f))
 
-      pub number-space : space ≢ 1200 → 9 ≡ first_of (sendLines p buffer status b m k space)
-      number-space h = sym (two ∙ first-true 9 _ _ (not-false (ne_eqb space 1200 h)))
+      pub number_space : space ≢ 1200 → 9 ≡ first_of (send_lines p buffer status b m k space)
+      number_space h = sym (two ∙ first_true 9 _ _ (not-false (ne_eqb space 1200 h)))
 
       module _ (g : space ≡ 1200) where
-        three : first_of (sendLines p buffer status b m k space)
-            ≡ first_of (line 11 (not (ltb m (count p))) ∷ line 11 (not (eqb (senderAt p m) b))
-            ∷ line 11 (not (ltb k (chunksOf (length (heldBy p m))))) ∷ line 14 (ltb (get_or status m 0) 2) ∷ [])
-        three = two ∙ first-false 9 _ _ (not-true (eq-eqb space 1200 g))
+        three : first_of (send_lines p buffer status b m k space)
+            ≡ first_of (line 11 (not (ltb m (count p))) ∷ line 11 (not (eqb (sender_at p m) b))
+            ∷ line 11 (not (ltb k (chunks_of (length (held_by p m))))) ∷ line 14 (ltb (get_or status m 0) 2) ∷ [])
+        three = two ∙ first_false 9 _ _ (not-true (eq-eqb space 1200 g))
 
-        pub number-message : count p ≤ m → 11 ≡ first_of (sendLines p buffer status b m k space)
-        number-message h = sym (three ∙ first-true 11 _ _ (not-false (le-ltb m (count p) h)))
+        pub number_message : count p ≤ m → 11 ≡ first_of (send_lines p buffer status b m k space)
+        number_message h = sym (three ∙ first_true 11 _ _ (not-false (le-ltb m (count p) h)))
 
         module _ (l : m < count p) (x : MessageLine) (is : x ≡ line_of p m) where
-          four : first_of (sendLines p buffer status b m k space)
-              ≡ first_of (line 11 (not (eqb (senderAt p m) b)) ∷ line 11 (not (ltb k (chunksOf (length (heldBy p m))))) ∷ line 14 (ltb (get_or status m 0) 2) ∷ [])
-          four = three ∙ first-false 11 _ _ (not-true (lt-ltb m (count p) l))
+          four : first_of (send_lines p buffer status b m k space)
+              ≡ first_of (line 11 (not (eqb (sender_at p m) b)) ∷ line 11 (not (ltb k (chunks_of (length (held_by p m))))) ∷ line 14 (ltb (get_or status m 0) 2) ∷ [])
+          four = three ∙ first_false 11 _ _ (not-true (lt-ltb m (count p) l))
 
-          from_is : x.from ≡ senderAt p m
+          from_is : x.from ≡ sender_at p m
           from_is = ap (λ (y : MessageLine). y.from) is
 
-          pub number-sender : x.from ≢ b → 11 ≡ first_of (sendLines p buffer status b m k space)
-          number-sender h = sym (four ∙ first-true 11 _ _ (not-false (ne_eqb (senderAt p m) b (λ q. h (from_is ∙ q)))))
+          pub number_sender : x.from ≢ b → 11 ≡ first_of (send_lines p buffer status b m k space)
+          number_sender h = sym (four ∙ first_true 11 _ _ (not-false (ne_eqb (sender_at p m) b (λ q. h (from_is ∙ q)))))
 
           module _ (here : x.from ≡ b) where
-            five : first_of (sendLines p buffer status b m k space)
-                ≡ first_of (line 11 (not (ltb k (chunksOf (length (heldBy p m))))) ∷ line 14 (ltb (get_or status m 0) 2) ∷ [])
-            five = four ∙ first-false 11 _ _ (not-true (eq-eqb (senderAt p m) b (sym from_is ∙ here)))
+            five : first_of (send_lines p buffer status b m k space)
+                ≡ first_of (line 11 (not (ltb k (chunks_of (length (held_by p m))))) ∷ line 14 (ltb (get_or status m 0) 2) ∷ [])
+            five = four ∙ first_false 11 _ _ (not-true (eq-eqb (sender_at p m) b (sym from_is ∙ here)))
 
-            pub number-chunk : chunksOf (length (heldBy p m)) ≤ k → 11 ≡ first_of (sendLines p buffer status b m k space)
-            number-chunk h = sym (five ∙ first-true 11 _ _ (not-false (le-ltb k (chunksOf (length (heldBy p m))) h)))
+            pub number_chunk : chunks_of (length (held_by p m)) ≤ k → 11 ≡ first_of (send_lines p buffer status b m k space)
+            number_chunk h = sym (five ∙ first_true 11 _ _ (not-false (le-ltb k (chunks_of (length (held_by p m))) h)))
 
-            module _ (low : k < chunksOf (length (heldBy p m))) where
-              six : first_of (sendLines p buffer status b m k space) ≡ first_of (line 14 (ltb (get_or status m 0) 2) ∷ [])
-              six = five ∙ first-false 11 _ _ (not-true (lt-ltb k (chunksOf (length (heldBy p m))) low))
+            module _ (low : k < chunks_of (length (held_by p m))) where
+              six : first_of (send_lines p buffer status b m k space) ≡ first_of (line 14 (ltb (get_or status m 0) 2) ∷ [])
+              six = five ∙ first_false 11 _ _ (not-true (lt-ltb k (chunks_of (length (held_by p m))) low))
 
-              pub number-unposted : get_or status m 0 < 2 → 14 ≡ first_of (sendLines p buffer status b m k space)
-              number-unposted h = sym (six ∙ first-true 14 _ _ (lt-ltb (get_or status m 0) 2 h))
+              pub number_unposted : get_or status m 0 < 2 → 14 ≡ first_of (send_lines p buffer status b m k space)
+              number_unposted h = sym (six ∙ first_true 14 _ _ (lt-ltb (get_or status m 0) 2 h))
 
-              pub number-none : 2 ≤ get_or status m 0 → 0 ≡ first_of (sendLines p buffer status b m k space)
-              number-none h = sym (six ∙ first-false 14 _ _ (le-ltb (get_or status m 0) 2 h) ∙ first-nil)
+              pub number_none : 2 ≤ get_or status m 0 → 0 ≡ first_of (send_lines p buffer status b m k space)
+              number_none h = sym (six ∙ first_false 14 _ _ (le-ltb (get_or status m 0) 2 h) ∙ first_nil)
 
 -- what is known where no line is true
 pub record Sendable (p : Plan) (buffer : ℕ) (status : List ℕ) (b m k space : ℕ) : Type 0 where
-  pub buffer-long : buffer ≡ words p
-  pub space-long : space ≡ 1200
+  pub buffer_long : buffer ≡ words p
+  pub space_long : space ≡ 1200
   pub low : m < count p
-  pub here : senderAt p m ≡ b
-  pub chunk-low : k < chunksOf (length (heldBy p m))
+  pub here : sender_at p m ≡ b
+  pub chunk_low : k < chunks_of (length (held_by p m))
   pub posted : 2 ≤ get_or status m 0
 
-pub sendable : (p : Plan) (buffer : ℕ) (status : List ℕ) (b m k space : ℕ) → first_of (sendLines p buffer status b m k space) ≡ 0
+pub sendable : (p : Plan) (buffer : ℕ) (status : List ℕ) (b m k space : ℕ) → first_of (send_lines p buffer status b m k space) ≡ 0
     → Sendable p buffer status b m k space
 sendable p buffer status b m k space z =
     let a1 = none_first 9 _ _ (λ q. omega arith) z in
@@ -231,76 +231,76 @@ sendable p buffer status b m k space z =
     let a6 = none_first 11 _ _ (λ q. omega arith) a5.1 in
     let a7 = none_first 14 _ _ (λ q. omega arith) a6.1 in
     record {
-      buffer-long = eqb-true buffer (words p) (true-not a1.0);
-      space-long = eqb-true space 1200 (true-not a3.0);
-      low = ltb-true m (count p) (true-not a4.0);
-      here = eqb-true (senderAt p m) b (true-not a5.0);
-      chunk-low = ltb-true k (chunksOf (length (heldBy p m))) (true-not a6.0);
+      buffer_long = eqb-true buffer (words p) (true_not a1.0);
+      space_long = eqb-true space 1200 (true_not a3.0);
+      low = ltb-true m (count p) (true_not a4.0);
+      here = eqb-true (sender_at p m) b (true_not a5.0);
+      chunk_low = ltb-true k (chunks_of (length (held_by p m))) (true_not a6.0);
       posted = ltb-false (get_or status m 0) 2 a7.0;
     }
 
 -- ---- a message: past the recipe's lines
 
 module _ (p : Plan) (f n life : ℕ) (buffer status : List ℕ) (b m k : ℕ) (space : List ℕ) where
-  pub sent-no : (r : declared.Written) (j : ℕ) → (r.number ≡ j) × (r.length ≡ 0) → j ≡ first_of (sendLines p (length buffer) status b m k (length space))
-      → j ≢ 0 → answer r.number (letterOf r.length space) ≡ sentOr p f n life buffer status b m k space
-  sent-no r j is e h =
-      told-no r j (λ x. letterOf x space) is
-      ∙ answered-no j (letter (packetOf p f n life buffer m k) space) (letterOf 0 space) h
-      ∙ ap (λ (x : ℕ). answered x (letter (packetOf p f n life buffer m k) space) (letterOf 0 space)) e
+  pub sent_no : (r : declared.Written) (j : ℕ) → (r.number ≡ j) × (r.length ≡ 0) → j ≡ first_of (send_lines p (length buffer) status b m k (length space))
+      → j ≢ 0 → answer r.number (letter_of r.length space) ≡ sent_or p f n life buffer status b m k space
+  sent_no r j is e h =
+      told_no r j (λ x. letter_of x space) is
+      ∙ answered_no j (letter (packet_of p f n life buffer m k) space) (letter_of 0 space) h
+      ∙ ap (λ (x : ℕ). answered x (letter (packet_of p f n life buffer m k) space) (letter_of 0 space)) e
 
-  module _ (z : first_of (sendLines p (length buffer) status b m k (length space)) ≡ 0) (few : length (heldBy p m) ≤ 18240) where
+  module _ (z : first_of (send_lines p (length buffer) status b m k (length space)) ≡ 0) (few : length (held_by p m) ≤ 18240) where
     abbrev known : Sendable p (length buffer) status b m k (length space)
     known = sendable p (length buffer) status b m k (length space) z
 
-    pub place-long : length (place_of p buffer m) ≡ length (heldBy p m)
-    place-long =
-        part_length buffer (offset p.messages m) (length (heldBy p m))
-        (rw known.buffer-long (offset-apart p.messages m (count p) known.low known.low))
+    pub place_long : length (place_of p buffer m) ≡ length (held_by p m)
+    place_long =
+        part_length buffer (offset p.messages m) (length (held_by p m))
+        (rw known.buffer_long (offset_apart p.messages m (count p) known.low known.low))
 
-    pub sent-yes : (a : Answered Letter) → a ≡ packetCall (messageLabel p f n life m) (place_of p buffer m) k space
-        → a ≡ sentOr p f n life buffer status b m k space
-    unfolding packetCall packetOf
-    sent-yes a e =
+    pub sent_yes : (a : Answered Letter) → a ≡ packet_call (message_label p f n life m) (place_of p buffer m) k space
+        → a ≡ sent_or p f n life buffer status b m k space
+    unfolding packet_call packet_of
+    sent_yes a e =
         e
-        ∙ sym (answered-yes (first_of (packetLines (place_of p buffer m) k space)) new (letterOf 0 space)
-        (packet-lines (messageLabel p f n life m) (place_of p buffer m) k space known.space-long (omega (arith, place-long, few))
-        (rw place-long known.chunk-low)))
-        ∙ answered-yes (first_of (sendLines p (length buffer) status b m k (length space))) new (letterOf 0 space) z
+        ∙ sym (answered_yes (first_of (packet_lines (place_of p buffer m) k space)) new (letter_of 0 space)
+        (packet_lines_lem (message_label p f n life m) (place_of p buffer m) k space known.space_long (omega (arith, place_long, few))
+        (rw place_long known.chunk_low)))
+        ∙ answered_yes (first_of (send_lines p (length buffer) status b m k (length space))) new (letter_of 0 space) z
       where
         new : Letter
-        new = letter (itemPacket (messageLabel p f n life m) (place_of p buffer m) k) space
+        new = letter (item_packet (message_label p f n life m) (place_of p buffer m) k) space
 
 -- from the place and the line that were found
-pub sent-found : (r : Route) (x : Nest) (f n life : ℕ) (buffer : List ℕ) (i m k : ℕ) (space : List ℕ) (at : MessageSlot) → FoundIn r x i at → i ≡ m
+pub sent_found : (r : Route) (x : Nest) (f n life : ℕ) (buffer : List ℕ) (i m k : ℕ) (space : List ℕ) (at : MessageSlot) → FoundIn r x i at → i ≡ m
     → (l : MessageLine) → l ≡ line_of (plan_of r x) at.number → (a : Answered Letter)
-    → a ≡ packetCall (label f n life 1 l.from l.to m) (take (at.offset + at.words - at.offset) (drop at.offset buffer)) k space
-    → a ≡ packetCall (messageLabel (plan_of r x) f n life m) (place_of (plan_of r x) buffer m) k space
-sent-found r x f n life buffer i m k space at g e l is a q =
+    → a ≡ packet_call (label f n life 1 l.from l.to m) (take (at.offset + at.words - at.offset) (drop at.offset buffer)) k space
+    → a ≡ packet_call (message_label (plan_of r x) f n life m) (place_of (plan_of r x) buffer m) k space
+sent_found r x f n life buffer i m k space at g e l is a q =
     q
-    ∙ ap₂ (λ (y : MessageLine) (w : List ℕ). packetCall (label f n life 1 y.from y.to m) w k space)
+    ∙ ap₂ (λ (y : MessageLine) (w : List ℕ). packet_call (label f n life 1 y.from y.to m) w k space)
     (is ∙ ap (line_of (plan_of r x)) (g.number ∙ e))
-    (mid-is buffer at.offset at.words
-    ∙ ap₂ (λ (o w : ℕ). sublist buffer o w) (g.offset ∙ ap (offset (plan_of r x).messages) e) (g.words ∙ ap (λ (y : ℕ). length (heldBy (plan_of r x) y)) e))
+    (mid_is buffer at.offset at.words
+    ∙ ap₂ (λ (o w : ℕ). sublist buffer o w) (g.offset ∙ ap (offset (plan_of r x).messages) e) (g.words ∙ ap (λ (y : ℕ). length (held_by (plan_of r x) y)) e))
 
 -- ---- the call
 
 module _ (bytes : List ℕ) (route run life : ℕ) (buffer status : List ℕ) (b m k : ℕ) (space : List ℕ) where
-  pub send-read : (r : declared.Written) (j : ℕ) → (r.number ≡ j) × (r.length ≡ 0) → j ≡ first_of (linesFor (routeOf route) bytes) → j ≢ 0
-      → answer r.number (letterOf r.length space) ≡ sendCall bytes route run life buffer status b m k space
-  unfolding sendCall
-  send-read r j is e h =
-      told-no r j (λ x. letterOf x space) is
-      ∙ call-read (linesFor (routeOf route) bytes) (numbered-for (routeOf route) bytes) _ j _ (letterOf 0 space) e h
+  pub send_read : (r : declared.Written) (j : ℕ) → (r.number ≡ j) × (r.length ≡ 0) → j ≡ first_of (lines_for (route_of route) bytes) → j ≢ 0
+      → answer r.number (letter_of r.length space) ≡ send_call bytes route run life buffer status b m k space
+  unfolding send_call
+  send_read r j is e h =
+      told_no r j (λ x. letter_of x space) is
+      ∙ call_read (lines_for (route_of route) bytes) (numbered_for (route_of route) bytes) _ j _ (letter_of 0 space) e h
 
-  pub send-rest : (p : Plan) → Opened bytes route p → (f : ℕ) → f ≡ fingerprintOf bytes route
-      → sentOr p f run life buffer status b m k space ≡ sendCall bytes route run life buffer status b m k space
-  unfolding sendCall
-  send-rest p o f e =
-      ap (λ (x : ℕ). sentOr p x run life buffer status b m k space) e
-      ∙ ap (λ (x : ℕ). answered x (letter (packetOf p (fingerprintOf bytes route) run life buffer m k) space) (letterOf 0 space))
+  pub send_rest : (p : Plan) → Opened bytes route p → (f : ℕ) → f ≡ fingerprint_of bytes route
+      → sent_or p f run life buffer status b m k space ≡ send_call bytes route run life buffer status b m k space
+  unfolding send_call
+  send_rest p o f e =
+      ap (λ (x : ℕ). sent_or p x run life buffer status b m k space) e
+      ∙ ap (λ (x : ℕ). answered x (letter (packet_of p (fingerprint_of bytes route) run life buffer m k) space) (letter_of 0 space))
       (sym
-      (first-behind (linesFor (routeOf route) bytes) (sendLines p (length buffer) status b m k (length space)) (numbered-for (routeOf route) bytes) o.none))
+      (first_behind (lines_for (route_of route) bytes) (send_lines p (length buffer) status b m k (length space)) (numbered_for (route_of route) bytes) o.none))
       ∙ ap
-      (λ (q : Plan). answered (first_of (linesFor (routeOf route) bytes ++ sendLines q (length buffer) status b m k (length space)))
-      (letter (packetOf q (fingerprintOf bytes route) run life buffer m k) space) (letterOf 0 space)) o.is
+      (λ (q : Plan). answered (first_of (lines_for (route_of route) bytes ++ send_lines q (length buffer) status b m k (length space)))
+      (letter (packet_of q (fingerprint_of bytes route) run life buffer m k) space) (letter_of 0 space)) o.is

@@ -7,17 +7,17 @@ use Rattle.core.specs.Prelude.{ℕ, ◌*◌, Bool, List, [], ◌∷◌, ◌++◌
 use Rattle.base.specs.Tests.{◌and◌, not, pick, one}
 use Rattle.base.specs.Lists.{put}
 use Rattle.base.specs.Numbers.{Line, line, first_of}
-use Rattle.machine.specs.Plan.{Plan, count, words, heldBy, offset}
+use Rattle.machine.specs.Plan.{Plan, count, words, held_by, offset}
 use Rattle.machine.specs.Machine.{State, place_of, fit, Answered, answered}
-use Rattle.network.specs.Apart.{senderAt, takerAt, received}
-use Rattle.layout.specs.RouteWords.{routeOf}
-use Rattle.recipe.specs.Routes.{linesFor}
+use Rattle.network.specs.Apart.{sender_at, taker_at, received}
+use Rattle.layout.specs.RouteWords.{route_of}
+use Rattle.recipe.specs.Routes.{lines_for}
 use Rattle.engine.specs.Calls.{recipe, areas}
 use Rattle.packets.specs.declared.Header.{Header}
-use Rattle.packets.specs.Fingerprint.{fingerprintOf}
-use Rattle.packets.specs.Packet.{mostWords, packetLength, encodePacket, headerOf, words_of, decodeLines}
+use Rattle.packets.specs.Fingerprint.{fingerprint_of}
+use Rattle.packets.specs.Packet.{most_words, packet_length, encode_packet, header_of, words_of, decode_lines}
 use Rattle.packets.specs.Calls.{Read}
-use Rattle.packets.specs.Cut.{mostChunks, chunksOf, chunk_of, cut, Assembly, assembly, complete, fits, placed}
+use Rattle.packets.specs.Cut.{most_chunks, chunks_of, chunk_of, cut, Assembly, assembly, complete, fits, placed}
 use Rattle.wire.specs.declared.PacketLine.{PacketLine}
 
 -- ---- an item as packets
@@ -48,40 +48,40 @@ headed l k n =
       taker = l.taker;
       item = l.item;
       chunk = k;
-      chunks = chunksOf n;
+      chunks = chunks_of n;
     }
 
-unfoldable pub itemPacket : Label → List ℕ → ℕ → List ℕ
-itemPacket l ws k = encodePacket (headed l k (length ws)) (cut ws k).words
+unfoldable pub item_packet : Label → List ℕ → ℕ → List ℕ
+item_packet l ws k = encode_packet (headed l k (length ws)) (cut ws k).words
 
 -- a packet written into a space from its first byte on, and how many bytes it has; nothing is written, and 0 is told
 pub record Letter : Type 0 where
   pub long : ℕ
   pub space : List ℕ
 
-abbrev pub letterOf : ℕ → List ℕ → Letter
-letterOf n space = record { long = n; space = space }
+abbrev pub letter_of : ℕ → List ℕ → Letter
+letter_of n space = record { long = n; space = space }
 
 unfoldable pub letter : List ℕ → List ℕ → Letter
-letter packet space = letterOf (length packet) (packet ++ drop (length packet) space)
+letter packet space = letter_of (length packet) (packet ++ drop (length packet) space)
 
 -- bytes of the longest packet: the length of every space
-abbrev pub longestPacket : ℕ
-longestPacket = 1200
+abbrev pub longest_packet : ℕ
+longest_packet = 1200
 
 -- 9 a space of another length, 9 more than 64 chunks, 11 no such chunk
-abbrev pub packetLines : List ℕ → ℕ → List ℕ → List Line
-packetLines ws k space =
-    line 9 (not (length space == longestPacket))
-    ∷ line 9 (nat_lt (mostChunks * mostWords) (length ws))
-    ∷ line 11 (not (nat_lt k (chunksOf (length ws)))) ∷ []
+abbrev pub packet_lines : List ℕ → ℕ → List ℕ → List Line
+packet_lines ws k space =
+    line 9 (not (length space == longest_packet))
+    ∷ line 9 (nat_lt (most_chunks * most_words) (length ws))
+    ∷ line 11 (not (nat_lt k (chunks_of (length ws)))) ∷ []
 
-unfoldable pub packetCall : Label → List ℕ → ℕ → List ℕ → Answered Letter
-packetCall l ws k space = answered (first_of (packetLines ws k space)) (letter (itemPacket l ws k) space) (letterOf 0 space)
+unfoldable pub packet_call : Label → List ℕ → ℕ → List ℕ → Answered Letter
+packet_call l ws k space = answered (first_of (packet_lines ws k space)) (letter (item_packet l ws k) space) (letter_of 0 space)
 
--- what is told of a packet that was read: crates/packets/specs/Calls has `readCall`
-abbrev pub lineFrom : Read → PacketLine
-lineFrom r =
+-- what is told of a packet that was read: crates/packets/specs/Calls has `read_call`
+abbrev pub line_from : Read → PacketLine
+line_from r =
     record {
       number = r.number;
       kind = r.header.kind;
@@ -96,34 +96,34 @@ lineFrom r =
 
 -- ---- a message onto the wire: kind 1, and the processors of its tiles
 
-abbrev pub messageLabel : Plan → ℕ → ℕ → ℕ → ℕ → Label
-messageLabel p fingerprint run life m = label fingerprint run life 1 (senderAt p m) (takerAt p m) m
+abbrev pub message_label : Plan → ℕ → ℕ → ℕ → ℕ → Label
+message_label p fingerprint run life m = label fingerprint run life 1 (sender_at p m) (taker_at p m) m
 
-unfoldable pub packetOf : Plan → ℕ → ℕ → ℕ → List ℕ → ℕ → ℕ → List ℕ
-packetOf p fingerprint run life buffer m k = itemPacket (messageLabel p fingerprint run life m) (place_of p buffer m) k
+unfoldable pub packet_of : Plan → ℕ → ℕ → ℕ → List ℕ → ℕ → ℕ → List ℕ
+packet_of p fingerprint run life buffer m k = item_packet (message_label p fingerprint run life m) (place_of p buffer m) k
 
 -- of buffer and space the lengths: 9 another length; 11 no such message, not one that processor b sends, no such chunk of it; 14 it is not posted here, so
 -- that there is nothing to be posted again
-abbrev pub sendLines : Plan → ℕ → List ℕ → ℕ → ℕ → ℕ → ℕ → List Line
-sendLines p buffer status b m k space =
+abbrev pub send_lines : Plan → ℕ → List ℕ → ℕ → ℕ → ℕ → ℕ → List Line
+send_lines p buffer status b m k space =
     line 9 (not (buffer == words p))
     ∷ line 9 (not (length status == count p))
-    ∷ line 9 (not (space == longestPacket))
+    ∷ line 9 (not (space == longest_packet))
     ∷ line 11 (not (nat_lt m (count p)))
-    ∷ line 11 (not (senderAt p m == b))
-    ∷ line 11 (not (nat_lt k (chunksOf (length (heldBy p m)))))
+    ∷ line 11 (not (sender_at p m == b))
+    ∷ line 11 (not (nat_lt k (chunks_of (length (held_by p m)))))
     ∷ line 14 (nat_lt (slice_index status m) 2) ∷ []
 
 -- past the recipe's lines
-abbrev pub sentOr : Plan → ℕ → ℕ → ℕ → List ℕ → List ℕ → ℕ → ℕ → ℕ → List ℕ → Answered Letter
-sentOr p fingerprint run life buffer status b m k space =
-    answered (first_of (sendLines p (length buffer) status b m k (length space))) (letter (packetOf p fingerprint run life buffer m k) space)
-    (letterOf 0 space)
+abbrev pub sent_or : Plan → ℕ → ℕ → ℕ → List ℕ → List ℕ → ℕ → ℕ → ℕ → List ℕ → Answered Letter
+sent_or p fingerprint run life buffer status b m k space =
+    answered (first_of (send_lines p (length buffer) status b m k (length space))) (letter (packet_of p fingerprint run life buffer m k) space)
+    (letter_of 0 space)
 
-unfoldable pub sendCall : List ℕ → ℕ → ℕ → ℕ → List ℕ → List ℕ → ℕ → ℕ → ℕ → List ℕ → Answered Letter
-sendCall bytes route run life buffer status b m k space =
-    answered (first_of (linesFor (routeOf route) bytes ++ sendLines (recipe bytes route) (length buffer) status b m k (length space)))
-    (letter (packetOf (recipe bytes route) (fingerprintOf bytes route) run life buffer m k) space) (letterOf 0 space)
+unfoldable pub send_call : List ℕ → ℕ → ℕ → ℕ → List ℕ → List ℕ → ℕ → ℕ → ℕ → List ℕ → Answered Letter
+send_call bytes route run life buffer status b m k space =
+    answered (first_of (lines_for (route_of route) bytes ++ send_lines (recipe bytes route) (length buffer) status b m k (length space)))
+    (letter (packet_of (recipe bytes route) (fingerprint_of bytes route) run life buffer m k) space) (letter_of 0 space)
 
 -- ---- a message from the wire: bytes as they came, at its taker's, whose own areas are lent with what came so far
 
@@ -132,29 +132,29 @@ pub record Inbox : Type 0 where
   pub parts : List ℕ
   pub masks : List ℕ
 
-abbrev pub inboxOf : List ℕ → List ℕ → Inbox
-inboxOf parts masks = record { parts = parts; masks = masks }
+abbrev pub inbox_of : List ℕ → List ℕ → Inbox
+inbox_of parts masks = record { parts = parts; masks = masks }
 
 -- of message m; and it is now a
-unfoldable pub cameOf : Plan → Inbox → ℕ → Assembly
-cameOf p i m = assembly (place_of p i.parts m) (slice_index i.masks m)
+unfoldable pub came_of : Plan → Inbox → ℕ → Assembly
+came_of p i m = assembly (place_of p i.parts m) (slice_index i.masks m)
 
-abbrev pub withCame : Plan → Inbox → ℕ → Assembly → Inbox
-withCame p i m a = inboxOf (put i.parts (offset p.messages m) a.area) (slice_set i.masks m a.mask)
+abbrev pub with_came : Plan → Inbox → ℕ → Assembly → Inbox
+with_came p i m a = inbox_of (put i.parts (offset p.messages m) a.area) (slice_set i.masks m a.mask)
 
-unfoldable pub inboxFits : Plan → Inbox → Bool
-inboxFits p i = nat_eq (length i.parts) (words p) and nat_eq (length i.masks) (count p)
+unfoldable pub inbox_fits : Plan → Inbox → Bool
+inbox_fits p i = nat_eq (length i.parts) (words p) and nat_eq (length i.masks) (count p)
 
 -- 11 another kind, no such message, another sender or taker than the message's, a message that processor b does not take, no such chunk of it;
 -- 14 it came before
-abbrev pub addressLines : Plan → List ℕ → ℕ → Header → List ℕ → List Line
-addressLines p status b h ws =
+abbrev pub address_lines : Plan → List ℕ → ℕ → Header → List ℕ → List Line
+address_lines p status b h ws =
     line 11 (not (h.kind == 1))
     ∷ line 11 (not (nat_lt h.item (count p)))
-    ∷ line 11 (not (h.sender == senderAt p h.item))
-    ∷ line 11 (not (h.taker == takerAt p h.item))
-    ∷ line 11 (not (takerAt p h.item == b))
-    ∷ line 11 (not (fits (length (heldBy p h.item)) (chunk_of h.chunk h.chunks ws)))
+    ∷ line 11 (not (h.sender == sender_at p h.item))
+    ∷ line 11 (not (h.taker == taker_at p h.item))
+    ∷ line 11 (not (taker_at p h.item == b))
+    ∷ line 11 (not (fits (length (held_by p h.item)) (chunk_of h.chunk h.chunks ws)))
     ∷ line 14 (not (slice_index status h.item == 0)) ∷ []
 
 -- whether a message is whole now (1), and which; what came so far, and the areas
@@ -164,30 +164,30 @@ pub record Received : Type 0 where
   pub inbox : Inbox
   pub state : State
 
-abbrev pub receivedAs : ℕ → ℕ → Inbox → State → Received
-receivedAs w m i s = record { whole = w; message = m; inbox = i; state = s }
+abbrev pub received_as : ℕ → ℕ → Inbox → State → Received
+received_as w m i s = record { whole = w; message = m; inbox = i; state = s }
 
 -- message m, of which `a` is there now, and which so is whole or not
-unfoldable pub cameNow : Plan → State → Inbox → ℕ → Assembly → Bool → Received
-cameNow p s i m a w = receivedAs (one w) m (withCame p i m a) (pick w (received p s m a.area) s)
+unfoldable pub came_now : Plan → State → Inbox → ℕ → Assembly → Bool → Received
+came_now p s i m a w = received_as (one w) m (with_came p i m a) (pick w (received p s m a.area) s)
 
 -- the chunk that a packet brings is put to what came of its message
-abbrev pub cameWith : Plan → Inbox → Header → List ℕ → Assembly
-cameWith p i h ws = placed h.chunk ws (cameOf p i h.item)
+abbrev pub came_with : Plan → Inbox → Header → List ℕ → Assembly
+came_with p i h ws = placed h.chunk ws (came_of p i h.item)
 
-unfoldable pub takenPacket : Plan → State → Inbox → Header → List ℕ → Received
-takenPacket p s i h ws = cameNow p s i h.item (cameWith p i h ws) (complete h.chunks (cameWith p i h ws).mask)
+unfoldable pub taken_packet : Plan → State → Inbox → Header → List ℕ → Received
+taken_packet p s i h ws = came_now p s i h.item (came_with p i h ws) (complete h.chunks (came_with p i h ws).mask)
 
 -- the recipe's lines; 26 damaged, 27 of another recipe, route or run; 9 and 10 the areas; then those of the packet
-abbrev pub receiveLines : List ℕ → ℕ → ℕ → List ℕ → State → ℕ → List ℕ → Inbox → List Line
-receiveLines bytes route run source s b q i =
-    linesFor (routeOf route) bytes
-    ++ (decodeLines (fingerprintOf bytes route) run q
-    ++ (line 9 (not (inboxFits (recipe bytes route) i))
+abbrev pub receive_lines : List ℕ → ℕ → ℕ → List ℕ → State → ℕ → List ℕ → Inbox → List Line
+receive_lines bytes route run source s b q i =
+    lines_for (route_of route) bytes
+    ++ (decode_lines (fingerprint_of bytes route) run q
+    ++ (line 9 (not (inbox_fits (recipe bytes route) i))
     ∷ line 9 (not (areas (recipe bytes route) source s))
     ∷ line 10 (not (fit (recipe bytes route) s))
-    ∷ addressLines (recipe bytes route) s.status b (headerOf q) (words_of q)))
+    ∷ address_lines (recipe bytes route) s.status b (header_of q) (words_of q)))
 
-unfoldable pub receiveCall : List ℕ → ℕ → ℕ → List ℕ → State → ℕ → List ℕ → Inbox → Answered Received
-receiveCall bytes route run source s b q i =
-    answered (first_of (receiveLines bytes route run source s b q i)) (takenPacket (recipe bytes route) s i (headerOf q) (words_of q)) (receivedAs 0 0 i s)
+unfoldable pub receive_call : List ℕ → ℕ → ℕ → List ℕ → State → ℕ → List ℕ → Inbox → Answered Received
+receive_call bytes route run source s b q i =
+    answered (first_of (receive_lines bytes route run source s b q i)) (taken_packet (recipe bytes route) s i (header_of q) (words_of q)) (received_as 0 0 i s)

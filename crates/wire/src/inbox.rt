@@ -9,9 +9,9 @@ ghost use Rattle.plan.specs.Shaped.{plan_of};
 ghost use Rattle.records.specs.Records.{Flattens};
 ghost use Rattle.engine.specs.Calls.{answer};
 ghost use Rattle.tables.specs.Tables.{Planned};
-ghost use Rattle.packets.specs.Fingerprint.{fingerprintOf};
-ghost use Rattle.wire.specs.Wire.{inboxOf, receivedAs, addressLines, receiveCall};
-ghost use Rattle.wire.specs.Given.{OpenedAs, MayReceive, takenOr};
+ghost use Rattle.packets.specs.Fingerprint.{fingerprint_of};
+ghost use Rattle.wire.specs.Wire.{inbox_of, received_as, address_lines, receive_call};
+ghost use Rattle.wire.specs.Given.{OpenedAs, MayReceive, taken_or};
 
 use crate::MESSAGE;
 use base::{refusals, word_index};
@@ -46,7 +46,7 @@ fn refusal(number: u32) -> Received
 // What bytes are for this recipe, route and run.
 fn open_packet(encoded: &[u8], route: u32, run: u64, packet: &[u8], words: &mut [u32]) -> Reading
     requires { length words.old ≡ 285 }
-    ensures { OpenedAs (fingerprintOf encoded.now route) run packet.now result words.new }
+    ensures { OpenedAs (fingerprint_of encoded.now route) run packet.now result words.new }
 {
     let fingerprint = packets::fingerprint(encoded, route);
     packets::read(fingerprint, run, packet, words)
@@ -81,7 +81,7 @@ fn misdirected(
     words: &[u32],
 ) -> u32
     requires { Planned nest sizes lens.now × (length status.now ≡ count (plan_of sizes.route nest)) }
-    ensures { result ≡ first_of (addressLines (plan_of sizes.route nest) status.now processor header words.now) }
+    ensures { result ≡ first_of (address_lines (plan_of sizes.route nest) status.now processor header words.now) }
 {
     if header.kind != MESSAGE {
         return refusals::NO_SUCH;
@@ -123,12 +123,12 @@ fn take_packet(
     parts: &mut [u32],
     masks: &mut [u64],
 ) -> Received
-    requires { Planned nest sizes lens.now × MayReceive (plan_of sizes.route nest) buffer.old status.old (inboxOf parts.old masks.old) }
+    requires { Planned nest sizes lens.now × MayReceive (plan_of sizes.route nest) buffer.old status.old (inbox_of parts.old masks.old) }
     ensures { (memories records : List ℕ)
-        → answer result.number (receivedAs result.whole result.message (inboxOf parts.new masks.new)
+        → answer result.number (received_as result.whole result.message (inbox_of parts.new masks.new)
         (state_of memories buffer.new records status.new))
-        ≡ takenOr (plan_of sizes.route nest) (state_of memories buffer.old records status.old) processor header words.now
-        (inboxOf parts.old masks.old) }
+        ≡ taken_or (plan_of sizes.route nest) (state_of memories buffer.old records status.old) processor header words.now
+        (inbox_of parts.old masks.old) }
 {
     let number = misdirected(nest, sizes, lens, status, processor, header, words);
     if number != 0 {
@@ -187,11 +187,11 @@ pub fn receive(
 ) -> Received
     requires { length progress.words ≡ 192 }
     ensures { (records : List ℕ) → Flattens progress records
-        → answer result.number (receivedAs result.whole result.message (inboxOf parts.new masks.new)
+        → answer result.number (received_as result.whole result.message (inbox_of parts.new masks.new)
         (state_of memories.now buffer.new records status.new))
-        ≡ receiveCall encoded.now route run source.now
+        ≡ receive_call encoded.now route run source.now
         (state_of memories.now buffer.old records status.old) processor packet.now
-        (inboxOf parts.old masks.old) }
+        (inbox_of parts.old masks.old) }
 {
     let opening = with_sizes(encoded, route);
     let number = opening.number;

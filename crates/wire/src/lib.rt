@@ -6,9 +6,9 @@ ghost use Rattle.machine.specs.Plan.{words};
 ghost use Rattle.plan.specs.Shaped.{plan_of};
 ghost use Rattle.engine.specs.Calls.{answer};
 ghost use Rattle.tables.specs.Tables.{Planned};
-ghost use Rattle.packets.specs.Packet.{encodePacket};
-ghost use Rattle.packets.specs.Calls.{readCall};
-ghost use Rattle.wire.specs.Wire.{label, letter, letterOf, packetCall, lineFrom, sendLines, sentOr, sendCall};
+ghost use Rattle.packets.specs.Packet.{encode_packet};
+ghost use Rattle.packets.specs.Calls.{read_call};
+ghost use Rattle.wire.specs.Wire.{label, letter, letter_of, packet_call, line_from, send_lines, sent_or, send_call};
 
 pub mod inbox; // inbox.rt: bytes as they came, at a message's taker's
 
@@ -57,7 +57,7 @@ fn unwritten(number: u32) -> Written
 // A packet into the first bytes of a space that is long enough for every packet.
 fn put_packet(header: Header, words: &[u32], space: &mut [u8]) -> u32
     requires { (length words.now ≤ 285) × (length space.old ≡ 1200) }
-    ensures { letterOf result space.new ≡ letter (encodePacket header words.now) space.old }
+    ensures { letter_of result space.new ≡ letter (encode_packet header words.now) space.old }
 {
     let end = 60 + 4 * words.len();
     packets::write(header, words, &mut space[0..end]);
@@ -77,8 +77,8 @@ pub fn packet(
     words: &[u32],
     space: &mut [u8],
 ) -> Written
-    ensures { answer result.number (letterOf result.length space.new)
-        ≡ packetCall (label fingerprint run life kind sender taker item) words.now chunk space.old }
+    ensures { answer result.number (letter_of result.length space.new)
+        ≡ packet_call (label fingerprint run life kind sender taker item) words.now chunk space.old }
 {
     if space.len() != LONGEST {
         return unwritten(9);
@@ -114,8 +114,8 @@ pub fn packet(
 
 // What bytes say that came, whatever they are; their words are written at 0 alone.
 pub fn packet_read(fingerprint: u64, run: u64, packet: &[u8], words: &mut [u32]) -> PacketLine
-    ensures { (result ≡ lineFrom (readCall fingerprint run packet.now words.old))
-        × (words.new ≡ (readCall fingerprint run packet.now words.old).words) }
+    ensures { (result ≡ line_from (read_call fingerprint run packet.now words.old))
+        × (words.new ≡ (read_call fingerprint run packet.now words.old).words) }
 {
     let reading = packets::read(fingerprint, run, packet, words);
     let header = reading.header;
@@ -147,7 +147,7 @@ fn unsendable(
     space: usize,
 ) -> u32
     requires { Planned nest sizes lens.now }
-    ensures { result ≡ first_of (sendLines (plan_of sizes.route nest) buffer status.now processor message chunk space) }
+    ensures { result ≡ first_of (send_lines (plan_of sizes.route nest) buffer status.now processor message chunk space) }
 {
     let t = totals(nest, sizes, lens);
     if buffer != t.words {
@@ -193,8 +193,8 @@ fn send_message(
     space: &mut [u8],
 ) -> Written
     requires { Planned nest sizes lens.now }
-    ensures { answer result.number (letterOf result.length space.new)
-        ≡ sentOr (plan_of sizes.route nest) fingerprint run life buffer.now status.now processor message chunk
+    ensures { answer result.number (letter_of result.length space.new)
+        ≡ sent_or (plan_of sizes.route nest) fingerprint run life buffer.now status.now processor message chunk
         space.old }
 {
     let number = unsendable(
@@ -243,8 +243,8 @@ pub fn send(
     chunk: u32,
     space: &mut [u8],
 ) -> Written
-    ensures { answer result.number (letterOf result.length space.new)
-        ≡ sendCall encoded.now route run life buffer.now status.now processor message chunk space.old }
+    ensures { answer result.number (letter_of result.length space.new)
+        ≡ send_call encoded.now route run life buffer.now status.now processor message chunk space.old }
 {
     let mut lens = [0u16; TABLE_WORDS];
     let opening = open(encoded, route, &mut lens);

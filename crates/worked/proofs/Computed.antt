@@ -6,27 +6,27 @@ use lib.ListN.{replicate}
 use Rattle.base.specs.Tests.{◌and◌, ◌or◌, not, pick, every, some, keep, those, tabulate, sum, product}
 use Rattle.base.specs.Numbers.{first_of}
 use Rattle.base.proofs.Lists.{small, small_bytes}
-use Rattle.machine.specs.Plan.{Plan, offset, count, heldBy}
-use Rattle.machine.specs.Machine.{sweep, sweepTo}
+use Rattle.machine.specs.Plan.{Plan, offset, count, held_by}
+use Rattle.machine.specs.Machine.{sweep, sweep_to}
 use Rattle.nest.specs.declared.Nest.{Nest}
-use Rattle.nest.specs.Nest.{tileCount, cells, processors, boxTiles}
-use Rattle.nest.specs.Reader.{ofKind, filled, nestBy, nestOf, ragged, blank, checked, mayStand, fitsAt, wellFormed, strayRecord, noLength, badLength}
-use Rattle.nest.specs.Reader.{tooLarge, needlesslyWide, same, beyond, faulty, badDistance, reached, badTile, badSpread, lastSpread, badProcessors}
-use Rattle.nest.specs.Reader.{tooManyTiles, nestLines, readLines}
-use Rattle.nest.specs.Places.{rank, place, cell_at, cellPlace, tileAt, tilePlace, boxTileOf}
-use Rattle.plan.specs.Geometry.{cells_of, processorOf, inside, hasRead, readAt, reads_of, value}
+use Rattle.nest.specs.Nest.{tile_count, cells, processors, box_tiles}
+use Rattle.nest.specs.Reader.{of_kind, filled, nest_by, nest_of, ragged, blank, checked, may_stand, fits_at, well_formed, stray_record, no_length, bad_length}
+use Rattle.nest.specs.Reader.{too_large, needlessly_wide, same, beyond, faulty, bad_distance, reached, bad_tile, bad_spread, last_spread, bad_processors}
+use Rattle.nest.specs.Reader.{too_many_tiles, nest_lines, read_lines}
+use Rattle.nest.specs.Places.{rank, place, cell_at, cell_place, tile_at, tile_place, box_tile_of}
+use Rattle.plan.specs.Geometry.{cells_of, processor_of, inside, has_read, read_at, reads_of, value}
 use Rattle.plan.specs.declared.Route.TheVariants.{Direct}
-use Rattle.plan.specs.Messages.{directions, ahead, reaches, crosses, parcel, taker, slotCells, slotTaker, at_home, slotParcel, messagesTo, boxPlan}
+use Rattle.plan.specs.Messages.{directions, ahead, reaches, crosses, parcel, taker, slot_cells, slot_taker, at_home, slot_parcel, messages_to, box_plan}
 use Rattle.plan.specs.Shaped.{plan_of}
-use Rattle.conformance.specs.Examples.{accepted, figures, figuresIf, messageLine, linesTo, lines_of}
+use Rattle.conformance.specs.Examples.{accepted, figures, figures_if, message_line, lines_to, lines_of}
 use Rattle.nest.proofs.Quick.{quick}
-use Rattle.plan.proofs.ShapedBox.{recipe-box}
+use Rattle.plan.proofs.ShapedBox.{recipe_box}
 use Rattle.engine.proofs.Demands.{demands}
 use Rattle.worked.specs.Harbour.{harbour, depths, Expected, Agrees}
 
-number_is : first_of (readLines harbour) ≡ 0
-unfolding first_of nestOf nestBy ofKind filled ragged blank checked mayStand fitsAt wellFormed strayRecord noLength badLength tooLarge needlesslyWide same
-    beyond faulty badDistance reached badTile badSpread lastSpread badProcessors tooManyTiles tileCount cells boxTiles processors ◌and◌ ◌or◌ not pick every
+number_is : first_of (read_lines harbour) ≡ 0
+unfolding first_of nest_of nest_by of_kind filled ragged blank checked may_stand fits_at well_formed stray_record no_length bad_length too_large needlessly_wide same
+    beyond faulty bad_distance reached bad_tile bad_spread last_spread bad_processors too_many_tiles tile_count cells box_tiles processors ◌and◌ ◌or◌ not pick every
     some keep those tabulate product
 number_is = quick harbour ∙ refl
 
@@ -52,49 +52,49 @@ nest =
       boundary = 7;
     }
 
-nest-is : nestOf harbour ≡ nest
-unfolding ofKind filled nestBy nestOf pick keep those tabulate
-nest-is = refl
+nest_is : nest_of harbour ≡ nest
+unfolding of_kind filled nest_by nest_of pick keep those tabulate
+nest_is = refl
 
-plan-is : figuresIf 0 (boxPlan Direct nest) ≡ accepted 6 3 5 18
-unfolding figuresIf offset processorOf ◌and◌ ◌or◌ pick every some keep product tileCount cells boxTiles rank place cell_at cellPlace tileAt tilePlace
-    boxTileOf inside directions ahead reaches crosses parcel taker slotCells slotTaker at_home slotParcel messagesTo
-plan-is = refl
+plan_is : figures_if 0 (box_plan Direct nest) ≡ accepted 6 3 5 18
+unfolding figures_if offset processor_of ◌and◌ ◌or◌ pick every some keep product tile_count cells box_tiles rank place cell_at cell_place tile_at tile_place
+    box_tile_of inside directions ahead reaches crosses parcel taker slot_cells slot_taker at_home slot_parcel messages_to
+plan_is = refl
 
-lines_are : linesTo (boxPlan Direct nest) (count (boxPlan Direct nest)) ≡ (0 ∷ 0 ∷ 3 ∷ 0 ∷ 1 ∷ 2 ∷ []) ∷ (1 ∷ 1 ∷ 4 ∷ 0 ∷ 1 ∷ 2 ∷ []) ∷ (2 ∷ 2 ∷ 5 ∷ 0 ∷ 1 ∷ 1 ∷ []) ∷ []
-unfolding linesTo messageLine processorOf ◌and◌ ◌or◌ pick every some keep product tileCount cells boxTiles rank place cell_at cellPlace tileAt tilePlace
-    boxTileOf inside directions ahead reaches crosses parcel taker slotCells slotTaker at_home slotParcel messagesTo
+lines_are : lines_to (box_plan Direct nest) (count (box_plan Direct nest)) ≡ (0 ∷ 0 ∷ 3 ∷ 0 ∷ 1 ∷ 2 ∷ []) ∷ (1 ∷ 1 ∷ 4 ∷ 0 ∷ 1 ∷ 2 ∷ []) ∷ (2 ∷ 2 ∷ 5 ∷ 0 ∷ 1 ∷ 1 ∷ []) ∷ []
+unfolding lines_to message_line processor_of ◌and◌ ◌or◌ pick every some keep product tile_count cells box_tiles rank place cell_at cell_place tile_at tile_place
+    box_tile_of inside directions ahead reaches crosses parcel taker slot_cells slot_taker at_home slot_parcel messages_to
 lines_are = refl
 
-cells_are : heldBy (boxPlan Direct nest) 1 ≡ 12 ∷ 13 ∷ []
-unfolding processorOf ◌and◌ ◌or◌ pick every some keep product tileCount cells boxTiles rank place cell_at cellPlace tileAt tilePlace boxTileOf inside
-    directions ahead reaches crosses parcel taker slotCells slotTaker at_home slotParcel messagesTo
+cells_are : held_by (box_plan Direct nest) 1 ≡ 12 ∷ 13 ∷ []
+unfolding processor_of ◌and◌ ◌or◌ pick every some keep product tile_count cells box_tiles rank place cell_at cell_place tile_at tile_place box_tile_of inside
+    directions ahead reaches crosses parcel taker slot_cells slot_taker at_home slot_parcel messages_to
 cells_are = refl
 
-grid-is : sweep (boxPlan Direct nest) depths
+grid_is : sweep (box_plan Direct nest) depths
     ≡ 35 ∷ 49 ∷ 57 ∷ 61 ∷ 63 ∷ 57 ∷ 100 ∷ 131 ∷ 152 ∷ 165 ∷ 75 ∷ 154 ∷ 228 ∷ 289 ∷ 334 ∷ 90 ∷ 208 ∷ 342 ∷ 474 ∷ 589 ∷ 102 ∷ 259 ∷ 468 ∷ 705 ∷ 943 ∷ 113 ∷ 307 ∷ 601 ∷ 978 ∷ 1404 ∷ []
-unfolding sweepTo cells product value hasRead readAt cell_at cellPlace place rank every sum ◌and◌ pick tabulate
-grid-is = refl
+unfolding sweep_to cells product value has_read read_at cell_at cell_place place rank every sum ◌and◌ pick tabulate
+grid_is = refl
 
-harbour-small : small harbour ≡ true
+harbour_small : small harbour ≡ true
 unfolding small ◌and◌
-harbour-small = refl
+harbour_small = refl
 
 -- the recipe has no bounds: its plan is the box's
-plan-box : plan_of Direct (nestOf harbour) ≡ boxPlan Direct nest
-plan-box = recipe-box harbour nest harbour-small number_is nest-is refl
+plan_box : plan_of Direct (nest_of harbour) ≡ box_plan Direct nest
+plan_box = recipe_box harbour nest harbour_small number_is nest_is refl
 
 pub expected : Expected
 unfolding figures
 expected =
     record {
       number = number_is;
-      plan = rw (number_is, nest-is) plan-is;
-      lines = rw nest-is lines_are;
-      cells = ap (λ (p : Plan). heldBy p 1) plan-box ∙ cells_are;
-      grid = ap (λ (p : Plan). sweep p depths) plan-box ∙ grid-is;
+      plan = rw (number_is, nest_is) plan_is;
+      lines = rw nest_is lines_are;
+      cells = ap (λ (p : Plan). held_by p 1) plan_box ∙ cells_are;
+      grid = ap (λ (p : Plan). sweep p depths) plan_box ∙ grid_is;
     }
 
 pub agrees : Agrees
 unfolding Agrees
-agrees route source s z events = demands.three harbour route source s (small_bytes harbour harbour-small) z events
+agrees route source s z events = demands.three harbour route source s (small_bytes harbour harbour_small) z events

@@ -9,10 +9,10 @@ use native.Mathlib.Nat.{eq-or-lt_of_le, le_of_suc-le-suc}
 use lib.ListN.{length, get_or, length-append, get_or-append}
 use lib.Seq.{get_or-append-add}
 use Rattle.base.specs.Tests.{pick}
-use Rattle.base.proofs.Tests.{pick_true, pick-false}
+use Rattle.base.proofs.Tests.{pick_true, pick_false}
 use Rattle.nest.specs.declared.Nest.{Nest}
 use Rattle.nest.specs.Nest.{component, weight}
-use Rattle.nest.specs.Encode.{dimensionRecord, narrowRecord, wideRecord, boundRecord, closeRecord, dimensionOf, boundOf, narrow, distance_of, joined, encode}
+use Rattle.nest.specs.Encode.{dimension_record, narrow_record, wide_record, bound_record, close_record, dimension_of, bound_of, narrow, distance_of, joined, encode}
 
 module _ (f : ℕ → List ℕ) (sixteen : (r : ℕ) → length (f r) ≡ 16) where
   pub joined_length : (n : ℕ) → length (joined f n) ≡ 16 * n
@@ -30,93 +30,93 @@ module _ (f : ℕ → List ℕ) (sixteen : (r : ℕ) → length (f r) ≡ 16) wh
       go ih (inr k) = get_or-append (joined f n) (f n) 0 (16 * r + i) (rw (joined_length n) (omega arith)) ∙ ih k
 
 module _ (x : Nest) where
-  dimension-long : (j : ℕ) → length (dimensionOf x j) ≡ 16
-  unfolding dimensionOf dimensionRecord
-  dimension-long j = refl
+  dimension_long : (j : ℕ) → length (dimension_of x j) ≡ 16
+  unfolding dimension_of dimension_record
+  dimension_long j = refl
 
-  bound-long : (k : ℕ) → length (boundOf x k) ≡ 16
-  unfolding boundOf boundRecord
-  bound-long k = refl
+  bound_long : (k : ℕ) → length (bound_of x k) ≡ 16
+  unfolding bound_of bound_record
+  bound_long k = refl
 
   -- a distance's record by its width
   abbrev narrowOf : ℕ → List ℕ
-  narrowOf e = narrowRecord (component x e 0) (component x e 1) (component x e 2) (component x e 3) (weight x e)
+  narrowOf e = narrow_record (component x e 0) (component x e 1) (component x e 2) (component x e 3) (weight x e)
 
   abbrev wide_of : ℕ → List ℕ
-  wide_of e = wideRecord (component x e 0) (component x e 1) (component x e 2) (component x e 3) (weight x e)
+  wide_of e = wide_record (component x e 0) (component x e 1) (component x e 2) (component x e 3) (weight x e)
 
-  pub spelled-narrow : (e : ℕ) → narrow x e ≡ true → distance_of x e ≡ narrowOf e
+  pub spelled_narrow : (e : ℕ) → narrow x e ≡ true → distance_of x e ≡ narrowOf e
   unfolding distance_of
-  spelled-narrow e h = pick_true (narrow x e) (narrowOf e) (wide_of e) h
+  spelled_narrow e h = pick_true (narrow x e) (narrowOf e) (wide_of e) h
 
-  pub spelled-wide : (e : ℕ) → narrow x e ≡ false → distance_of x e ≡ wide_of e
+  pub spelled_wide : (e : ℕ) → narrow x e ≡ false → distance_of x e ≡ wide_of e
   unfolding distance_of
-  spelled-wide e h = pick-false (narrow x e) (narrowOf e) (wide_of e) h
+  spelled_wide e h = pick_false (narrow x e) (narrowOf e) (wide_of e) h
 
-  distance-long : (e : ℕ) → length (distance_of x e) ≡ 16
-  unfolding narrowRecord wideRecord
-  distance-long e = go (narrow x e) refl
+  distance_long : (e : ℕ) → length (distance_of x e) ≡ 16
+  unfolding narrow_record wide_record
+  distance_long e = go (narrow x e) refl
     where
       go : (t : Bool) → narrow x e ≡ t → length (distance_of x e) ≡ 16
-      go true h = ap length (spelled-narrow e h)
-      go false h = ap length (spelled-wide e h)
+      go true h = ap length (spelled_narrow e h)
+      go false h = ap length (spelled_wide e h)
 
-  close-long : length (closeRecord x.shift x.boundary) ≡ 16
-  unfolding closeRecord
-  close-long = refl
+  close_long : length (close_record x.shift x.boundary) ≡ 16
+  unfolding close_record
+  close_long = refl
 
-  dimensions-long : length (joined (dimensionOf x) x.dimensions) ≡ 16 * x.dimensions
-  dimensions-long = joined_length (dimensionOf x) dimension-long x.dimensions
+  dimensions_long : length (joined (dimension_of x) x.dimensions) ≡ 16 * x.dimensions
+  dimensions_long = joined_length (dimension_of x) dimension_long x.dimensions
 
-  bounds-long : length (joined (boundOf x) x.bounds) ≡ 16 * x.bounds
-  bounds-long = joined_length (boundOf x) bound-long x.bounds
+  bounds_long : length (joined (bound_of x) x.bounds) ≡ 16 * x.bounds
+  bounds_long = joined_length (bound_of x) bound_long x.bounds
 
-  distances-long : length (joined (distance_of x) x.distances) ≡ 16 * x.distances
-  distances-long = joined_length (distance_of x) distance-long x.distances
+  distances_long : length (joined (distance_of x) x.distances) ≡ 16 * x.distances
+  distances_long = joined_length (distance_of x) distance_long x.distances
 
-  pub encode-length : length (encode x) ≡ 16 * (x.dimensions + x.bounds + x.distances + 1)
+  pub encode_length : length (encode x) ≡ 16 * (x.dimensions + x.bounds + x.distances + 1)
   unfolding encode
-  encode-length = simp length-append (omega (arith, dimensions-long, bounds-long, distances-long, close-long))
+  encode_length = simp length-append (omega (arith, dimensions_long, bounds_long, distances_long, close_long))
 
-  pub at-dimension : (j i : ℕ) → j < x.dimensions → i < 16 → get_or (encode x) (16 * j + i) 0 ≡ get_or (dimensionOf x j) i 0
+  pub at_dimension : (j i : ℕ) → j < x.dimensions → i < 16 → get_or (encode x) (16 * j + i) 0 ≡ get_or (dimension_of x j) i 0
   unfolding encode
-  at-dimension j i h l =
-      get_or-append (joined (dimensionOf x) x.dimensions) _ 0 (16 * j + i) (rw dimensions-long (omega arith))
-      ∙ joined_at (dimensionOf x) dimension-long x.dimensions j i h l
+  at_dimension j i h l =
+      get_or-append (joined (dimension_of x) x.dimensions) _ 0 (16 * j + i) (rw dimensions_long (omega arith))
+      ∙ joined_at (dimension_of x) dimension_long x.dimensions j i h l
 
   abbrev tail : List ℕ
-  tail = joined (distance_of x) x.distances ++ closeRecord x.shift x.boundary
+  tail = joined (distance_of x) x.distances ++ close_record x.shift x.boundary
 
   -- behind the dimensions, and behind the bounds
-  behind : (k : ℕ) → get_or (encode x) (16 * x.dimensions + k) 0 ≡ get_or (joined (boundOf x) x.bounds ++ tail) k 0
+  behind : (k : ℕ) → get_or (encode x) (16 * x.dimensions + k) 0 ≡ get_or (joined (bound_of x) x.bounds ++ tail) k 0
   unfolding encode
   behind k =
-      ap (λ (p : ℕ). get_or (encode x) (p + k) 0) (sym dimensions-long) ∙ get_or-append-add (joined (dimensionOf x) x.dimensions) _ k 0
+      ap (λ (p : ℕ). get_or (encode x) (p + k) 0) (sym dimensions_long) ∙ get_or-append-add (joined (dimension_of x) x.dimensions) _ k 0
 
   beyond : (k : ℕ) → get_or (encode x) (16 * (x.dimensions + x.bounds) + k) 0 ≡ get_or tail k 0
   beyond k =
       let p : 16 * (x.dimensions + x.bounds) + k ≡ 16 * x.dimensions + (16 * x.bounds + k) = omega arith in
       ap (λ (p : ℕ). get_or (encode x) p 0) p ∙ (behind (16 * x.bounds + k)
-      ∙ (ap (λ (p : ℕ). get_or (joined (boundOf x) x.bounds ++ tail) (p + k) 0) (sym bounds-long)
-      ∙ get_or-append-add (joined (boundOf x) x.bounds) tail k 0))
+      ∙ (ap (λ (p : ℕ). get_or (joined (bound_of x) x.bounds ++ tail) (p + k) 0) (sym bounds_long)
+      ∙ get_or-append-add (joined (bound_of x) x.bounds) tail k 0))
 
-  pub at_bound : (k i : ℕ) → k < x.bounds → i < 16 → get_or (encode x) (16 * (x.dimensions + k) + i) 0 ≡ get_or (boundOf x k) i 0
+  pub at_bound : (k i : ℕ) → k < x.bounds → i < 16 → get_or (encode x) (16 * (x.dimensions + k) + i) 0 ≡ get_or (bound_of x k) i 0
   at_bound k i h l =
       let p : 16 * (x.dimensions + k) + i ≡ 16 * x.dimensions + (16 * k + i) = omega arith in
       ap (λ (p : ℕ). get_or (encode x) p 0) p ∙ (behind (16 * k + i)
-      ∙ (get_or-append (joined (boundOf x) x.bounds) _ 0 (16 * k + i) (rw bounds-long (omega arith))
-      ∙ joined_at (boundOf x) bound-long x.bounds k i h l))
+      ∙ (get_or-append (joined (bound_of x) x.bounds) _ 0 (16 * k + i) (rw bounds_long (omega arith))
+      ∙ joined_at (bound_of x) bound_long x.bounds k i h l))
 
-  pub at-distance : (d i : ℕ) → d < x.distances → i < 16 → get_or (encode x) (16 * (x.dimensions + x.bounds + d) + i) 0 ≡ get_or (distance_of x d) i 0
-  at-distance d i h l =
+  pub at_distance : (d i : ℕ) → d < x.distances → i < 16 → get_or (encode x) (16 * (x.dimensions + x.bounds + d) + i) 0 ≡ get_or (distance_of x d) i 0
+  at_distance d i h l =
       let p : 16 * (x.dimensions + x.bounds + d) + i ≡ 16 * (x.dimensions + x.bounds) + (16 * d + i) = omega arith in
       ap (λ (p : ℕ). get_or (encode x) p 0) p ∙ (beyond (16 * d + i)
-      ∙ (get_or-append (joined (distance_of x) x.distances) _ 0 (16 * d + i) (rw distances-long (omega arith))
-      ∙ joined_at (distance_of x) distance-long x.distances d i h l))
+      ∙ (get_or-append (joined (distance_of x) x.distances) _ 0 (16 * d + i) (rw distances_long (omega arith))
+      ∙ joined_at (distance_of x) distance_long x.distances d i h l))
 
-  pub at-close : (i : ℕ) → get_or (encode x) (16 * (x.dimensions + x.bounds + x.distances) + i) 0 ≡ get_or (closeRecord x.shift x.boundary) i 0
-  at-close i =
+  pub at_close : (i : ℕ) → get_or (encode x) (16 * (x.dimensions + x.bounds + x.distances) + i) 0 ≡ get_or (close_record x.shift x.boundary) i 0
+  at_close i =
       let p : 16 * (x.dimensions + x.bounds + x.distances) + i ≡ 16 * (x.dimensions + x.bounds) + (16 * x.distances + i) = omega arith in
       ap (λ (p : ℕ). get_or (encode x) p 0) p ∙ (beyond (16 * x.distances + i)
-      ∙ (ap (λ (p : ℕ). get_or tail (p + i) 0) (sym distances-long)
-      ∙ get_or-append-add (joined (distance_of x) x.distances) (closeRecord x.shift x.boundary) i 0))
+      ∙ (ap (λ (p : ℕ). get_or tail (p + i) 0) (sym distances_long)
+      ∙ get_or-append-add (joined (distance_of x) x.distances) (close_record x.shift x.boundary) i 0))

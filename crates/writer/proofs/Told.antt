@@ -1,4 +1,4 @@
--- What reading tells by value is what the recipe holds, and writing it rebuilds the recipe: `reads-back`.
+-- What reading tells by value is what the recipe holds, and writing it rebuilds the recipe: `reads_back`.
 use Prim.Native.Nat.{ℕ, zero, suc, ◌+◌, ◌*◌, ◌%◌, ◌≤◌, ◌<◌}
 use mathlib.Core.Path.{◌≡◌, refl, sym, ap, subst, ◌∙◌}
 use mathlib.Core.Logic.{◌≢◌}
@@ -11,68 +11,68 @@ use lib.Seq.{ext_get_or, get_or-take, length-take-le}
 use Rattle.base.specs.Tests.{tabulate}
 use Rattle.base.specs.Lists.{Bytes}
 use Rattle.base.specs.Numbers.{first_of}
-use Rattle.base.proofs.Tests.{length-tabulate, tabulate-at}
+use Rattle.base.proofs.Tests.{length_tabulate, tabulate_at}
 use Rattle.nest.specs.declared.Nest.{Nest}
 use Rattle.nest.specs.declared.Reading.{Reading}
-use Rattle.nest.specs.Reader.{filled, nestOf, readLines, reading_of}
+use Rattle.nest.specs.Reader.{filled, nest_of, read_lines, reading_of}
 use Rattle.nest.proofs.Answers.{number_read, nest-read}
-use Rattle.nest.proofs.Laws.{filled-length, filled_in, filled-out}
+use Rattle.nest.proofs.Laws.{filled_length, filled_in, filled_out}
 use Rattle.writer.specs.declared.reading.RecipeFields.{RecipeFields}
 use Rattle.writer.specs.Fields.{Fields, fields, fields_of}
-use Rattle.writer.specs.Writing.{nestWritable, written, writeCall}
+use Rattle.writer.specs.Writing.{nest_writable, written, write_call}
 use Rattle.writer.specs.Demand202.{Tables}
-use Rattle.writer.specs.Told.{table_of, toldFields, noFields, fieldsIf, readCall, taken, ReadsBack}
-use Rattle.writer.proofs.Fitting.{Table, Fits, writable-fits, fits-writable, read_fits}
-use Rattle.writer.proofs.FromFields.{same-fields, Agreed, agreed-fields}
+use Rattle.writer.specs.Told.{table_of, told_fields, no_fields, fields_if, read_call, taken, ReadsBack}
+use Rattle.writer.proofs.Fitting.{Table, Fits, writable_fits, fits_writable, read_fits}
+use Rattle.writer.proofs.FromFields.{same_fields, Agreed, agreed_fields}
 use Rattle.writer.proofs.Demand202.{demand202}
 
 -- a table that is filled as far as it is long
-pub all-filled : (size : ℕ) (l : List ℕ) → length l ≡ size → filled size size (λ i. get_or l i 0) ≡ l
-all-filled size l e =
-    ext_get_or 0 (filled size size (λ i. get_or l i 0)) l (filled-length size (λ i. get_or l i 0) size ∙ sym e)
-    (λ i h. filled_in size (λ j. get_or l j 0) size i (rw (filled-length size (λ j. get_or l j 0) size) at h) (omega arith))
+pub all_filled : (size : ℕ) (l : List ℕ) → length l ≡ size → filled size size (λ i. get_or l i 0) ≡ l
+all_filled size l e =
+    ext_get_or 0 (filled size size (λ i. get_or l i 0)) l (filled_length size (λ i. get_or l i 0) size ∙ sym e)
+    (λ i h. filled_in size (λ j. get_or l j 0) size i (rw (filled_length size (λ j. get_or l j 0) size) at h) (omega arith))
 
 -- tables filled with the same numbers
-same-filled : (size n : ℕ) (f g : ℕ → ℕ) → n ≤ size → ((i : ℕ) → i < n → f i ≡ g i) → filled size n f ≡ filled size n g
-same-filled size n f g few h =
-    ext_get_or 0 (filled size n f) (filled size n g) (filled-length size f n ∙ sym (filled-length size g n)) (λ i l. at i (dec_lt i n))
+same_filled : (size n : ℕ) (f g : ℕ → ℕ) → n ≤ size → ((i : ℕ) → i < n → f i ≡ g i) → filled size n f ≡ filled size n g
+same_filled size n f g few h =
+    ext_get_or 0 (filled size n f) (filled size n g) (filled_length size f n ∙ sym (filled_length size g n)) (λ i l. at i (dec_lt i n))
   where
     at : (i : ℕ) → Dec (i < n) → get_or (filled size n f) i 0 ≡ get_or (filled size n g) i 0
     at i (yes k) = filled_in size f n i k few ∙ h i k ∙ sym (filled_in size g n i k few)
-    at i (no k) = filled-out size f n i (omega arith) ∙ sym (filled-out size g n i (omega arith))
+    at i (no k) = filled_out size f n i (omega arith) ∙ sym (filled_out size g n i (omega arith))
 
 -- the first n numbers of a table with 0 behind them
-pub table-front : (size n bound : ℕ) (l : List ℕ) → Table size n bound l → n ≤ size → l ≡ table_of size (take n l)
-table-front size n bound l t few =
+pub table_front : (size n bound : ℕ) (l : List ℕ) → Table size n bound l → n ≤ size → l ≡ table_of size (take n l)
+table_front size n bound l t few =
     let e = length-take-le n l (omega (arith, few, t.long)) in
-    ext_get_or 0 l (table_of size (take n l)) (t.long ∙ sym (filled-length size (λ i. get_or (take n l) i 0) (length (take n l)))) (λ i h. at e i (dec_lt i n))
+    ext_get_or 0 l (table_of size (take n l)) (t.long ∙ sym (filled_length size (λ i. get_or (take n l) i 0) (length (take n l)))) (λ i h. at e i (dec_lt i n))
   where
     at : length (take n l) ≡ n → (i : ℕ) → Dec (i < n) → get_or l i 0 ≡ get_or (table_of size (take n l)) i 0
     at e i (yes k) =
         sym (filled_in size (λ j. get_or (take n l) j 0) (length (take n l)) i (omega (arith, e)) (omega (arith, e)) ∙ get_or-take n l i 0 k)
-    at e i (no k) = t.rest i (omega arith) ∙ sym (filled-out size (λ j. get_or (take n l) j 0) (length (take n l)) i (omega (arith, e)))
+    at e i (no k) = t.rest i (omega arith) ∙ sym (filled_out size (λ j. get_or (take n l) j 0) (length (take n l)) i (omega (arith, e)))
 
 -- and made anew
-pub table-made : (size n : ℕ) (f : ℕ → ℕ) → n ≤ size → filled size n f ≡ table_of size (tabulate f n)
-table-made size n f few =
-    same-filled size n f (λ i. get_or (tabulate f n) i 0) few (λ i h. sym (tabulate-at f n i h))
-    ∙ ap (λ (k : ℕ). filled size k (λ i. get_or (tabulate f n) i 0)) (sym (length-tabulate f n))
+pub table_made : (size n : ℕ) (f : ℕ → ℕ) → n ≤ size → filled size n f ≡ table_of size (tabulate f n)
+table_made size n f few =
+    same_filled size n f (λ i. get_or (tabulate f n) i 0) few (λ i h. sym (tabulate_at f n i h))
+    ∙ ap (λ (k : ℕ). filled size k (λ i. get_or (tabulate f n) i 0)) (sym (length_tabulate f n))
 
 -- of a table as many numbers as were put there
-front-back : (size : ℕ) (l : List ℕ) → length l ≤ size → take (length l) (table_of size l) ≡ l
-front-back size l few =
-    let long = length-take-le (length l) (table_of size l) (omega (arith, few, filled-length size (λ i. get_or l i 0) (length l))) in
+front_back : (size : ℕ) (l : List ℕ) → length l ≤ size → take (length l) (table_of size l) ≡ l
+front_back size l few =
+    let long = length-take-le (length l) (table_of size l) (omega (arith, few, filled_length size (λ i. get_or l i 0) (length l))) in
     ext_get_or 0 (take (length l) (table_of size l)) l long
     (λ i h. let k : i < length l = rw long at h in
     get_or-take (length l) (table_of size l) i 0 k ∙ filled_in size (λ j. get_or l j 0) (length l) i k few)
 
 front : (size n : ℕ) (l : List ℕ) → length l ≡ n → n ≤ size → take n (table_of size l) ≡ l
-front size n l e few = ap (λ (k : ℕ). take k (table_of size l)) (sym e) ∙ front-back size l (omega (arith, e, few))
+front size n l e few = ap (λ (k : ℕ). take k (table_of size l)) (sym e) ∙ front_back size l (omega (arith, e, few))
 
 -- what a user takes of what was told of fields that agree
-taken_back : (v : Fields) → Agreed v → taken (toldFields v) ≡ v
+taken_back : (v : Fields) → Agreed v → taken (told_fields v) ≡ v
 taken_back v a =
-    same-fields _ _ _ _ _ _ _ _ _ _ _ _ _ _ _ _ _ _ _ _ v.shift v.boundary
+    same_fields _ _ _ _ _ _ _ _ _ _ _ _ _ _ _ _ _ _ _ _ v.shift v.boundary
     (front 4 (length v.lengths) v.lengths refl a.dimensions)
     (front 4 (length v.lengths) v.tiling a.tiling a.dimensions)
     (front 4 (length v.lengths) v.counts a.counts a.dimensions)
@@ -87,14 +87,14 @@ taken_back v a =
 -- ---- what the code makes of a nest
 
 -- the numbers in two bytes each: those of a table with 0 behind are all so wide
-pub table-wide : (size n bound : ℕ) (l : List ℕ) → 0 < bound → Table size n bound l → (i : ℕ) → get_or l i 0 < bound
-table-wide size n bound l z t i = go (dec_lt i n)
+pub table_wide : (size n bound : ℕ) (l : List ℕ) → 0 < bound → Table size n bound l → (i : ℕ) → get_or l i 0 < bound
+table_wide size n bound l z t i = go (dec_lt i n)
   where
     go : Dec (i < n) → get_or l i 0 < bound
     go (yes h) = t.fit i h
     go (no h) = rw (t.rest i (omega arith)) z
 
-same-told : (n d b w : ℕ) (l t p c v o sd bd er sl l' t' p' c' v' o' sd' bd' er' sl' : List ℕ) (s n' d' b' : ℕ)
+same_told : (n d b w : ℕ) (l t p c v o sd bd er sl l' t' p' c' v' o' sd' bd' er' sl' : List ℕ) (s n' d' b' : ℕ)
     → n ≡ n' → d ≡ d' → b ≡ b' → l ≡ l' → t ≡ t' → p ≡ p' → c ≡ c' → v ≡ v' → o ≡ o' → sd ≡ sd' → bd ≡ bd' → er ≡ er' → sl ≡ sl'
     → ◌≡◌ {A = RecipeFields}
     (record {
@@ -133,7 +133,7 @@ same-told : (n d b w : ℕ) (l t p c v o sd bd er sl l' t' p' c' v' o' sd' bd' e
       slopes = sl';
       shift = s;
     })
-same-told n d b w l t p c v o sd bd er sl l' t' p' c' v' o' sd' bd' er' sl' s n' d' b' e1 e2 e3 e4 e5 e6 e7 e8 e9 e10 e11 e12 e13 =
+same_told n d b w l t p c v o sd bd er sl l' t' p' c' v' o' sd' bd' er' sl' s n' d' b' e1 e2 e3 e4 e5 e6 e7 e8 e9 e10 e11 e12 e13 =
     rw (e1, e2, e3, e4, e5, e6, e7, e8, e9, e10, e11, e12, e13)
 
 module _ (x : Nest) (f : Fits x) where
@@ -162,67 +162,67 @@ module _ (x : Nest) (f : Fits x) where
         slopes = sl;
         shift = x.shift;
       })
-      (toldFields (fields_of x))
+      (told_fields (fields_of x))
   unfolding fields_of
   told_is l t p c v o sl e1 e2 e3 e4 e5 e6 e7 =
-      same-told _ _ _ _ _ _ _ _ _ _ _ _ _ _ _ _ _ _ _ _ _ _ _ _ _ _ _ _
+      same_told _ _ _ _ _ _ _ _ _ _ _ _ _ _ _ _ _ _ _ _ _ _ _ _ _ _ _ _
       (long 4 x.dimensions _ x.lengths f.lengths f.dimensions)
       (long 8 x.distances _ x.weights f.weights f.distances)
       (long 4 x.bounds _ x.sides f.sides f.bounds)
-      (e1 ∙ table-front 4 x.dimensions _ x.lengths f.lengths f.dimensions)
-      (e2 ∙ table-front 4 x.dimensions _ x.tiling f.tiling f.dimensions)
-      (e3 ∙ table-front 4 x.dimensions _ x.counts f.counts f.dimensions)
-      (e4 ∙ table-front 32 (4 * x.distances) _ x.components f.components (omega (arith, f.distances)))
-      (e5 ∙ table-front 8 x.distances _ x.weights f.weights f.distances)
-      (e6 ∙ table-made 4 x.bounds (λ i. (get_or x.offsets i 0 + 32768) % 65536) f.bounds)
-      (table-front 4 x.bounds _ x.sides f.sides f.bounds)
-      (table-front 4 x.bounds _ x.bounded f.bounded f.bounds)
-      (table-front 4 x.bounds _ x.earlier f.earlier f.bounds)
-      (e7 ∙ table-made 4 x.bounds (λ i. (get_or x.slopes i 0 + 255) % 256) f.bounds)
+      (e1 ∙ table_front 4 x.dimensions _ x.lengths f.lengths f.dimensions)
+      (e2 ∙ table_front 4 x.dimensions _ x.tiling f.tiling f.dimensions)
+      (e3 ∙ table_front 4 x.dimensions _ x.counts f.counts f.dimensions)
+      (e4 ∙ table_front 32 (4 * x.distances) _ x.components f.components (omega (arith, f.distances)))
+      (e5 ∙ table_front 8 x.distances _ x.weights f.weights f.distances)
+      (e6 ∙ table_made 4 x.bounds (λ i. (get_or x.offsets i 0 + 32768) % 65536) f.bounds)
+      (table_front 4 x.bounds _ x.sides f.sides f.bounds)
+      (table_front 4 x.bounds _ x.bounded f.bounded f.bounds)
+      (table_front 4 x.bounds _ x.earlier f.earlier f.bounds)
+      (e7 ∙ table_made 4 x.bounds (λ i. (get_or x.slopes i 0 + 255) % 256) f.bounds)
 
 -- ---- the call
 
-none_told : (n : ℕ) (v : Fields) → n ≢ 0 → fieldsIf n v ≡ noFields n
-unfolding fieldsIf
+none_told : (n : ℕ) (v : Fields) → n ≢ 0 → fields_if n v ≡ no_fields n
+unfolding fields_if
 none_told zero v h = absurd (h refl)
 none_told (suc n) v h = refl
 
-number-told : (n : ℕ) (v : Fields) → (fieldsIf n v).number ≡ n
-unfolding fieldsIf
-number-told zero v = refl
-number-told (suc n) v = refl
+number_told : (n : ℕ) (v : Fields) → (fields_if n v).number ≡ n
+unfolding fields_if
+number_told zero v = refl
+number_told (suc n) v = refl
 
 module _ (bytes : List ℕ) where
-  pub read_none : (n : ℕ) → n ≡ first_of (readLines bytes) → n ≢ 0 → noFields n ≡ readCall bytes
-  unfolding readCall
-  read_none n e h = sym (none_told n (fields_of (nestOf bytes)) h) ∙ ap (λ (k : ℕ). fieldsIf k (fields_of (nestOf bytes))) e
+  pub read_none : (n : ℕ) → n ≡ first_of (read_lines bytes) → n ≢ 0 → no_fields n ≡ read_call bytes
+  unfolding read_call
+  read_none n e h = sym (none_told n (fields_of (nest_of bytes)) h) ∙ ap (λ (k : ℕ). fields_if k (fields_of (nest_of bytes))) e
 
-  pub read_done : first_of (readLines bytes) ≡ 0 → readCall bytes ≡ toldFields (fields_of (nestOf bytes))
-  unfolding readCall fieldsIf
-  read_done z = ap (λ (k : ℕ). fieldsIf k (fields_of (nestOf bytes))) z
+  pub read_done : first_of (read_lines bytes) ≡ 0 → read_call bytes ≡ told_fields (fields_of (nest_of bytes))
+  unfolding read_call fields_if
+  read_done z = ap (λ (k : ℕ). fields_if k (fields_of (nest_of bytes))) z
 
-  module _ (small : Bytes bytes) (z : first_of (readLines bytes) ≡ 0) where
-    held : taken (readCall bytes) ≡ fields_of (nestOf bytes)
-    held = ap taken (read_done z) ∙ taken_back (fields_of (nestOf bytes)) (agreed-fields (nestOf bytes) (read_fits bytes small z))
+  module _ (small : Bytes bytes) (z : first_of (read_lines bytes) ≡ 0) where
+    held : taken (read_call bytes) ≡ fields_of (nest_of bytes)
+    held = ap taken (read_done z) ∙ taken_back (fields_of (nest_of bytes)) (agreed_fields (nest_of bytes) (read_fits bytes small z))
 
-    again : (space : List ℕ) → length space ≡ length bytes → writeCall (taken (readCall bytes)) space ≡ written 0 bytes
-    again space e = ap (λ (v : Fields). writeCall v space) held ∙ demand202.from_fields.rebuilt bytes space small z e
+    again : (space : List ℕ) → length space ≡ length bytes → write_call (taken (read_call bytes)) space ≡ written 0 bytes
+    again space e = ap (λ (v : Fields). write_call v space) held ∙ demand202.from_fields.rebuilt bytes space small z e
 
-  read_number : (readCall bytes).number ≡ first_of (readLines bytes)
-  unfolding readCall
-  read_number = number-told (first_of (readLines bytes)) (fields_of (nestOf bytes))
+  read_number : (read_call bytes).number ≡ first_of (read_lines bytes)
+  unfolding read_call
+  read_number = number_told (first_of (read_lines bytes)) (fields_of (nest_of bytes))
 
-pub reads-back : ReadsBack
-reads-back =
+pub reads_back : ReadsBack
+reads_back =
     record {
       number = read_number;
-      none = λ bytes h. sym (read_none bytes (first_of (readLines bytes)) refl h);
+      none = λ bytes h. sym (read_none bytes (first_of (read_lines bytes)) refl h);
       held = held;
       rebuilt = λ bytes space small z e. again bytes small z space e;
     }
 
 -- the tables of a nest that was read have their sizes, and a recipe can hold it
-pub read_held : (bytes : List ℕ) → Bytes bytes → first_of (readLines bytes) ≡ 0 → Tables (nestOf bytes) × (nestWritable (nestOf bytes) ≡ true)
+pub read_held : (bytes : List ℕ) → Bytes bytes → first_of (read_lines bytes) ≡ 0 → Tables (nest_of bytes) × (nest_writable (nest_of bytes) ≡ true)
 read_held bytes small z = (
   record {
     lengths = f.lengths.long;
@@ -236,20 +236,20 @@ read_held bytes small z = (
     slopes = f.slopes.long;
     offsets = f.offsets.long;
   },
-  fits-writable (nestOf bytes) f,
+  fits_writable (nest_of bytes) f,
 )
   where
-    f : Fits (nestOf bytes)
+    f : Fits (nest_of bytes)
     f = read_fits bytes small z
 
 -- by what the reader gave
 module _ (bytes : List ℕ) (r : Reading) (e : r ≡ reading_of bytes) where
-  none_true : r.number ≡ 0 → first_of (readLines bytes) ≡ 0
+  none_true : r.number ≡ 0 → first_of (read_lines bytes) ≡ 0
   none_true z = sym (number_read bytes r e) ∙ z
 
-  pub read-nest : Bytes bytes → r.number ≡ 0 → Tables r.nest × (nestWritable r.nest ≡ true)
-  read-nest small z =
-      subst (λ (x : Nest). Tables x × (nestWritable x ≡ true)) (sym (nest-read bytes r e z)) (read_held bytes small (none_true z))
+  pub read_nest : Bytes bytes → r.number ≡ 0 → Tables r.nest × (nest_writable r.nest ≡ true)
+  read_nest small z =
+      subst (λ (x : Nest). Tables x × (nest_writable x ≡ true)) (sym (nest-read bytes r e z)) (read_held bytes small (none_true z))
 
-  pub read_told : r.number ≡ 0 → toldFields (fields_of r.nest) ≡ readCall bytes
-  read_told z = ap (λ (x : Nest). toldFields (fields_of x)) (nest-read bytes r e z) ∙ sym (read_done bytes (none_true z))
+  pub read_told : r.number ≡ 0 → told_fields (fields_of r.nest) ≡ read_call bytes
+  read_told z = ap (λ (x : Nest). told_fields (fields_of x)) (nest-read bytes r e z) ∙ sym (read_done bytes (none_true z))

@@ -8,32 +8,32 @@ use Rattle.base.specs.Numbers.{first_of}
 use Rattle.machine.specs.Machine.{Answered}
 use Rattle.nest.specs.declared.Nest.{Nest}
 use Rattle.nest.specs.Nest.{component}
-use Rattle.nest.specs.Reader.{kind, nestOf, nestLines, readLines}
+use Rattle.nest.specs.Reader.{kind, nest_of, nest_lines, read_lines}
 use Rattle.nest.specs.Encode.{encode}
-use Rattle.writer.specs.Fields.{Fields, agree, nestFrom, fields_of, Widths, BoundsWell}
-use Rattle.writer.specs.Writing.{written, nestWritable, writable, writeNestCall, writeCall}
+use Rattle.writer.specs.Fields.{Fields, agree, nest_from, fields_of, Widths, BoundsWell}
+use Rattle.writer.specs.Writing.{written, nest_writable, writable, write_nest_call, write_call}
 
 -- of values of type A: whether a recipe can hold them, the recipe that spells them, the values seen in a recipe's bytes;
 -- `Typed` is what their own type says of them
 pub record Writes {A : Type 0} (call : A → List ℕ → Answered (List ℕ)) (can : A → Bool) (spelled : A → List ℕ) (seen : List ℕ → A)
     (Typed : A → Type 0) : Type 0 where
   -- the recipe of the values is produced
-  pub produces : (v : A) (space : List ℕ) → can v ≡ true → first_of (readLines (spelled v)) ≡ 0 → length space ≡ length (spelled v)
+  pub produces : (v : A) (space : List ℕ) → can v ≡ true → first_of (read_lines (spelled v)) ≡ 0 → length space ≡ length (spelled v)
       → call v space ≡ written 0 (spelled v)
   -- the number is the reader's of these bytes, which hold those very values, where they are refused too
-  pub number : (v : A) (space : List ℕ) → can v ≡ true → first_of (readLines (spelled v)) ≢ 0
-      → call v space ≡ written (first_of (readLines (spelled v))) space
+  pub number : (v : A) (space : List ℕ) → can v ≡ true → first_of (read_lines (spelled v)) ≢ 0
+      → call v space ≡ written (first_of (read_lines (spelled v))) space
   pub holds : (v : A) → Typed v → can v ≡ true → seen (spelled v) ≡ v
   -- 9 where the space has not exactly the length
-  pub nine : (v : A) (space : List ℕ) → can v ≡ true → first_of (readLines (spelled v)) ≡ 0 → length space ≢ length (spelled v)
+  pub nine : (v : A) (space : List ℕ) → can v ≡ true → first_of (read_lines (spelled v)) ≡ 0 → length space ≢ length (spelled v)
       → call v space ≡ written 9 space
   -- values that no recipe can hold
   pub two : (v : A) (space : List ℕ) → can v ≡ false → call v space ≡ written 2 space
   -- every recipe that the reader accepts is rebuilt byte for byte from what was read
-  pub rebuilt : (b space : List ℕ) → Bytes b → first_of (readLines b) ≡ 0 → length space ≡ length b → call (seen b) space ≡ written 0 b
+  pub rebuilt : (b space : List ℕ) → Bytes b → first_of (read_lines b) ≡ 0 → length space ≡ length b → call (seen b) space ≡ written 0 b
   -- what was produced is accepted, and reads back to the values given
   pub read_back : (v : A) (space : List ℕ) → Typed v → (call v space).number ≡ 0
-      → (first_of (readLines (call v space).after) ≡ 0) × (seen (call v space).after ≡ v)
+      → (first_of (read_lines (call v space).after) ≡ 0) × (seen (call v space).after ≡ v)
   -- demand 1: a refusal leaves every lent byte
   pub refuses : (v : A) (space : List ℕ) → (call v space).number ≢ 0 → (call v space).after ≡ space
 
@@ -51,18 +51,18 @@ pub record Tables (x : Nest) : Type 0 where
   pub offsets : length x.offsets ≡ 4
 
 pub record Demand202 : Type 0 where
-  pub from_fields : Writes writeCall writable (λ v. encode (nestFrom v)) (λ b. fields_of (nestOf b)) Widths
-  pub from-nest : Writes writeNestCall nestWritable encode nestOf Tables
+  pub from_fields : Writes write_call writable (λ v. encode (nest_from v)) (λ b. fields_of (nest_of b)) Widths
+  pub from_nest : Writes write_nest_call nest_writable encode nest_of Tables
   -- a recipe can hold all fields whose lists agree and whose numbers are as wide as their fields
   pub all_held : (v : Fields) → agree v ≡ true → Widths v → writable v ≡ true
   -- not 2 to 4 dimensions, not 1 to 8 distances, more than 4 bounds, a faulty bound, or a shift above 31: 2
   pub stray : (v : Fields) (space : List ℕ)
       → ((2 ≤ length v.lengths) × (length v.lengths ≤ 4) × (1 ≤ length v.weights) × (length v.weights ≤ 8)
       × (length v.sides ≤ 4) × (v.shift < 32) × BoundsWell v → ⊥)
-      → writeCall v space ≡ written 2 space
+      → write_call v space ≡ written 2 space
   -- else the reader's number is that of the values alone, and never 18
   pub told : (v : Fields) → writable v ≡ true → 2 ≤ length v.lengths → 1 ≤ length v.weights → v.shift < 32 → BoundsWell v
-      → first_of (readLines (encode (nestFrom v))) ≡ first_of (nestLines false (nestFrom v))
+      → first_of (read_lines (encode (nest_from v))) ≡ first_of (nest_lines false (nest_from v))
   -- W-207: kind 4 only where kind 2 can't hold the distance
   pub picks : (x : Nest) (e : ℕ) → e < x.distances
       → kind (encode x) (x.dimensions + x.bounds + e) ≡ pick (every (λ j. ltb (component x e j) 256) 4) 2 4

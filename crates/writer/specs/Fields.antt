@@ -4,7 +4,7 @@
 use Rattle.std.specs.Prelude.{ℕ, ◌+◌, ◌*◌, ◌%◌, ◌≤◌, ◌<◌, Bool, List, length, get_or, take, eqb, ltb, leb}
 use Rattle.base.specs.Tests.{◌and◌, keep, tabulate}
 use Rattle.nest.specs.declared.Nest.{Nest}
-use Rattle.nest.specs.Nest.{slope, boundOffset}
+use Rattle.nest.specs.Nest.{slope, bound_offset}
 use Rattle.nest.specs.Reader.{filled}
 
 pub record Fields : Type 0 where
@@ -58,8 +58,8 @@ agree v =
     and bounds (length v.sides) (length v.bounded) (length v.earlier) (length v.slopes) (length v.offsets)
 
 -- a dimension with a count that is not 0 is spread, as the reader has it
-unfoldable pub nestFrom : Fields → Nest
-nestFrom v =
+unfoldable pub nest_from : Fields → Nest
+nest_from v =
     record {
       dimensions = length v.lengths;
       spread = length (keep (λ j. ltb 0 (get_or v.counts j 0)) (length v.lengths));
@@ -85,7 +85,7 @@ fields_of x =
     fields (take x.dimensions x.lengths) (take x.dimensions x.tiling) (take x.dimensions x.counts)
     (take (4 * x.distances) x.components) (take x.distances x.weights)
     (take x.bounds x.sides) (take x.bounds x.bounded) (take x.bounds x.earlier)
-    (tabulate (λ k. (slope x k + 255) % 256) x.bounds) (tabulate (λ k. (boundOffset x k + 32768) % 65536) x.bounds) x.shift x.boundary
+    (tabulate (λ k. (slope x k + 255) % 256) x.bounds) (tabulate (λ k. (bound_offset x k + 32768) % 65536) x.bounds) x.shift x.boundary
 
 -- each number is as wide as its field in the recipe
 pub record Widths (v : Fields) : Type 0 where

@@ -4,17 +4,17 @@
 use Rattle.std.specs.Prelude.{ℕ, zero, suc, ◌*◌, ◌≡◌, ◌≢◌, List, length, get_or, take, replicate}
 use Rattle.base.specs.Lists.{Bytes}
 use Rattle.base.specs.Numbers.{first_of}
-use Rattle.nest.specs.Reader.{filled, nestOf, readLines}
+use Rattle.nest.specs.Reader.{filled, nest_of, read_lines}
 use Rattle.writer.specs.declared.reading.RecipeFields.{RecipeFields}
 use Rattle.writer.specs.Fields.{Fields, fields, fields_of}
-use Rattle.writer.specs.Writing.{written, writeCall}
+use Rattle.writer.specs.Writing.{written, write_call}
 
 -- the list in front, 0 behind, in a table of the given size
 abbrev pub table_of : ℕ → List ℕ → List ℕ
 table_of size l = filled size (length l) (λ i. get_or l i 0)
 
-abbrev pub toldFields : Fields → RecipeFields
-toldFields v =
+abbrev pub told_fields : Fields → RecipeFields
+told_fields v =
     record {
       number = 0;
       dimensions = length v.lengths;
@@ -34,8 +34,8 @@ toldFields v =
       shift = v.shift;
     }
 
-abbrev pub noFields : ℕ → RecipeFields
-noFields n =
+abbrev pub no_fields : ℕ → RecipeFields
+no_fields n =
     record {
       number = n;
       dimensions = 0;
@@ -55,13 +55,13 @@ noFields n =
       shift = 0;
     }
 
-unfoldable pub fieldsIf : ℕ → Fields → RecipeFields
-fieldsIf zero v = toldFields v
-fieldsIf (suc n) v = noFields (suc n)
+unfoldable pub fields_if : ℕ → Fields → RecipeFields
+fields_if zero v = told_fields v
+fields_if (suc n) v = no_fields (suc n)
 
 -- the number is that of the first true line
-unfoldable pub readCall : List ℕ → RecipeFields
-readCall bytes = fieldsIf (first_of (readLines bytes)) (fields_of (nestOf bytes))
+unfoldable pub read_call : List ℕ → RecipeFields
+read_call bytes = fields_if (first_of (read_lines bytes)) (fields_of (nest_of bytes))
 
 -- what a user hands on to the writer: of each table as many numbers as count
 abbrev pub taken : RecipeFields → Fields
@@ -72,11 +72,11 @@ taken t =
     (take t.bounds t.slopes) (take t.bounds t.offsets) t.shift t.boundary
 
 pub record ReadsBack : Type 0 where
-  pub number : (bytes : List ℕ) → (readCall bytes).number ≡ first_of (readLines bytes)
+  pub number : (bytes : List ℕ) → (read_call bytes).number ≡ first_of (read_lines bytes)
   -- nothing beside it at a refusal
-  pub none : (bytes : List ℕ) → first_of (readLines bytes) ≢ 0 → readCall bytes ≡ noFields (first_of (readLines bytes))
+  pub none : (bytes : List ℕ) → first_of (read_lines bytes) ≢ 0 → read_call bytes ≡ no_fields (first_of (read_lines bytes))
   -- else exactly the fields that the recipe holds
-  pub held : (bytes : List ℕ) → Bytes bytes → first_of (readLines bytes) ≡ 0 → taken (readCall bytes) ≡ fields_of (nestOf bytes)
+  pub held : (bytes : List ℕ) → Bytes bytes → first_of (read_lines bytes) ≡ 0 → taken (read_call bytes) ≡ fields_of (nest_of bytes)
   -- and these, written, are the recipe
-  pub rebuilt : (bytes space : List ℕ) → Bytes bytes → first_of (readLines bytes) ≡ 0 → length space ≡ length bytes
-      → writeCall (taken (readCall bytes)) space ≡ written 0 bytes
+  pub rebuilt : (bytes space : List ℕ) → Bytes bytes → first_of (read_lines bytes) ≡ 0 → length space ≡ length bytes
+      → write_call (taken (read_call bytes)) space ≡ written 0 bytes

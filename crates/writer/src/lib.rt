@@ -3,10 +3,10 @@
 ghost use Rattle.std.specs.Prelude.{◌≡◌, true, ℕ, ◌+◌, ◌*◌, ◌%◌, ◌<◌, ◌≤◌, length, get_or, take, ltb};
 ghost use Rattle.base.specs.Tests.{pick, keep, tabulate};
 ghost use Rattle.base.specs.Numbers.{first_of};
-ghost use Rattle.nest.specs.Reader.{filled, readLines};
+ghost use Rattle.nest.specs.Reader.{filled, read_lines};
 ghost use Rattle.nest.specs.Encode.{encode};
-ghost use Rattle.writer.specs.Fields.{fields, counted, bounds, agree, nestFrom};
-ghost use Rattle.writer.specs.Writing.{written, fitsIn, fits, boundsFit, writeNestCall, writeCall};
+ghost use Rattle.writer.specs.Fields.{fields, counted, bounds, agree, nest_from};
+ghost use Rattle.writer.specs.Writing.{written, fits_in, fits, bounds_fit, write_nest_call, write_call};
 
 use base::index_wide;
 use nest::Nest;
@@ -50,7 +50,7 @@ fn bytes_of(nest: Nest) -> [u8; 272]
 // The number that the reader gives for the first bytes.
 fn number_of(bytes: [u8; 272], length: usize) -> u32
     requires { length ≤ 272 }
-    ensures { result ≡ first_of (readLines (take length bytes)) }
+    ensures { result ≡ first_of (read_lines (take length bytes)) }
 {
     let reading = reader::read(&bytes[0..length]);
     reading.number
@@ -78,7 +78,7 @@ fn limit(i: usize, n: usize, bound: usize) -> usize
 }
 
 fn fits_in(values: &[usize], n: usize, bound: usize) -> bool
-    ensures { result ≡ fitsIn n bound values.now }
+    ensures { result ≡ fits_in n bound values.now }
 {
     for i in 0..values.len() {
         if values[i] >= limit(i, n, bound) {
@@ -89,7 +89,7 @@ fn fits_in(values: &[usize], n: usize, bound: usize) -> bool
 }
 
 fn weights_fit(values: &[u64], n: usize) -> bool
-    ensures { result ≡ fitsIn n 65536 values.now }
+    ensures { result ≡ fits_in n 65536 values.now }
 {
     for i in 0..values.len() {
         if values[i] >= index_wide(limit(i, n, 65536)) {
@@ -100,7 +100,7 @@ fn weights_fit(values: &[u64], n: usize) -> bool
 }
 
 fn bytes_fit(values: &[u8], n: usize) -> bool
-    ensures { result ≡ fitsIn n 256 values.now }
+    ensures { result ≡ fits_in n 256 values.now }
 {
     for i in 0..values.len() {
         if values[i] as usize >= limit(i, n, 256) {
@@ -111,7 +111,7 @@ fn bytes_fit(values: &[u8], n: usize) -> bool
 }
 
 fn halves_fit(values: &[u16], n: usize) -> bool
-    ensures { result ≡ fitsIn n 65536 values.now }
+    ensures { result ≡ fits_in n 65536 values.now }
 {
     for i in 0..values.len() {
         if values[i] as usize >= limit(i, n, 65536) {
@@ -171,7 +171,7 @@ fn fits(nest: Nest) -> bool
 }
 
 fn offsets_fit(nest: Nest) -> bool
-    ensures { result ≡ fitsIn nest.bounds 65536 nest.offsets }
+    ensures { result ≡ fits_in nest.bounds 65536 nest.offsets }
 {
     let b = nest.bounds;
     let offsets = nest.offsets;
@@ -179,7 +179,7 @@ fn offsets_fit(nest: Nest) -> bool
 }
 
 fn bounds_fit(nest: Nest) -> bool
-    ensures { result ≡ boundsFit nest }
+    ensures { result ≡ bounds_fit nest }
 {
     let b = nest.bounds;
     let sides = nest.sides;
@@ -206,7 +206,7 @@ fn bounds_fit(nest: Nest) -> bool
 // The nest's recipe into the space, which must have exactly its length; or the number that refuses it, and the space as it was.
 // A nest that no recipe can hold gives 2.
 pub fn write_nest(nest: Nest, space: &mut [u8]) -> u32
-    ensures { written result space.new ≡ writeNestCall nest space.old }
+    ensures { written result space.new ≡ write_nest_call nest space.old }
 {
     if nest.dimensions > 4 {
         return 2;
@@ -322,7 +322,7 @@ fn nest_from(
 ) -> Nest
     requires { agree (fields lengths.now tiling.now counts.now components.now weights.now sides.now bounded.now
         earlier.now slopes.now offsets.now shift boundary) ≡ true }
-    ensures { result ≡ nestFrom (fields lengths.now tiling.now counts.now components.now
+    ensures { result ≡ nest_from (fields lengths.now tiling.now counts.now components.now
         weights.now sides.now bounded.now earlier.now slopes.now
         offsets.now shift boundary) }
 {
@@ -405,7 +405,7 @@ pub fn write(
     space: &mut [u8],
 ) -> u32
     ensures { written result space.new
-        ≡ writeCall (fields lengths.now tiling.now counts.now components.now
+        ≡ write_call (fields lengths.now tiling.now counts.now components.now
         weights.now sides.now bounded.now earlier.now slopes.now
         offsets.now shift boundary) space.old }
 {

@@ -1,6 +1,6 @@
 // The records of a recipe, sixteen bytes each, from a nest: the numbers of each, spelled.
 ghost use Rattle.std.specs.Prelude.{◌≡◌, ℕ, ◌+◌, ◌*◌, ◌<◌, ◌≤◌, get_or};
-ghost use Rattle.nest.specs.Encode.{dimensionOf, boundOf, narrow, distance_of, encode};
+ghost use Rattle.nest.specs.Encode.{dimension_of, bound_of, narrow, distance_of, encode};
 
 use crate::spelling::{bound_record, close_record, dimension_record, narrow_record, wide_record};
 use base::{byte_wide, half_wide, index_wide};
@@ -8,7 +8,7 @@ use nest::Nest;
 
 fn dimension_of(nest: Nest, j: usize) -> [u8; 16]
     requires { j < 4 }
-    ensures { result ≡ dimensionOf nest j }
+    ensures { result ≡ dimension_of nest j }
 {
     let lengths = nest.lengths;
     let tiling = nest.tiling;
@@ -22,7 +22,7 @@ fn dimension_of(nest: Nest, j: usize) -> [u8; 16]
 
 fn bound_of(nest: Nest, k: usize) -> [u8; 16]
     requires { k < 4 }
-    ensures { result ≡ boundOf nest k }
+    ensures { result ≡ bound_of nest k }
 {
     let sides = nest.sides;
     let bounded = nest.bounded;

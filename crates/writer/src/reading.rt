@@ -2,9 +2,9 @@
 ghost use Rattle.std.specs.Prelude.{◌≡◌, true, ℕ, ◌+◌, ◌%◌, ◌<◌, ◌≤◌, length, get_or};
 ghost use Rattle.nest.specs.Reader.{filled};
 ghost use Rattle.writer.specs.Fields.{fields_of};
-ghost use Rattle.writer.specs.Writing.{nestWritable};
+ghost use Rattle.writer.specs.Writing.{nest_writable};
 ghost use Rattle.writer.specs.Demand202.{Tables};
-ghost use Rattle.writer.specs.Told.{toldFields, noFields, readCall};
+ghost use Rattle.writer.specs.Told.{told_fields, no_fields, read_call};
 
 use nest::Nest;
 
@@ -90,8 +90,8 @@ fn offsets_of(values: [u16; 4], n: usize) -> [u16; 4]
 }
 
 fn fields_of(nest: Nest) -> RecipeFields
-    requires { Tables nest × (nestWritable nest ≡ true) }
-    ensures { result ≡ toldFields (fields_of nest) }
+    requires { Tables nest × (nest_writable nest ≡ true) }
+    ensures { result ≡ told_fields (fields_of nest) }
 {
     let bounds = nest.bounds;
     let lengths = nest.lengths;
@@ -125,7 +125,7 @@ fn fields_of(nest: Nest) -> RecipeFields
 }
 
 fn no_fields(number: u32) -> RecipeFields
-    ensures { result ≡ noFields number }
+    ensures { result ≡ no_fields number }
 {
     RecipeFields {
         number: number,
@@ -149,7 +149,7 @@ fn no_fields(number: u32) -> RecipeFields
 
 // Offered to callers: the fields that a recipe holds.
 pub fn read(encoded: &[u8]) -> RecipeFields
-    ensures { result ≡ readCall encoded.now }
+    ensures { result ≡ read_call encoded.now }
 {
     let reading = reader::read(encoded);
     let number = reading.number;

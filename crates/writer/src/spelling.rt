@@ -1,6 +1,6 @@
 // The sixteen bytes of each record of a recipe, from its numbers.
 ghost use Rattle.std.specs.Prelude.{◌≡◌};
-ghost use Rattle.nest.specs.Encode.{low, high, dimensionRecord, narrowRecord, wideRecord, boundRecord, closeRecord};
+ghost use Rattle.nest.specs.Encode.{low, high, dimension_record, narrow_record, wide_record, bound_record, close_record};
 
 fn low(v: u64) -> u8
     ensures { result ≡ low v }
@@ -15,7 +15,7 @@ fn high(v: u64) -> u8
 }
 
 pub fn dimension_record(length: u64, tile: u64, count: u64) -> [u8; 16]
-    ensures { result ≡ dimensionRecord length tile count }
+    ensures { result ≡ dimension_record length tile count }
 {
     [
         1,
@@ -39,7 +39,7 @@ pub fn dimension_record(length: u64, tile: u64, count: u64) -> [u8; 16]
 
 // A distance of kind 2: a byte a component.
 pub fn narrow_record(d1: u64, d2: u64, d3: u64, d4: u64, weight: u64) -> [u8; 16]
-    ensures { result ≡ narrowRecord d1 d2 d3 d4 weight }
+    ensures { result ≡ narrow_record d1 d2 d3 d4 weight }
 {
     let small = low(weight);
     let large = high(weight);
@@ -65,7 +65,7 @@ pub fn narrow_record(d1: u64, d2: u64, d3: u64, d4: u64, weight: u64) -> [u8; 16
 
 // A distance of kind 4: two bytes a component.
 pub fn wide_record(d1: u64, d2: u64, d3: u64, d4: u64, weight: u64) -> [u8; 16]
-    ensures { result ≡ wideRecord d1 d2 d3 d4 weight }
+    ensures { result ≡ wide_record d1 d2 d3 d4 weight }
 {
     [
         4,
@@ -89,7 +89,7 @@ pub fn wide_record(d1: u64, d2: u64, d3: u64, d4: u64, weight: u64) -> [u8; 16]
 
 // A bound, of slope + 1 and offset + 32,768.
 pub fn bound_record(side: u64, dimension: u64, earlier: u64, slope: u64, offset: u64) -> [u8; 16]
-    ensures { result ≡ boundRecord side dimension earlier slope offset }
+    ensures { result ≡ bound_record side dimension earlier slope offset }
 {
     let signed = offset % 65536 + 32768;
     [
@@ -113,7 +113,7 @@ pub fn bound_record(side: u64, dimension: u64, earlier: u64, slope: u64, offset:
 }
 
 pub fn close_record(shift: u64, boundary: u64) -> [u8; 16]
-    ensures { result ≡ closeRecord shift boundary }
+    ensures { result ≡ close_record shift boundary }
 {
     let top = boundary / 65536;
     [

@@ -3,8 +3,8 @@
 use native.Mathlib.Omega.{arith}
 use mathlib.Core.Path.{◌≡◌, ◌∙◌}
 use Rattle.bands.specs.lagged.Bands.{four}
-use Rattle.bands.proofs.lagged.Waves.{band-mixes}
-use Rattle.bands.proofs.Columns.{columns-fit, beside-stored}
+use Rattle.bands.proofs.lagged.Waves.{band_mixes}
+use Rattle.bands.proofs.Columns.{columns_fit, beside_stored}
 use lib.ListN.{length}
 use borrow.Author.Rules.{rules}
 use Rattle.bands.proofs.beside.Statement.{statement}
@@ -52,7 +52,7 @@ edge-row-requires : tie.Need-edge-row-requires
 edge-row-requires c κs =
     let s = c.before.before.before in
     let p = s.requires.1 in
-    band-mixes _ p.0.0 (four s.args.a s.args.b s.args.c s.args.d) _ _ _ _ _ _ p.0.1.0 0 _ (omega arith)
+    band_mixes _ p.0.0 (four s.args.a s.args.b s.args.c s.args.d) _ _ _ _ _ _ p.0.1.0 0 _ (omega arith)
     (omega (arith, p.0.1.0.low)) _ _ p.0.1.1.0 p.0.1.1.1
 
 edge-row-requires-2 : tie.Need-edge-row-requires-2
@@ -60,7 +60,7 @@ edge-row-requires-2 c κs =
     let h = c.before.before.before in
     let s = s1 h in
     let p = s.pre.1 in
-    band-mixes _ p.0.0 (four s.args.a s.args.b s.args.c s.args.d) _ _ _ _ _ _ p.0.1.0 1 _ (omega arith)
+    band_mixes _ p.0.0 (four s.args.a s.args.b s.args.c s.args.d) _ _ _ _ _ _ p.0.1.0 1 _ (omega arith)
     (omega (arith, p.0.1.0.low)) _ _ p.0.1.1.0 (k1 h ∙ p.0.1.1.1)
 
 edge-row-requires-3 : tie.Need-edge-row-requires-3
@@ -68,7 +68,7 @@ edge-row-requires-3 c κs =
     let h = c.before.before.before in
     let s = s2 h in
     let p = s.pre.1 in
-    band-mixes _ p.0.0 (four s.args.a s.args.b s.args.c s.args.d) _ _ _ _ _ _ p.0.1.0 2 _ (omega arith)
+    band_mixes _ p.0.0 (four s.args.a s.args.b s.args.c s.args.d) _ _ _ _ _ _ p.0.1.0 2 _ (omega arith)
     (omega (arith, p.0.1.0.low)) _ _ p.0.1.1.0 (k2 h ∙ p.0.1.1.1)
 
 edge-row-requires-4 : tie.Need-edge-row-requires-4
@@ -76,7 +76,7 @@ edge-row-requires-4 c κs =
     let h = c.before.before.before in
     let s = s3 h in
     let p = s.pre.1 in
-    band-mixes _ p.0.0 (four s.args.a s.args.b s.args.c s.args.d) _ _ _ _ _ _ p.0.1.0 3 _ (omega arith)
+    band_mixes _ p.0.0 (four s.args.a s.args.b s.args.c s.args.d) _ _ _ _ _ _ p.0.1.0 3 _ (omega arith)
     (omega (arith, p.0.1.0.low)) _ _ p.0.1.1.0 (k3 h ∙ p.0.1.1.1)
 
 sub-lag : tie.Need-overflow-sub-lag
@@ -95,14 +95,14 @@ add-wave : tie.Need-overflow-add-wave
 add-wave c =
     let h = c.before.before.before in
     let p = (s4 h).requires.1 in
-    omega (arith, (p.0.1.0.each 0 (omega arith)).low, p.0.1.0.low, p.0.0.cells-most)
+    omega (arith, (p.0.1.0.each 0 (omega arith)).low, p.0.1.0.low, p.0.0.cells_most)
 
 wave-requires : tie.Need-wave-requires
 wave-requires c κs =
     let h = c.before.before.before in
     let s = s4 h in
     let p = s.pre.1 in
-    columns-fit _ p.0.0 (four s.args.a s.args.b s.args.c s.args.d) _ _ _ _ _ _ p.0.1.0 p.1 _ _ p.0.1.1.0 (k4 h ∙ p.0.1.1.1)
+    columns_fit _ p.0.0 (four s.args.a s.args.b s.args.c s.args.d) _ _ _ _ _ _ p.0.1.0 p.1 _ _ p.0.1.1.0 (k4 h ∙ p.0.1.1.1)
 
 same_length : tie.Need-same-length
 same_length c = search rules
@@ -116,7 +116,7 @@ returns c =
     let h1 = h2.before.before.before.before in
     let s = h1.before.before.before.before in
     λ x p.
-    beside-stored _ p.0.0 (four s.args.a s.args.b s.args.c s.args.d) _ _ _ _ _ _ p.0.1.0 _ _ p.0.1.1.1 p.1 _ _ _ _ _
+    beside_stored _ p.0.0 (four s.args.a s.args.b s.args.c s.args.d) _ _ _ _ _ _ p.0.1.0 _ _ p.0.1.1.1 p.1 _ _ _ _ _
     h1.edge_row.ensures h2.edge-row2.ensures h3.edge-row3.ensures h4.edge-row4.ensures h5.wave.ensures
 
 pub beside-spec : {M : Type 1} → statement M

@@ -5,16 +5,16 @@ use Rattle.std.specs.Prelude.{ℕ, zero, suc, ◌+◌, ◌-◌, ◌≤◌, ◌<�
 use Rattle.nest.specs.declared.Nest.{Nest}
 use Rattle.nest.specs.Accepted.{Accepted}
 use Rattle.nest.specs.Nest.{cells}
-use Rattle.nest.specs.Places.{cellPlace}
-use Rattle.plan.specs.Geometry.{hasRead, readAt}
+use Rattle.nest.specs.Places.{cell_place}
+use Rattle.plan.specs.Geometry.{has_read, read_at}
 use Rattle.layout.specs.CellRows.{row_of}
 
 -- where the distances read at cell c, whose last component is a
 pub record Reads (x : Nest) (c a : ℕ) (first back weights : List ℕ) : Type 0 where
   pub low : c < cells x
-  pub weights-are : weights ≡ x.weights
-  pub firsts : (e : ℕ) → e < x.distances → leb (get_or first e 0) a ≡ hasRead x c e
-  pub backs : (e : ℕ) → e < x.distances → hasRead x c e ≡ true → get_or back e 0 + readAt x c e ≡ c
+  pub weights_are : weights ≡ x.weights
+  pub firsts : (e : ℕ) → e < x.distances → leb (get_or first e 0) a ≡ has_read x c e
+  pub backs : (e : ℕ) → e < x.distances → has_read x c e ≡ true → get_or back e 0 + read_at x c e ≡ c
 
 -- and at the n cells of a row from there on
 pub record InRow (x : Nest) (c a n : ℕ) (first back weights : List ℕ) : Type 0 where
@@ -34,7 +34,7 @@ rows_of c w (suc n) = rows_of c w n ++ row_of (c n) w
 pub record Band (x : Nest) (c : ℕ → ℕ) (w n : ℕ) : Type 0 where
   pub low : (k y : ℕ) → k < n → y < w → c k + y < cells x
   pub apart : (j k : ℕ) → j < k → k < n → c j + w ≤ c k
-  pub column : (k y : ℕ) → k < n → y < w → cellPlace x (c k + y) (x.dimensions - 1) ≡ cellPlace x (c 0) (x.dimensions - 1) + y
+  pub column : (k y : ℕ) → k < n → y < w → cell_place x (c k + y) (x.dimensions - 1) ≡ cell_place x (c 0) (x.dimensions - 1) + y
 
 -- each number as far from the one before it as the second from the first
 abbrev pub Spaced : ℕ → ℕ → ℕ → ℕ → Type 0

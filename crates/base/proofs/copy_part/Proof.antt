@@ -12,7 +12,7 @@ abbrev decreases-loop : tie.decreases-loop
 decreases-loop to₀ from at first n y₀ to y = n - y
 
 loop-holds : tie.Need-loop-init invariant-loop decreases-loop
-loop-holds c = L.copies-none _ _ _ _ _
+loop-holds c = L.copies_none _ _ _ _ _
 
 add-to : tie.Need-overflow-add-to invariant-loop decreases-loop
 add-to c =
@@ -44,7 +44,7 @@ mul-to-2 c =
 slice-write-to : tie.Need-slice-write-to invariant-loop decreases-loop
 slice-write-to c =
     let turn = c.before in
-    omega (arith, turn.loop-test.true, turn.before.before.requires.0, L.copies-long _ _ _ _ _ turn.before.before.requires.0 turn.before.before.requires.1 _ _ turn.before.loop.invariant)
+    omega (arith, turn.loop-test.true, turn.before.before.requires.0, L.copies_long _ _ _ _ _ turn.before.before.requires.0 turn.before.before.requires.1 _ _ turn.before.loop.invariant)
 
 add-y : tie.Need-overflow-add-y invariant-loop decreases-loop
 add-y c =
@@ -58,13 +58,13 @@ loop-less c = omega (arith, c.before.loop-test.true)
 loop-again : tie.Need-loop-preserved invariant-loop decreases-loop
 loop-again c =
     let turn = c.before in
-    L.copies-more _ _ _ _ _ turn.before.before.requires.0 turn.before.before.requires.1 _ _ turn.before.loop.invariant turn.loop-test.true
+    L.copies_more _ _ _ _ _ turn.before.before.requires.0 turn.before.before.requires.1 _ _ turn.before.loop.invariant turn.loop-test.true
 
 same_length : tie.Need-same-length invariant-loop decreases-loop
-same_length c = L.copies-long _ _ _ _ _ c.before.before.requires.0 c.before.before.requires.1 _ _ c.before.loop.invariant
+same_length c = L.copies_long _ _ _ _ _ c.before.before.requires.0 c.before.before.requires.1 _ _ c.before.loop.invariant
 
 returns : tie.Need-returns invariant-loop decreases-loop
-returns c = L.copies-end _ _ _ _ _ c.before.before.requires.0 c.before.before.requires.1 _ _ c.before.loop.invariant c.loop-test.false
+returns c = L.copies_end _ _ _ _ _ c.before.before.requires.0 c.before.before.requires.1 _ _ c.before.loop.invariant c.loop-test.false
 
 pub copy-part-spec : {M : Type 1} → statement M
 copy-part-spec =

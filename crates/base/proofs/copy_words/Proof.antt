@@ -15,7 +15,7 @@ abbrev decreases-loop : tie.decreases-loop
 decreases-loop to₀ words i₀ to i = length to₀ - i
 
 loop-holds : tie.Need-loop-init invariant-loop decreases-loop
-loop-holds c = stored.store-start (λ j. get_or c.args.words.now j 0) c.args.to.now
+loop-holds c = stored.store_start (λ j. get_or c.args.words.now j 0) c.args.to.now
 
 mul-to : tie.Need-overflow-mul-to invariant-loop decreases-loop
 mul-to c = omega arith
@@ -39,7 +39,7 @@ loop-again : tie.Need-loop-preserved invariant-loop decreases-loop
 loop-again c =
     let S = c.before.before.before in
     let loop = c.before.before.loop in
-    stored.store-next (λ j. get_or S.args.words.now j 0) S.args.to.now loop.to loop.i _ loop.invariant
+    stored.store_next (λ j. get_or S.args.words.now j 0) S.args.to.now loop.to loop.i _ loop.invariant
     (omega (arith, loop.invariant.long, c.before.loop-test.true)) refl
 
 same_length : tie.Need-same-length invariant-loop decreases-loop
@@ -49,7 +49,7 @@ returns : tie.Need-returns invariant-loop decreases-loop
 returns c =
     let S = c.before.before in
     let loop = c.before.loop in
-    stored.stored-list S.args.to.now S.args.words.now loop.to loop.i loop.invariant S.requires c.loop-test.false
+    stored.stored_list S.args.to.now S.args.words.now loop.to loop.i loop.invariant S.requires c.loop-test.false
 
 pub copy-words-spec : {M : Type 1} → statement M
 copy-words-spec =

@@ -38,7 +38,7 @@ returns-2 c =
     let at-loop = at-loop-test.before in
     let start = at-loop.before.before in
     let A = start.args in
-    laws.words-differ A.a.now A.b.now at-loop.loop.i at-loop-test.loop-test.true c.if2.true
+    laws.words_differ A.a.now A.b.now at-loop.loop.i at-loop-test.loop-test.true c.if2.true
 
 add-i : tie.Need-overflow-add-i invariant-loop decreases-loop
 add-i c = search rules

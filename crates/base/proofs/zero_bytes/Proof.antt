@@ -14,7 +14,7 @@ abbrev decreases-loop : tie.decreases-loop
 decreases-loop bytes₀ i₀ bytes i = length bytes₀ - i
 
 loop-holds : tie.Need-loop-init invariant-loop decreases-loop
-loop-holds c = stored.store-start (λ j. 0) c.args.bytes.now
+loop-holds c = stored.store_start (λ j. 0) c.args.bytes.now
 
 slice-write-bytes : tie.Need-slice-write-bytes invariant-loop decreases-loop
 slice-write-bytes c = omega (arith, c.before.loop.invariant.long)
@@ -27,7 +27,7 @@ loop-less c = omega (arith, c.before.loop.invariant.long)
 
 loop-again : tie.Need-loop-preserved invariant-loop decreases-loop
 loop-again c =
-    stored.store-next (λ j. 0) c.before.before.args.bytes.now c.before.loop.bytes c.before.loop.i 0 c.before.loop.invariant
+    stored.store_next (λ j. 0) c.before.before.args.bytes.now c.before.loop.bytes c.before.loop.i 0 c.before.loop.invariant
     (omega (arith, c.before.loop.invariant.long, c.loop-test.true)) refl
 
 same_length : tie.Need-same-length invariant-loop decreases-loop

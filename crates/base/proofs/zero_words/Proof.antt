@@ -14,7 +14,7 @@ abbrev decreases-loop : tie.decreases-loop
 decreases-loop words₀ i₀ words i = length words₀ - i
 
 loop-holds : tie.Need-loop-init invariant-loop decreases-loop
-loop-holds c = stored.store-start (λ j. 0) c.args.words.now
+loop-holds c = stored.store_start (λ j. 0) c.args.words.now
 
 mul_words : tie.Need-overflow-mul-words invariant-loop decreases-loop
 mul_words c = omega arith
@@ -30,7 +30,7 @@ loop-less c = omega (arith, c.before.loop.invariant.long)
 
 loop-again : tie.Need-loop-preserved invariant-loop decreases-loop
 loop-again c =
-    stored.store-next (λ j. 0) c.before.before.args.words.now c.before.loop.words c.before.loop.i 0 c.before.loop.invariant
+    stored.store_next (λ j. 0) c.before.before.args.words.now c.before.loop.words c.before.loop.i 0 c.before.loop.invariant
     (omega (arith, c.before.loop.invariant.long, c.loop-test.true)) refl
 
 same_length : tie.Need-same-length invariant-loop decreases-loop

@@ -4,7 +4,7 @@ use mathlib.Core.Path.{sym, ap, ◌∙◌}
 use native.Mathlib.Omega.{arith}
 use Rattle.nest.proofs.Answers.{accepted-read}
 use Rattle.plan.specs.Shaped.{plan_of}
-use Rattle.calendar.specs.Windows.{momentOf, faultyFor}
+use Rattle.calendar.specs.Windows.{moment_of, faulty_for}
 use Rattle.engine.proofs.Lines as plain
 use Rattle.engine.proofs.Lines.{Opened}
 use Rattle.calendar_calls.proofs.Lines as lines
@@ -21,7 +21,7 @@ untold-requires c κs = search rules
 returns : tie.Need-returns
 returns c =
     let A = c.before.before.before.before.before.args in
-    lines.refuses _ _ _ _ c.untold.ensures (lines.ask-read A.encoded.now (momentOf A.hours.now A.minute) A.processor
+    lines.refuses _ _ _ _ c.untold.ensures (lines.ask_read A.encoded.now (moment_of A.hours.now A.minute) A.processor
     c.before.before.read.result.number (plain.read_number A.encoded.now c.before.before.read.result
     c.before.before.read.ensures.0) c.before.if1.true)
 
@@ -43,9 +43,9 @@ returns-2 c =
     let A = start.args in
     let sized = c.before.before.sizes-of.ensures.0 in
     let p = plan_of c.before.before.sizes-of.result.route at_read.read.result.nest in
-    let op : Opened A.encoded.now 0 p = plain.opened-direct A.encoded.now at_read.read.result at_read.read.ensures.0 at-if1.if1.false
+    let op : Opened A.encoded.now 0 p = plain.opened_direct A.encoded.now at_read.read.result at_read.read.ensures.0 at-if1.if1.false
     c.before.before.sizes-of.ensures.1 in
-    lines.refuses _ 9 _ _ c.untold2.ensures (lines.ask-nine A.encoded.now (momentOf A.hours.now A.minute) A.processor p op
+    lines.refuses _ 9 _ _ c.untold2.ensures (lines.ask_nine A.encoded.now (moment_of A.hours.now A.minute) A.processor p op
     (λ q. c.before.if2.true (q ∙ ap (λ (n : ℕ). 28 * n) (sym sized.processors))))
 
 faulty-requires : tie.Need-faulty-requires
@@ -64,11 +64,11 @@ returns-3 c =
     let A = start.args in
     let sized = at-sizes-of.sizes-of.ensures.0 in
     let p = plan_of at-sizes-of.sizes-of.result.route at_read.read.result.nest in
-    let op : Opened A.encoded.now 0 p = plain.opened-direct A.encoded.now at_read.read.result at_read.read.ensures.0 at-if1.if1.false
+    let op : Opened A.encoded.now 0 p = plain.opened_direct A.encoded.now at_read.read.result at_read.read.ensures.0 at-if1.if1.false
     at-sizes-of.sizes-of.ensures.1 in
     let long = at-if2.if2.false ∙ ap (λ (n : ℕ). 28 * n) sized.processors in
-    let calendar = ap (λ (n : ℕ). faultyFor n (momentOf A.hours.now A.minute)) (sym sized.processors) ∙ sym c.before.before.faulty.ensures in
-    lines.refuses _ 25 _ _ c.untold3.ensures (lines.ask-faulty A.encoded.now (momentOf A.hours.now A.minute) A.processor p op long
+    let calendar = ap (λ (n : ℕ). faulty_for n (moment_of A.hours.now A.minute)) (sym sized.processors) ∙ sym c.before.before.faulty.ensures in
+    lines.refuses _ 25 _ _ c.untold3.ensures (lines.ask_faulty A.encoded.now (moment_of A.hours.now A.minute) A.processor p op long
     (calendar ∙ c.before.if3.true))
 
 untold-requires-4 : tie.Need-untold-requires-4
@@ -85,11 +85,11 @@ returns-4 c =
     let A = start.args in
     let sized = at-sizes-of.sizes-of.ensures.0 in
     let p = plan_of at-sizes-of.sizes-of.result.route at_read.read.result.nest in
-    let op : Opened A.encoded.now 0 p = plain.opened-direct A.encoded.now at_read.read.result at_read.read.ensures.0 at-if1.if1.false
+    let op : Opened A.encoded.now 0 p = plain.opened_direct A.encoded.now at_read.read.result at_read.read.ensures.0 at-if1.if1.false
     at-sizes-of.sizes-of.ensures.1 in
     let long = at-if2.if2.false ∙ ap (λ (n : ℕ). 28 * n) sized.processors in
-    let calendar = ap (λ (n : ℕ). faultyFor n (momentOf A.hours.now A.minute)) (sym sized.processors) ∙ sym at-faulty.faulty.ensures in
-    lines.refuses _ 11 _ _ c.untold4.ensures (lines.ask-beyond A.encoded.now (momentOf A.hours.now A.minute) A.processor p op long
+    let calendar = ap (λ (n : ℕ). faulty_for n (moment_of A.hours.now A.minute)) (sym sized.processors) ∙ sym at-faulty.faulty.ensures in
+    lines.refuses _ 11 _ _ c.untold4.ensures (lines.ask_beyond A.encoded.now (moment_of A.hours.now A.minute) A.processor p op long
     (calendar ∙ c.before.before.if3.false) (omega (arith, sized.processors, c.before.if4.true)))
 
 minutes-requires : tie.Need-minutes-requires
@@ -102,13 +102,13 @@ minutes-requires c κs =
     let A = start.args in
     let sized = at-sizes-of.sizes-of.ensures.0 in
     let p = plan_of at-sizes-of.sizes-of.result.route at_read.read.result.nest in
-    let op : Opened A.encoded.now 0 p = plain.opened-direct A.encoded.now at_read.read.result at_read.read.ensures.0 at-if1.if1.false
+    let op : Opened A.encoded.now 0 p = plain.opened_direct A.encoded.now at_read.read.result at_read.read.ensures.0 at-if1.if1.false
     at-sizes-of.sizes-of.ensures.1 in
-    let calendar = ap (λ (n : ℕ). faultyFor n (momentOf A.hours.now A.minute)) (sym sized.processors) ∙ sym c.before.before.faulty.ensures in
-    lines.may-ask at-sizes-of.sizes-of.result.processors A.hours.now A.minute A.processor (omega (
+    let calendar = ap (λ (n : ℕ). faulty_for n (moment_of A.hours.now A.minute)) (sym sized.processors) ∙ sym c.before.before.faulty.ensures in
+    lines.may_ask at-sizes-of.sizes-of.result.processors A.hours.now A.minute A.processor (omega (
       arith,
       sized.processors,
-      sized.accepted.processors-most,
+      sized.accepted.processors_most,
     )) at-if2.if2.false (sym c.before.before.faulty.ensures ∙ c.before.if3.false) c.if4.false
 
 returns-5 : tie.Need-returns-5
@@ -122,11 +122,11 @@ returns-5 c =
     let A = start.args in
     let sized = at-sizes-of.sizes-of.ensures.0 in
     let p = plan_of at-sizes-of.sizes-of.result.route at_read.read.result.nest in
-    let op : Opened A.encoded.now 0 p = plain.opened-direct A.encoded.now at_read.read.result at_read.read.ensures.0 at-if1.if1.false
+    let op : Opened A.encoded.now 0 p = plain.opened_direct A.encoded.now at_read.read.result at_read.read.ensures.0 at-if1.if1.false
     at-sizes-of.sizes-of.ensures.1 in
     let long = at-if2.if2.false ∙ ap (λ (n : ℕ). 28 * n) sized.processors in
-    let calendar = ap (λ (n : ℕ). faultyFor n (momentOf A.hours.now A.minute)) (sym sized.processors) ∙ sym at-faulty.faulty.ensures in
-    lines.ask-told A.encoded.now (momentOf A.hours.now A.minute) A.processor p op long (calendar ∙ c.before.before.if3.false)
+    let calendar = ap (λ (n : ℕ). faulty_for n (moment_of A.hours.now A.minute)) (sym sized.processors) ∙ sym at-faulty.faulty.ensures in
+    lines.ask_told A.encoded.now (moment_of A.hours.now A.minute) A.processor p op long (calendar ∙ c.before.before.if3.false)
     (omega (arith, sized.processors, c.before.if4.false)) _ c.minutes.ensures
 
 pub opens-spec : {M : Type 1} → statement M

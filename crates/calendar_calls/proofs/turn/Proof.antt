@@ -1,7 +1,7 @@
 -- The call without the record's store, and the records as it says.
 use mathlib.Core.Path.{sym, ap, ◌∙◌}
 use Rattle.machine.specs.Machine.{State, state_of, Answered}
-use Rattle.calendar.specs.Windows.{momentOf}
+use Rattle.calendar.specs.Windows.{moment_of}
 use Rattle.calendar_calls.proofs.Lines as lines
 use borrow.Author.Rules.{rules}
 use Rattle.calendar_calls.proofs.turn.Statement.{statement}
@@ -19,7 +19,7 @@ store-after-requires c κs =
     let at-flat-of = at_turn.before.before in
     let A = at-flat-of.before.before.before.before.before.before.before.before.before.before.before.args in
     let done = at_turn.turn.ensures A.progress.now at-flat-of.flat-of.ensures in
-    λ z. lines.turn_inside A.encoded.now A.route A.source.now (momentOf A.hours.now A.minute)
+    λ z. lines.turn_inside A.encoded.now A.route A.source.now (moment_of A.hours.now A.minute)
     (state_of A.memories.now A.buffer.now A.progress.now A.status.now) A.processor
     (ap (λ (x : Answered State). x.number) (sym done) ∙ z)
 
@@ -41,7 +41,7 @@ returns c =
     let at-flat-of = at_turn.before.before in
     let A = at-flat-of.before.before.before.before.before.before.before.before.before.before.before.args in
     let done = at_turn.turn.ensures A.progress.now at-flat-of.flat-of.ensures in
-    lines.turn-stored at_turn.turn.result _ _ A.progress.now _ A.processor _ done _ c.before.before.store-after.ensures
+    lines.turn_stored at_turn.turn.result _ _ A.progress.now _ A.processor _ done _ c.before.before.store-after.ensures
 
 pub turn_spec : {M : Type 1} → statement M
 turn_spec =

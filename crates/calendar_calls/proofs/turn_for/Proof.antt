@@ -1,8 +1,8 @@
 -- The call without the record's store, and the records as it says.
 use mathlib.Core.Path.{sym, ap, ◌∙◌}
 use Rattle.machine.specs.Machine.{state_of, Answered}
-use Rattle.tenants.specs.Tenants.{TenantAreas, tenantAreas}
-use Rattle.calendar.specs.Windows.{momentOf}
+use Rattle.tenants.specs.Tenants.{TenantAreas, tenant_areas}
+use Rattle.calendar.specs.Windows.{moment_of}
 use Rattle.sharing.proofs.Starts as starts
 use Rattle.calendar_calls.proofs.Lines as lines
 use borrow.Author.Rules.{rules}
@@ -25,8 +25,8 @@ store-after-requires c κs =
     let at-flat-of = at-flat-of2.before.before.before in
     let A = at-flat-of.before.before.before.before.before.before.before.before.before.before.before.before.before.args in
     let done = at-turn-for.turn-for.ensures A.progress.now A.theirs.now at-flat-of.flat-of.ensures at-flat-of2.flat-of2.ensures in
-    λ z. lines.turn-inside-for A.encoded.now A.route A.source.now A.tenant (momentOf A.hours.now A.minute)
-    (tenantAreas (state_of A.memories.now A.buffer.now A.progress.now A.status.now) A.engaged.now) A.theirs.now A.processor
+    λ z. lines.turn_inside_for A.encoded.now A.route A.source.now A.tenant (moment_of A.hours.now A.minute)
+    (tenant_areas (state_of A.memories.now A.buffer.now A.progress.now A.status.now) A.engaged.now) A.theirs.now A.processor
     (ap (λ (x : Answered TenantAreas). x.number) (sym done) ∙ z)
 
 same_length : tie.Need-same-length
@@ -51,7 +51,7 @@ returns c =
     let at-flat-of = at-flat-of2.before.before.before in
     let A = at-flat-of.before.before.before.before.before.before.before.before.before.before.before.before.before.args in
     let done = at-turn-for.turn-for.ensures A.progress.now A.theirs.now at-flat-of.flat-of.ensures at-flat-of2.flat-of2.ensures in
-    starts.turn-stored at-turn-for.turn-for.result _ _ A.progress.now _ _ A.processor _ done _ c.before.before.store-after.ensures
+    starts.turn_stored at-turn-for.turn-for.result _ _ A.progress.now _ _ A.processor _ done _ c.before.before.store-after.ensures
 
 pub turn-for-spec : {M : Type 1} → statement M
 turn-for-spec =

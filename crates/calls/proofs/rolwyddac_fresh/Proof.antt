@@ -33,28 +33,28 @@ use denote.Triple.Clauses.{ensured}
 use denote.Triple.Table.{entered, cited}
 use denote.Triple.Walked.{says, Stays, walk_of, ends_at, walked, walk_Meets}
 use Rattle.machine.specs.Machine.{state_of}
-use Rattle.engine.specs.Calls.{answer, freshCall}
-use Rattle.records.specs.Records.{flatWords}
+use Rattle.engine.specs.Calls.{answer, fresh_call}
+use Rattle.records.specs.Records.{flat_words}
 use Rattle.records.specs.declared.Progress.{Progress}
-use Rattle.records.proofs.Laws.{words-fit}
-use Rattle.records.proofs.Words.{length-words}
+use Rattle.records.proofs.Laws.{words_fit}
+use Rattle.records.proofs.Words.{length_words}
 use Rattle.records.proofs.Locals.{rooms, holds, free_all}
 use Rattle.records.proofs.clear.Symbol as clear-def
 use Rattle.records.proofs.clear.Symbol.{name as #records·clear}
 use Rattle.records.proofs.clear.Met as clear-thm
-use Rattle.engine.specs.Given.{zerosAfter}
-use Rattle.engine.proofs.Reading.{cleared-after}
+use Rattle.engine.specs.Given.{zeros_after}
+use Rattle.engine.proofs.Reading.{cleared_after}
 use Rattle.engine.specs.contracts.core.fresh as words
 use Rattle.engine.proofs.core.fresh.Symbol as words-def
 use Rattle.engine.proofs.core.fresh.Symbol.{name as #engine·core·fresh}
 use Rattle.engine.proofs.core.fresh.Met as words-thm
 use Rattle.calls.proofs.Walking.{R, word, ref, bytes, words32, records, slice}
 use Rattle.calls.proofs.Params.{Param, number32, number64, reads, changes, Lent, stays, go, spells, tell, values, row, tokens, owning, slices}
-use Rattle.calls.proofs.Params.{had, env, held, takes-in, comes_back}
-use Rattle.calls.proofs.Lending.{lends-on}
+use Rattle.calls.proofs.Params.{had, env, held, takes_in, comes_back}
+use Rattle.calls.proofs.Lending.{lends_on}
 use Rattle.calls.proofs.Orders.{forgets, sorts, fronts, turned}
 use Rattle.calls.proofs.Entering.{allots}
-use Rattle.calls.proofs.Walking.{local, sepAll, fsepAll, splits, joins, fsplits, fjoins, Clear, clears-at}
+use Rattle.calls.proofs.Walking.{local, sep_all, fsep_all, splits, joins, fsplits, fjoins, Clear, clears_at}
 use Rattle.calls.specs.contracts.rolwyddac_fresh.Key.{name as #calls·fresh}
 use Rattle.calls.specs.contracts.rolwyddac_fresh as fresh
 use Rattle.calls.proofs.rolwyddac_fresh.Statement as stated
@@ -66,8 +66,8 @@ abbrev params : List (Param 6)
 params =
     reads 0 tt u8 ∷ number32 ∷ reads 1 tt u32 ∷ changes 2 tt u32 ∷ changes 3 tt u32 ∷ changes 4 tt R ∷ changes 5 tt u8 ∷ []
 
-abbrev in-words : List (Param 5)
-in-words =
+abbrev in_words_lem : List (Param 5)
+in_words_lem =
     reads 0 tt u8 ∷ number32 ∷ reads 1 tt u32 ∷ changes 2 tt u32 ∷ changes 3 tt u32 ∷ number64 ∷ changes 4 tt u8 ∷ []
 
 abbrev stayed : Stays (fresh.ended).signature.params (fresh.ended).kept
@@ -105,7 +105,7 @@ module _ {M : Type 1} {𝓤 : Ura M} (𝓛 : Logic 𝓤) (mem : Memory → SProp
   abbrev given : Lent κs params
   given = (x0, (route, (x1, (x2, (x3, (x4, (x5, tt)))))))
 
-  abbrev given-words : Lent κw in-words
+  abbrev given-words : Lent κw in_words_lem
   given-words = (x0, (route, (x1, (x2, (x3, (3 * length x4.now, (x5, tt)))))))
 
   abbrev entry : (walk_of 𝓛 fresh.ended stayed (fresh.clauses 𝓛 mem run)).Ghost
@@ -121,18 +121,18 @@ module _ {M : Type 1} {𝓤 : Ura M} (𝓛 : Logic 𝓤) (mem : Memory → SProp
   Lives = tokens 𝓤 5 κw qw
 
   abbrev to-words : (Words 𝓛 mem run).Ghost
-  to-words = ((κw, qw, tt, given-words, values in-words κw given-words), tt)
+  to-words = ((κw, qw, tt, given-words, values in_words_lem κw given-words), tt)
 
-  goes-words : ent 𝓤 (⋆ 𝓛 (sepAll 𝓤 Lives ∷ ‵ (fsepAll (owning in-words κw given-words)) ∷ [])) ((Words 𝓛 mem run).pre to-words)
-  goes-words = qed 𝓛 (sepAll 𝓤 Lives ∷ ‵ (fsepAll (owning in-words κw given-words)) ∷ []) ∵ join ! $ frame ! $ done !
+  goes-words : ent 𝓤 (⋆ 𝓛 (sep_all 𝓤 Lives ∷ ‵ (fsep_all (owning in_words_lem κw given-words)) ∷ [])) ((Words 𝓛 mem run).pre to-words)
+  goes-words = qed 𝓛 (sep_all 𝓤 Lives ∷ ‵ (fsep_all (owning in_words_lem κw given-words)) ∷ []) ∵ join ! $ frame ! $ done !
 
   exits : (r : ℕ) (y2 : List ℕ) (y3 : List ℕ) (y4 : List Progress) (y5 : List ℕ) → r < 2 ^ 32
       → length y2 ≡ length x2.now → length y3 ≡ length x3.now → length y4 ≡ length x4.now → length y5 ≡ length x5.now
-      → answer r (state_of y2 y3 (flatWords y4) y5) ≡ freshCall x0.now route x1.now (state_of x2.now x3.now (flatWords x4.now) x5.now)
-      → ent 𝓤 (⋆ 𝓛 (sepAll 𝓤 Lives ∷ ‵ (flft κ4 q4) ∷ ‵ (finally u32 x2.name y2) ∷ ‵ (finally u32 x3.name y3) ∷ ‵ (finally R x4.name y4)
+      → answer r (state_of y2 y3 (flat_words y4) y5) ≡ fresh_call x0.now route x1.now (state_of x2.now x3.now (flat_words x4.now) x5.now)
+      → ent 𝓤 (⋆ 𝓛 (sep_all 𝓤 Lives ∷ ‵ (flft κ4 q4) ∷ ‵ (finally u32 x2.name y2) ∷ ‵ (finally u32 x3.name y3) ∷ ‵ (finally R x4.name y4)
       ∷ ‵ (finally u8 x5.name y5) ∷ [])) (Post (vint w32 r))
   exits r y2 y3 y4 y5 fits e2 e3 e4 e5 said =
-      qed 𝓛 (sepAll 𝓤 Lives ∷ ‵ (flft κ4 q4) ∷ ‵ (finally u32 x2.name y2) ∷ ‵ (finally u32 x3.name y3) ∷ ‵ (finally R x4.name y4)
+      qed 𝓛 (sep_all 𝓤 Lives ∷ ‵ (flft κ4 q4) ∷ ‵ (finally u32 x2.name y2) ∷ ‵ (finally u32 x3.name y3) ∷ ‵ (finally R x4.name y4)
       ∷ ‵ (finally u8 x5.name y5) ∷ []) ∵
       suffices ! _ (ends_at 𝓛 fresh.ended stayed (fresh.clauses 𝓛 mem run) entry (vint w32 r) r (tt, (tt, (tt, (y2, (y3, (y4, (y5, tt)))))))
       (tt, (tt, (tt, (e2, (e3, (e4, (e5, tt)))))))) $ says ! said $
@@ -143,7 +143,7 @@ module _ {M : Type 1} {𝓤 : Ura M} (𝓛 : Logic 𝓤) (mem : Memory → SProp
 
   -- what the call over the other areas says, for these words of records
   abbrev Said : ℕ → List ℕ → List ℕ → List ℕ → List ℕ → Type 0
-  Said r y2 y3 y5 l = answer r (state_of y2 y3 (zerosAfter l r) y5) ≡ freshCall x0.now route x1.now (state_of x2.now x3.now l x5.now)
+  Said r y2 y3 y5 l = answer r (state_of y2 y3 (zeros_after l r) y5) ≡ fresh_call x0.now route x1.now (state_of x2.now x3.now l x5.now)
 
   module _ (C : Calls 𝓤 H) (Λ : Loops 𝓤 H) (fm : FmC 𝓤 H 𝓛.laws C)
       (l0 l1 l2 l3 l4 l5 l6 l7 l8 l9 l10 l11 l12 l13 l14 l15 l16 l17 l18 l19 : ℕ) where
@@ -167,15 +167,15 @@ module _ {M : Type 1} {𝓤 : Ura M} (𝓛 : Logic 𝓤) (mem : Memory → SProp
     cleared : Triple 𝓤 (C #records·clear) (Clear 𝓛 mem run)
         → (r : ℕ) → r < 2 ^ 32 → (y2 y3 y5 : List ℕ)
         → length y2 ≡ length x2.now → length y3 ≡ length x3.now → length y5 ≡ length x5.now
-        → Said r y2 y3 y5 (flatWords x4.now)
-        → Sq 𝓛 (At (‵ (froom (ty_int w64) l8 0)) (‵ (fat full_share word l9 0 (vint w32 r))) (sepAll 𝓤 Lives ∷ ‵ (flft κ4 q4)
+        → Said r y2 y3 y5 (flat_words x4.now)
+        → Sq 𝓛 (At (‵ (froom (ty_int w64) l8 0)) (‵ (fat full_share word l9 0 (vint w32 r))) (sep_all 𝓤 Lives ∷ ‵ (flft κ4 q4)
         ∷ ‵ ((MutSlice (named 4) κ4 R).own_val x4 (slice x4 ∷ [])) ∷ ‵ (finally u32 x2.name y2) ∷ ‵ (finally u32 x3.name y3) ∷ ‵ (finally u8 x5.name y5)
         ∷ []))
         (runs C Λ En mir'.t-10 (at_ret En Post))
     cleared known₂ r fits y2 y3 y5 e2 e3 e5 said =
-        lends-on ! 26 2 0 refl refl refl refl refl (sub ! 0 refl (whole !)) (sub ! 1 refl (whole !)) (tt, tt) (tt, (tt, (record { fits = g4.0 }, tt))) $
+        lends_on ! 26 2 0 refl refl refl refl refl (sub ! 0 refl (whole !)) (sub ! 1 refl (whole !)) (tt, tt) (tt, (tt, (record { fits = g4.0 }, tt))) $
         move ! (41 ∷ 42 ∷ []) $
-        clears-at mem run κ4 q4 x4 ! fm known₂ (named 4) r fits (and_then ! (local ! 1 refl) (and_then ! (local ! 21 refl) (no_more !))) (λ y4 e4 put4.
+        clears_at mem run κ4 q4 x4 ! fm known₂ (named 4) r fits (and_then ! (local ! 1 refl) (and_then ! (local ! 21 refl) (no_more !))) (λ y4 e4 put4.
         land ! (from ! (stop !)) (init ! 6 refl (tt, tt)) $ forget ! 6 refl $
         assigns ! (of_opd ! (local ! 22 refl)) (from ! (stop !)) (init ! 40 refl (tt, record { fits = fits })) $
         returns ! (look ! 40 refl) $
@@ -183,7 +183,7 @@ module _ {M : Type 1} {𝓤 : Ura M} (𝓛 : Logic 𝓤) (mem : Memory → SProp
         forget ! 22 refl $ forgets ! 2 (((_, _), _) ∷ ((_, _), _) ∷ []) refl $
         sorts ! 2 40 (keep ! (2 ∷ 0 ∷ 3 ∷ 4 ∷ 1 ∷ 5 ∷ [])) $ turned ! 20 $
         free_all ! _ $ by ! (exits r y2 y3 y4 y5 fits e2 e3 e4 e5
-        (ap (λ (l : List ℕ). answer r (state_of y2 y3 l y5)) (ap (λ (l : List Progress). flatWords l) put4 ∙ cleared-after x4.now r) ∙ said)))
+        (ap (λ (l : List ℕ). answer r (state_of y2 y3 l y5)) (ap (λ (l : List Progress). flat_words l) put4 ∙ cleared_after x4.now r) ∙ said)))
 
     begun : Triple 𝓤 (C #engine·core·fresh) (Words 𝓛 mem run) → Triple 𝓤 (C #records·clear) (Clear 𝓛 mem run)
         → Sq 𝓛 (At (‵ (froom (ty_int w64) l8 0)) (‵ (froom word l9 0)) (Toks ++ slices 𝓤 params κs given))
@@ -191,19 +191,19 @@ module _ {M : Type 1} {𝓤 : Ura M} (𝓛 : Logic 𝓤) (mem : Memory → SProp
     begun known₁ known₂ =
         assigns ! (of_opd ! (load ! (from ! (fld ! refl (stop !))) (look_in ! 26 (sub ! 1 refl (whole !))))) (from ! (stop !))
         (init ! 18 refl (tt, record { fits = g4.0 })) $
-        assigns ! (bin ! (lit ! tt) (local ! 18 refl) (record { fits = words-fit (length x4.now) g4.1 })) (from ! (stop !))
-        (init ! 22 refl (tt, record { fits = words-fit (length x4.now) g4.1 })) $
+        assigns ! (bin ! (lit ! tt) (local ! 18 refl) (record { fits = words_fit (length x4.now) g4.1 })) (from ! (stop !))
+        (init ! 22 refl (tt, record { fits = words_fit (length x4.now) g4.1 })) $
         forget ! 18 refl $
-        lends-on ! 30 16 14 refl refl refl refl refl (sub ! 0 refl (whole !)) (sub ! 1 refl (whole !)) (tt, tt) (tt, (tt, (record { fits = g2.0 }, tt))) $
-        lends-on ! 28 12 10 refl refl refl refl refl (sub ! 0 refl (whole !)) (sub ! 1 refl (whole !)) (tt, tt) (tt, (tt, (record { fits = g3.0 }, tt))) $
-        lends-on ! 24 8 6 refl refl refl refl refl (sub ! 0 refl (whole !)) (sub ! 1 refl (whole !)) (tt, tt) (tt, (tt, (record { fits = g5.0 }, tt))) $
+        lends_on ! 30 16 14 refl refl refl refl refl (sub ! 0 refl (whole !)) (sub ! 1 refl (whole !)) (tt, tt) (tt, (tt, (record { fits = g2.0 }, tt))) $
+        lends_on ! 28 12 10 refl refl refl refl refl (sub ! 0 refl (whole !)) (sub ! 1 refl (whole !)) (tt, tt) (tt, (tt, (record { fits = g3.0 }, tt))) $
+        lends_on ! 24 8 6 refl refl refl refl refl (sub ! 0 refl (whole !)) (sub ! 1 refl (whole !)) (tt, tt) (tt, (tt, (record { fits = g5.0 }, tt))) $
         owned ! u32 (Is u32) (uint_Makes 𝓛 w32) route _ (refl, route-fits) $
-        owned ! usize (Is usize) (uint_Makes 𝓛 w64) (3 * length x4.now) _ (refl, words-fit (length x4.now) g4.1) $
-        move ! (53 ∷ 0 ∷ 51 ∷ 50 ∷ 49 ∷ 1 ∷ 48 ∷ []) $ fjoins ! (owning in-words κw given-words) $ move ! (46 ∷ 44 ∷ 43 ∷ 42 ∷ 41 ∷ []) $ joins ! Lives $
+        owned ! usize (Is usize) (uint_Makes 𝓛 w64) (3 * length x4.now) _ (refl, words_fit (length x4.now) g4.1) $
+        move ! (53 ∷ 0 ∷ 51 ∷ 50 ∷ 49 ∷ 1 ∷ 48 ∷ []) $ fjoins ! (owning in_words_lem κw given-words) $ move ! (46 ∷ 44 ∷ 43 ∷ 42 ∷ 41 ∷ []) $ joins ! Lives $
         use2 𝓛 (raw ((Words 𝓛 mem run).pre to-words)) goes-words $
         calls_at ! fm (Words 𝓛 mem run) known₁ to-words (and_then ! (local ! 37 refl) (and_then ! (local ! 35 refl) (and_then ! (local ! 33 refl)
         (and_then ! (local ! 15 refl) (and_then ! (local ! 11 refl) (and_then ! (local ! 23 refl) (and_then ! (local ! 7 refl) (no_more !)))))))) (λ w.
-        comes_back in-words κw given-words ! u32 Lives w _ (ensured 𝓛 words.ended (words.clauses 𝓛 mem run) κw given-words tt)
+        comes_back in_words_lem κw given-words ! u32 Lives w _ (ensured 𝓛 words.ended (words.clauses 𝓛 mem run) κw given-words tt)
         (λ r us. (l : List ℕ) → 3 * length x4.now ≡ length l → Said r us.1.1.1.0 us.1.1.1.1.0 us.1.1.1.1.1.1.0 l)
         (id⊢ 𝓤 _) (λ r. id⊢ 𝓤 _) (λ r us said.
         move ! (3 ∷ []) $ split ! $ move ! (1 ∷ []) $ feq_l ! (λ e2. move ! (3 ∷ []) $ split ! $ move ! (1 ∷ []) $
@@ -213,18 +213,18 @@ module _ {M : Type 1} {𝓤 : Ura M} (𝓛 : Logic 𝓤) (mem : Memory → SProp
         rewrite ! 29 (λ (u : Val). ‵ (fat full_share word l9 0 u)) (ap only (uint_Tells w32 r (w ∷ []) is')) refl $
         forget ! 31 refl $ forgets ! 15 (((_, _), _) ∷ ((_, _), _) ∷ ((_, _), _) ∷ ((_, _), _) ∷ ((_, _), _) ∷ ((_, _), _) ∷ []) refl $
         sorts ! 9 40 (keep ! (1 ∷ 9 ∷ 10 ∷ 4 ∷ 3 ∷ 2 ∷ [])) $
-        cleared known₂ r is'.1 us.1.1.1.0 us.1.1.1.1.0 us.1.1.1.1.1.1.0 e2 e3 e5 (said (flatWords x4.now)
-        (sym (length-words x4.now)))))))))
+        cleared known₂ r is'.1 us.1.1.1.0 us.1.1.1.1.0 us.1.1.1.1.1.1.0 e2 e3 e5 (said (flat_words x4.now)
+        (sym (length_words x4.now)))))))))
 
   walk : (C : Calls 𝓤 H) (Λ : Loops 𝓤 H) → FmC 𝓤 H 𝓛.laws C
       → Triple 𝓤 (C #engine·core·fresh) (Words 𝓛 mem run)
       → Triple 𝓤 (C #records·clear) (Clear 𝓛 mem run)
       → ent 𝓤 (on_entry 𝓛 fresh.signature κs qs given (values params κs given)) (WpFn 𝓤 H C Λ code.function (row params κs given) Post)
   walk C Λ fm known₁ known₂ =
-      qed 𝓛 (sepAll 𝓤 Toks ∷ ‵ (fsepAll (owning params κs given)) ∷ []) ∵
+      qed 𝓛 (sep_all 𝓤 Toks ∷ ‵ (fsep_all (owning params κs given)) ∷ []) ∵
       enter ! C Λ code.function (row params κs given) _ $
       allots ! _ (λ l0 l1 l2 l3 l4 l5 l6 l7 l8 l9 l10 l11 l12 l13 l14 l15 l16 l17 l18 l19.
-      takes-in params κs given (l1 ∷ l2 ∷ l3 ∷ l4 ∷ l5 ∷ l6 ∷ l7 ∷ []) !
+      takes_in params κs given (l1 ∷ l2 ∷ l3 ∷ l4 ∷ l5 ∷ l6 ∷ l7 ∷ []) !
       (g0.0, (route-fits, (g1.0, (g2.0, (g3.0, (g4.0, (g5.0, tt))))))) _ _ $
       fronts ! 16 24 $ turned ! 12 $ move ! (41 ∷ []) $ fsplits ! (owning params κs given) $ move ! (47 ∷ []) $
       splits ! Toks $

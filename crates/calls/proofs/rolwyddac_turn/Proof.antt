@@ -35,8 +35,8 @@ use denote.Triple.Clauses.{ensured}
 use denote.Triple.Table.{entered, cited}
 use denote.Triple.Walked.{says, Stays, walk_of, ends_at, walked, walk_Meets}
 use Rattle.machine.specs.Machine.{state_of}
-use Rattle.engine.specs.Calls.{answer, turnCall}
-use Rattle.records.specs.Records.{flatWords, Flattens}
+use Rattle.engine.specs.Calls.{answer, turn_call}
+use Rattle.records.specs.Records.{flat_words, Flattens}
 use Rattle.records.specs.declared.Progress.{Progress}
 use Rattle.records.specs.declared.Flat.{Flat}
 use Rattle.records.proofs.Locals.{rooms, holds, free_all}
@@ -48,22 +48,22 @@ use Rattle.records.proofs.flatten.Met as flatten-thm
 use Rattle.records.proofs.put.Symbol as put-def
 use Rattle.records.proofs.put.Symbol.{name as #records·put}
 use Rattle.records.proofs.put.Met as put-thm
-use Rattle.engine.specs.Given.{recordsAfter}
+use Rattle.engine.specs.Given.{records_after}
 use Rattle.engine.specs.declared.core.Turned.{Turned}
 use Rattle.engine.specs.contracts.core.Turned as U
 use Rattle.engine.proofs.core.Turned.TheLaws as U'
-use Rattle.engine.proofs.Reading.{record-there, stored-after}
+use Rattle.engine.proofs.Reading.{record_there, stored_after}
 use Rattle.engine.specs.contracts.core.turn as words
 use Rattle.engine.proofs.core.turn.Symbol as words-def
 use Rattle.engine.proofs.core.turn.Symbol.{name as #engine·core·turn}
 use Rattle.engine.proofs.core.turn.Met as words-thm
-use Rattle.calls.proofs.Walking.{R, F, E, low, high, progress-is, number_fits, word, ref, bytes, words32, records, slice}
+use Rattle.calls.proofs.Walking.{R, F, E, low, high, progress_is, number_fits, word, ref, bytes, words32, records, slice}
 use Rattle.calls.proofs.Params.{Param, number32, flat, reads, changes, Lent, stays, go, spells, tell, values, row, tokens, owning, slices}
-use Rattle.calls.proofs.Params.{had, env, held, takes-in, comes_back}
-use Rattle.calls.proofs.Lending.{lends-on}
+use Rattle.calls.proofs.Params.{had, env, held, takes_in, comes_back}
+use Rattle.calls.proofs.Lending.{lends_on}
 use Rattle.calls.proofs.Orders.{forgets, sorts, fronts, turned}
 use Rattle.calls.proofs.Entering.{allots}
-use Rattle.calls.proofs.Walking.{local, sepAll, fsepAll, splits, joins, fsplits, fjoins, Flatten, Put, flattens-lent, puts-at}
+use Rattle.calls.proofs.Walking.{local, sep_all, fsep_all, splits, joins, fsplits, fjoins, Flatten, Put, flattens_lent, puts_at}
 use Rattle.calls.specs.contracts.rolwyddac_turn.Key.{name as #calls·turn}
 use Rattle.calls.specs.contracts.rolwyddac_turn as turn
 use Rattle.calls.proofs.rolwyddac_turn.Statement as stated
@@ -75,8 +75,8 @@ abbrev params : List (Param 6)
 params =
     reads 0 tt u8 ∷ number32 ∷ reads 1 tt u32 ∷ changes 2 tt u32 ∷ changes 3 tt u32 ∷ changes 4 tt R ∷ changes 5 tt u8 ∷ number32 ∷ []
 
-abbrev in-words : List (Param 5)
-in-words =
+abbrev in_words_lem : List (Param 5)
+in_words_lem =
     reads 0 tt u8 ∷ number32 ∷ reads 1 tt u32 ∷ changes 2 tt u32 ∷ changes 3 tt u32 ∷ flat ∷ changes 4 tt u8 ∷ number32 ∷ []
 
 abbrev stayed : Stays (turn.ended).signature.params (turn.ended).kept
@@ -115,7 +115,7 @@ module _ {M : Type 1} {𝓤 : Ura M} (𝓛 : Logic 𝓤) (mem : Memory → SProp
   abbrev given : Lent κs params
   given = (x0, (route, (x1, (x2, (x3, (x4, (x5, (processor, tt))))))))
 
-  abbrev given-words : Flat → Lent κw in-words
+  abbrev given-words : Flat → Lent κw in_words_lem
   given-words f = (x0, (route, (x1, (x2, (x3, (f, (x5, (processor, tt))))))))
 
   abbrev entry : (walk_of 𝓛 turn.ended stayed (turn.clauses 𝓛 mem run)).Ghost
@@ -131,19 +131,19 @@ module _ {M : Type 1} {𝓤 : Ura M} (𝓛 : Logic 𝓤) (mem : Memory → SProp
   Lives = tokens 𝓤 5 κw qw
 
   abbrev to-words : Flat → (Words 𝓛 mem run).Ghost
-  to-words f = ((κw, qw, tt, given-words f, values in-words κw (given-words f)), tt)
+  to-words f = ((κw, qw, tt, given-words f, values in_words_lem κw (given-words f)), tt)
 
   goes-words : (f : Flat) → length f.words ≡ 192
-      → ent 𝓤 (⋆ 𝓛 (sepAll 𝓤 Lives ∷ ‵ (fsepAll (owning in-words κw (given-words f))) ∷ [])) ((Words 𝓛 mem run).pre (to-words f))
-  goes-words f w = qed 𝓛 (sepAll 𝓤 Lives ∷ ‵ (fsepAll (owning in-words κw (given-words f))) ∷ []) ∵ says ! w $ done !
+      → ent 𝓤 (⋆ 𝓛 (sep_all 𝓤 Lives ∷ ‵ (fsep_all (owning in_words_lem κw (given-words f))) ∷ [])) ((Words 𝓛 mem run).pre (to-words f))
+  goes-words f w = qed 𝓛 (sep_all 𝓤 Lives ∷ ‵ (fsep_all (owning in_words_lem κw (given-words f))) ∷ []) ∵ says ! w $ done !
 
   exits : (r : ℕ) (y2 : List ℕ) (y3 : List ℕ) (y4 : List Progress) (y5 : List ℕ) → r < 2 ^ 32
       → length y2 ≡ length x2.now → length y3 ≡ length x3.now → length y4 ≡ length x4.now → length y5 ≡ length x5.now
-      → answer r (state_of y2 y3 (flatWords y4) y5) ≡ turnCall x0.now route x1.now (state_of x2.now x3.now (flatWords x4.now) x5.now) processor
-      → ent 𝓤 (⋆ 𝓛 (sepAll 𝓤 Lives ∷ ‵ (flft κ4 q4) ∷ ‵ (finally u32 x2.name y2) ∷ ‵ (finally u32 x3.name y3) ∷ ‵ (finally R x4.name y4)
+      → answer r (state_of y2 y3 (flat_words y4) y5) ≡ turn_call x0.now route x1.now (state_of x2.now x3.now (flat_words x4.now) x5.now) processor
+      → ent 𝓤 (⋆ 𝓛 (sep_all 𝓤 Lives ∷ ‵ (flft κ4 q4) ∷ ‵ (finally u32 x2.name y2) ∷ ‵ (finally u32 x3.name y3) ∷ ‵ (finally R x4.name y4)
       ∷ ‵ (finally u8 x5.name y5) ∷ [])) (Post (vint w32 r))
   exits r y2 y3 y4 y5 fits e2 e3 e4 e5 said =
-      qed 𝓛 (sepAll 𝓤 Lives ∷ ‵ (flft κ4 q4) ∷ ‵ (finally u32 x2.name y2) ∷ ‵ (finally u32 x3.name y3) ∷ ‵ (finally R x4.name y4)
+      qed 𝓛 (sep_all 𝓤 Lives ∷ ‵ (flft κ4 q4) ∷ ‵ (finally u32 x2.name y2) ∷ ‵ (finally u32 x3.name y3) ∷ ‵ (finally R x4.name y4)
       ∷ ‵ (finally u8 x5.name y5) ∷ []) ∵
       suffices ! _ (ends_at 𝓛 turn.ended stayed (turn.clauses 𝓛 mem run) entry (vint w32 r) r (tt, (tt, (tt, (y2, (y3, (y4, (y5, (tt, tt))))))))
       (tt, (tt, (tt, (e2, (e3, (e4, (e5, (tt, tt))))))))) $ says ! said $
@@ -154,7 +154,7 @@ module _ {M : Type 1} {𝓤 : Ura M} (𝓛 : Logic 𝓤) (mem : Memory → SProp
 
   -- what the call over words says, for these words of records
   abbrev Said : Turned → List ℕ → List ℕ → List ℕ → List ℕ → Type 0
-  Said r y2 y3 y5 l = answer r.number (state_of y2 y3 (recordsAfter l processor r) y5) ≡ turnCall x0.now route x1.now (state_of x2.now x3.now l
+  Said r y2 y3 y5 l = answer r.number (state_of y2 y3 (records_after l processor r) y5) ≡ turn_call x0.now route x1.now (state_of x2.now x3.now l
       x5.now) processor
 
   module _ (C : Calls 𝓤 H) (Λ : Loops 𝓤 H) (fm : FmC 𝓤 H 𝓛.laws C)
@@ -179,15 +179,15 @@ module _ {M : Type 1} {𝓤 : Ura M} (𝓛 : Logic 𝓤) (mem : Memory → SProp
     stored-part : Triple 𝓤 (C #records·put) (Put 𝓛 mem run)
         → (r : Turned) → Is E r (high r ∷ []) → (y2 y3 y5 : List ℕ)
         → length y2 ≡ length x2.now → length y3 ≡ length x3.now → length y5 ≡ length x5.now
-        → Said r y2 y3 y5 (flatWords x4.now)
-        → Sq 𝓛 (At (‵ (froom S'.mir l9 0)) (‵ (fat full_share U'.mir l10 0 (high r))) (sepAll 𝓤 Lives ∷ ‵ (flft κ4 q4)
+        → Said r y2 y3 y5 (flat_words x4.now)
+        → Sq 𝓛 (At (‵ (froom S'.mir l9 0)) (‵ (fat full_share U'.mir l10 0 (high r))) (sep_all 𝓤 Lives ∷ ‵ (flft κ4 q4)
         ∷ ‵ ((MutSlice (named 4) κ4 R).own_val x4 (slice x4 ∷ [])) ∷ ‵ (finally u32 x2.name y2) ∷ ‵ (finally u32 x3.name y3) ∷ ‵ (finally u8 x5.name y5)
         ∷ []))
         (runs C Λ En mir'.t-11 (at_ret En Post))
     stored-part known₂ r is y2 y3 y5 e2 e3 e5 said =
-        lends-on ! 30 2 0 refl refl refl refl refl (sub ! 0 refl (whole !)) (sub ! 1 refl (whole !)) (tt, tt) (tt, (tt, (record { fits = g4.0 }, tt))) $
-        move ! (45 ∷ 46 ∷ []) $ puts-at mem run κ4 q4 x4 ! fm known₂ (named 4) r.number processor r.progress
-        (number_fits r is) processor-fits (progress-is r is) (record-there x0.now route x1.now x2.now x3.now x5.now x4.now processor r.number
+        lends_on ! 30 2 0 refl refl refl refl refl (sub ! 0 refl (whole !)) (sub ! 1 refl (whole !)) (tt, tt) (tt, (tt, (record { fits = g4.0 }, tt))) $
+        move ! (45 ∷ 46 ∷ []) $ puts_at mem run κ4 q4 x4 ! fm known₂ (named 4) r.number processor r.progress
+        (number_fits r is) processor-fits (progress_is r is) (record_there x0.now route x1.now x2.now x3.now x5.now x4.now processor r.number
         _ said)
         (and_then ! (local ! 1 refl) (and_then ! (load ! (from ! (fld ! refl (stop !))) (look_in ! 23 (sub ! 0 refl (whole !))))
         (and_then ! (local ! 27 refl) (and_then ! (load ! (from ! (fld ! refl (stop !))) (look_in ! 23 (sub ! 1 refl (whole !)))) (no_more !))))) (λ y4 e4 put.
@@ -199,27 +199,27 @@ module _ {M : Type 1} {𝓤 : Ura M} (𝓛 : Logic 𝓤) (mem : Memory → SProp
         forget ! 24 refl $ forgets ! 2 (((_, _), _) ∷ ((_, _), _) ∷ ((_, _), _) ∷ []) refl $
         sorts ! 2 44 (keep ! (2 ∷ 0 ∷ 3 ∷ 4 ∷ 1 ∷ 5 ∷ [])) $ turned ! 22 $
         free_all ! _ $ by ! (exits r.number y2 y3 y4 y5 (number_fits r is) e2 e3 e4 e5
-        (ap (λ (l : List Progress). answer r.number (state_of y2 y3 (flatWords l) y5)) put ∙ ap (λ (l : List ℕ). answer r.number (state_of y2 y3 l y5))
-        (stored-after x4.now processor r) ∙ said)))
+        (ap (λ (l : List Progress). answer r.number (state_of y2 y3 (flat_words l) y5)) put ∙ ap (λ (l : List ℕ). answer r.number (state_of y2 y3 l y5))
+        (stored_after x4.now processor r) ∙ said)))
 
     worded : Triple 𝓤 (C #engine·core·turn) (Words 𝓛 mem run) → Triple 𝓤 (C #records·put) (Put 𝓛 mem run)
-        → (f : Flat) → Is F f (low f ∷ []) → Flattens f (flatWords x4.now)
+        → (f : Flat) → Is F f (low f ∷ []) → Flattens f (flat_words x4.now)
         → Sq 𝓛 (At (‵ (fat full_share S'.mir l9 0 (low f))) (‵ (froom U'.mir l10 0)) (Toks ++ slices 𝓤 params κs given))
         (runs C Λ En mir'.t-4 (at_ret En Post))
     worded known₁ known₂ f is_f e-f =
-        lends-on ! 34 16 14 refl refl refl refl refl (sub ! 0 refl (whole !)) (sub ! 1 refl (whole !)) (tt, tt) (tt, (tt, (record { fits = g2.0 }, tt))) $
-        lends-on ! 32 12 10 refl refl refl refl refl (sub ! 0 refl (whole !)) (sub ! 1 refl (whole !)) (tt, tt) (tt, (tt, (record { fits = g3.0 }, tt))) $
-        lends-on ! 28 8 6 refl refl refl refl refl (sub ! 0 refl (whole !)) (sub ! 1 refl (whole !)) (tt, tt) (tt, (tt, (record { fits = g5.0 }, tt))) $
+        lends_on ! 34 16 14 refl refl refl refl refl (sub ! 0 refl (whole !)) (sub ! 1 refl (whole !)) (tt, tt) (tt, (tt, (record { fits = g2.0 }, tt))) $
+        lends_on ! 32 12 10 refl refl refl refl refl (sub ! 0 refl (whole !)) (sub ! 1 refl (whole !)) (tt, tt) (tt, (tt, (record { fits = g3.0 }, tt))) $
+        lends_on ! 28 8 6 refl refl refl refl refl (sub ! 0 refl (whole !)) (sub ! 1 refl (whole !)) (tt, tt) (tt, (tt, (record { fits = g5.0 }, tt))) $
         owned ! u32 (Is u32) (uint_Makes 𝓛 w32) route _ (refl, route-fits) $
         owned ! F (Is F) (LL.makes S.the_type S'.the_plain 𝓛) f _ is_f $
         owned ! u32 (Is u32) (uint_Makes 𝓛 w32) processor _ (refl, processor-fits) $
-        move ! (0 ∷ 58 ∷ 1 ∷ 56 ∷ 55 ∷ 54 ∷ 2 ∷ 53 ∷ []) $ fjoins ! (owning in-words κw (given-words f)) $ move ! (50 ∷ 48 ∷ 47 ∷ 46 ∷ 45 ∷ []) $
+        move ! (0 ∷ 58 ∷ 1 ∷ 56 ∷ 55 ∷ 54 ∷ 2 ∷ 53 ∷ []) $ fjoins ! (owning in_words_lem κw (given-words f)) $ move ! (50 ∷ 48 ∷ 47 ∷ 46 ∷ 45 ∷ []) $
         joins ! Lives $
         use2 𝓛 (raw ((Words 𝓛 mem run).pre (to-words f))) (goes-words f e-f.room) $
         calls_at ! fm (Words 𝓛 mem run) known₁ (to-words f) (and_then ! (local ! 41 refl) (and_then ! (local ! 39 refl) (and_then ! (local ! 37 refl)
         (and_then ! (local ! 15 refl) (and_then ! (local ! 11 refl) (and_then ! (local ! 25 refl) (and_then ! (local ! 7 refl) (and_then ! (local ! 27 refl)
         (no_more !))))))))) (λ w.
-        comes_back in-words κw (given-words f) ! E Lives w _ (ensured 𝓛 words.ended (words.clauses 𝓛 mem run) κw (given-words f) tt)
+        comes_back in_words_lem κw (given-words f) ! E Lives w _ (ensured 𝓛 words.ended (words.clauses 𝓛 mem run) κw (given-words f) tt)
         (λ r us. (l : List ℕ) → Flattens f l → Said r us.1.1.1.0 us.1.1.1.1.0 us.1.1.1.1.1.1.0 l)
         (id⊢ 𝓤 _) (λ r. id⊢ 𝓤 _) (λ r us said.
         move ! (4 ∷ []) $ split ! $ move ! (1 ∷ []) $ feq_l ! (λ e2. move ! (4 ∷ []) $ split ! $ move ! (1 ∷ []) $
@@ -230,16 +230,16 @@ module _ {M : Type 1} {𝓤 : Ura M} (𝓛 : Logic 𝓤) (mem : Memory → SProp
         forget ! 34 refl $ forgets ! 16 (((_, _), _) ∷ ((_, _), _) ∷ ((_, _), _) ∷ ((_, _), _) ∷ ((_, _), _) ∷ ((_, _), _) ∷ []) refl $
         sorts ! 10 44 (keep ! (1 ∷ 10 ∷ 11 ∷ 4 ∷ 3 ∷ 2 ∷ [])) $
         stored-part known₂ r (subst (λ (us : List Val). Is E r us) (LL.tells U.the_type U'.the_laws r (w ∷ []) is') is')
-        us.1.1.1.0 us.1.1.1.1.0 us.1.1.1.1.1.1.0 e2 e3 e5 (said (flatWords x4.now) e-f)))))))
+        us.1.1.1.0 us.1.1.1.1.0 us.1.1.1.1.1.1.0 e2 e3 e5 (said (flat_words x4.now) e-f)))))))
 
     begun : Triple 𝓤 (C #records·flatten) (Flatten 𝓛 mem run) → Triple 𝓤 (C #engine·core·turn) (Words 𝓛 mem run) → Triple 𝓤 (C #records·put)
         (Put 𝓛 mem run)
         → Sq 𝓛 (At (‵ (froom S'.mir l9 0)) (‵ (froom U'.mir l10 0)) (Toks ++ slices 𝓤 params κs given))
         (runs C Λ En mir'.t-1 (at_ret En Post))
     begun known₀ known₁ known₂ =
-        lends-on ! 30 20 18 refl refl refl refl refl (sub ! 0 refl (whole !)) (sub ! 1 refl (whole !)) (tt, tt) (tt, (tt, (record { fits = g4.0 }, tt))) $
+        lends_on ! 30 20 18 refl refl refl refl refl (sub ! 0 refl (whole !)) (sub ! 1 refl (whole !)) (tt, tt) (tt, (tt, (record { fits = g4.0 }, tt))) $
         move ! (54 ∷ 48 ∷ []) $
-        flattens-lent mem run κ4 q4 x4 ! fm known₀ (named 4) g4 (λ ν δ. (and_then ! (local ! 20 refl) (no_more !))) (λ f is_f e-f.
+        flattens_lent mem run κ4 q4 x4 ! fm known₀ (named 4) g4 (λ ν δ. (and_then ! (local ! 20 refl) (no_more !))) (λ f is_f e-f.
         land ! (from ! (stop !)) (init ! 26 refl ((LL.lawful S.the_type S'.the_laws 𝓛).typed f _ is_f).0) $ forget ! 22 refl $
         forget ! 20 refl $
         sorts ! 2 48 (keep ! (1 ∷ 2 ∷ 3 ∷ 4 ∷ 5 ∷ 6 ∷ 0 ∷ 7 ∷ [])) $
@@ -251,10 +251,10 @@ module _ {M : Type 1} {𝓤 : Ura M} (𝓛 : Logic 𝓤) (mem : Memory → SProp
       → Triple 𝓤 (C #records·put) (Put 𝓛 mem run)
       → ent 𝓤 (on_entry 𝓛 turn.signature κs qs given (values params κs given)) (WpFn 𝓤 H C Λ code.function (row params κs given) Post)
   walk C Λ fm known₀ known₁ known₂ =
-      qed 𝓛 (sepAll 𝓤 Toks ∷ ‵ (fsepAll (owning params κs given)) ∷ []) ∵
+      qed 𝓛 (sep_all 𝓤 Toks ∷ ‵ (fsep_all (owning params κs given)) ∷ []) ∵
       enter ! C Λ code.function (row params κs given) _ $
       allots ! _ (λ l0 l1 l2 l3 l4 l5 l6 l7 l8 l9 l10 l11 l12 l13 l14 l15 l16 l17 l18 l19 l20 l21.
-      takes-in params κs given (l1 ∷ l2 ∷ l3 ∷ l4 ∷ l5 ∷ l6 ∷ l7 ∷ l8 ∷ []) !
+      takes_in params κs given (l1 ∷ l2 ∷ l3 ∷ l4 ∷ l5 ∷ l6 ∷ l7 ∷ l8 ∷ []) !
       (g0.0, (route-fits, (g1.0, (g2.0, (g3.0, (g4.0, (g5.0, (processor-fits, tt)))))))) _ _ $
       fronts ! 18 26 $ turned ! 13 $ move ! (45 ∷ []) $ fsplits ! (owning params κs given) $ move ! (52 ∷ []) $ splits ! Toks $
       sorts ! 14 44 (keep ! (5 ∷ 4 ∷ 3 ∷ 2 ∷ 1 ∷ 0 ∷ 13 ∷ 11 ∷ 10 ∷ 9 ∷ 8 ∷ 7 ∷ [])) $

@@ -39,7 +39,7 @@ array-read-if4-2 c = search rules
 mul-if4 : tie.Need-overflow-mul-if4
 mul-if4 c =
     let c6 = c.before.before.before.before.before.before in
-    omega (arith, cells_are c6.args.nest c.before.before.before.if1.false, c6.requires.cells-most)
+    omega (arith, cells_are c6.args.nest c.before.before.before.if1.false, c6.requires.cells_most)
 
 tell-requires-4 : tie.Need-tell-requires-4
 tell-requires-4 c κs = search rules

@@ -6,12 +6,12 @@ use Rattle.nest.specs.declared.Nest.{Nest}
 use Rattle.nest.specs.declared.Interval.{Interval}
 use Rattle.nest.specs.Accepted.{Accepted}
 use Rattle.nest.specs.Nest.{length_of, cells}
-use Rattle.nest.specs.Shape.{inShape}
+use Rattle.nest.specs.Shape.{in_shape}
 use Rattle.nest.specs.Spans.{within}
 
 -- the interval has the cells of the shape in the row whose first cell is c
 abbrev pub Shown : Nest → ℕ → Interval → Type 0
-Shown x c s = (i : ℕ) → c ≤ i → i < c + length_of x 1 → inShape x i ≡ within s i
+Shown x c s = (i : ℕ) → c ≤ i → i < c + length_of x 1 → in_shape x i ≡ within s i
 
 -- k rows of n cells of a nest of two dimensions, and a grid of so many words
 pub record Rows (x : Nest) (words n k : ℕ) : Type 0 where

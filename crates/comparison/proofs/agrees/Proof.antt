@@ -35,7 +35,7 @@ returns c =
     let at-run-whole = at-compare.before.before.before.before.before.before.before.before.before.before.before.before.before.before.before in
     let start = at-run-whole.before.before.before.before.before.before.before.before.before.before.before.before.before in
     let A = start.args in
-    laws.then-compared A.encoded.now A.source.now A.order A.steps (state_of A.memories.now A.buffer.now A.progress.now
+    laws.then_compared A.encoded.now A.source.now A.order A.steps (state_of A.memories.now A.buffer.now A.progress.now
     A.status.now) _ A.grid.now A.swept.now _ _ at-compare.compare.result at-run-whole.run-whole.ensures at-compare.compare.ensures
 
 pub agrees-spec : {M : Type 1} → statement M

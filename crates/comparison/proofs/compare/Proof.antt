@@ -23,7 +23,7 @@ returns c =
     let at-collect = at-sweep.before.before.before.before in
     let start = at-collect.before.before.before.before.before.before.before.before.before.before in
     let A = start.args in
-    laws.not-collected A.encoded.now A.source.now (state_of A.memories.now A.buffer.now A.progress.now A.status.now) A.grid.now
+    laws.not_collected A.encoded.now A.source.now (state_of A.memories.now A.buffer.now A.progress.now A.status.now) A.grid.now
     A.swept.now _ _ at-collect.collect.result at-sweep.sweep.result at-collect.collect.ensures at-sweep.sweep.ensures c.if1.true
 
 same-length-3 : tie.Need-same-length-3
@@ -38,7 +38,7 @@ returns-2 c =
     let at-collect = at-sweep.before.before.before.before in
     let start = at-collect.before.before.before.before.before.before.before.before.before.before in
     let A = start.args in
-    laws.not-swept A.encoded.now A.source.now (state_of A.memories.now A.buffer.now A.progress.now A.status.now) A.grid.now
+    laws.not_swept A.encoded.now A.source.now (state_of A.memories.now A.buffer.now A.progress.now A.status.now) A.grid.now
     A.swept.now _ _ at-collect.collect.result at-sweep.sweep.result at-collect.collect.ensures at-sweep.sweep.ensures
     c.before.if1.false c.if2.true
 
@@ -59,7 +59,7 @@ returns-3 c =
     let at-collect = at-sweep.before.before.before.before in
     let start = at-collect.before.before.before.before.before.before.before.before.before.before in
     let A = start.args in
-    laws.both-done A.encoded.now A.source.now (state_of A.memories.now A.buffer.now A.progress.now A.status.now) A.grid.now
+    laws.both_done A.encoded.now A.source.now (state_of A.memories.now A.buffer.now A.progress.now A.status.now) A.grid.now
     A.swept.now _ _ at-collect.collect.result at-sweep.sweep.result at-collect.collect.ensures at-sweep.sweep.ensures c.same.result
     at-if1.if1.false at-if2.if2.false c.same.ensures
 

@@ -42,7 +42,7 @@ loop-less c = search rules
 loop-again : tie.Need-loop-preserved invariant-loop decreases-loop
 loop-again c = (
   search rules,
-  laws.source-next c.before.before.before.before.args.counting c.before.before.loop.source c.before.before.loop.c _
+  laws.source_next c.before.before.before.before.args.counting c.before.before.loop.source c.before.before.loop.c _
       c.before.loop-test.true c.before.before.loop.invariant.1 c.source-word.ensures,
 )
 
@@ -51,7 +51,7 @@ same_length c = search rules
 
 returns : tie.Need-returns invariant-loop decreases-loop
 returns c =
-    laws.source-done c.before.before.before.args.counting c.before.loop.source c.before.before.before.args.source.now
+    laws.source_done c.before.before.before.args.counting c.before.loop.source c.before.before.before.args.source.now
     c.before.loop.c c.before.loop.invariant.0 (omega (arith, c.before.loop.invariant.0, c.loop-test.false)) c.before.loop.invariant.1
 
 pub fill-source-spec : {M : Type 1} → statement M

@@ -6,14 +6,14 @@ use Rattle.comparison.proofs.is_beyond.Statement.{statement}
 use Rattle.comparison.proofs.is_beyond.Tie as tie
 
 returns : tie.Need-returns
-returns c = let A = c.before.args in laws.many-cells A.cells A.processors c.if1.true
+returns c = let A = c.before.args in laws.many_cells A.cells A.processors c.if1.true
 
 memory-words-requires : tie.Need-memory-words-requires
 memory-words-requires c κs = search rules
 
 returns-2 : tie.Need-returns-2
 returns-2 c =
-    let A = c.before.before.args in laws.many-words A.cells A.processors c.memory-words.result (omega (arith, c.before.if1.false))
+    let A = c.before.before.args in laws.many_words A.cells A.processors c.memory-words.result (omega (arith, c.before.if1.false))
     c.memory-words.ensures
 
 pub is-beyond-spec : {M : Type 1} → statement M

@@ -40,7 +40,7 @@ returns c =
     let second = third.before.before.before.before in
     let first = second.before.before.before.before in
     let start = first.before.before.before.before in (
-      L.four-put start.args.encoded.now (pen 0 start.args.space.now) _ _ _ _ first.put-verdict.ensures.0
+      L.four_put start.args.encoded.now (pen 0 start.args.space.now) _ _ _ _ first.put-verdict.ensures.0
           second.put-verdict2.ensures.0 third.put-verdict3.ensures.0 fourth.put-verdict4.ensures.0,
       omega (
         arith,

@@ -1,7 +1,7 @@
 -- `comparison::put_lines` meets its contract.
 use native.Mathlib.Omega.{arith}
 use Rattle.nest.proofs.Answers.{accepted-read}
-use Rattle.plan_text.proofs.Laws.{at-end}
+use Rattle.plan_text.proofs.Laws.{at_end_lem}
 use Rattle.comparison.proofs.Lines as L
 use Rattle.comparison.proofs.Laws as laws
 use Rattle.text.specs.Writing.{pen}
@@ -40,7 +40,7 @@ returns-2 c =
     let wrote = c.before.before.put-refused2 in
     let read = at_read.read in
     let short = at-if1.if1.false in (
-      L.refused-put start.args.encoded.now _ (pen 0 start.args.space.now) short read.result read.ensures.0 at-if2.if2.true
+      L.refused_put start.args.encoded.now _ (pen 0 start.args.space.now) short read.result read.ensures.0 at-if2.if2.true
           wrote.ensures.0,
       omega (arith, wrote.ensures.1),
     )
@@ -87,9 +87,9 @@ returns-3 c =
     let read = at_read.read in
     let short = at-if1.if1.false in
     let wrote = c.before.before.put-bytes.ensures in (
-      L.beyond-put start.args.encoded.now _ (pen 0 start.args.space.now) short read.result read.ensures.0 accepted sizes.result
+      L.beyond_put start.args.encoded.now _ (pen 0 start.args.space.now) short read.result read.ensures.0 accepted sizes.result
           sizes.ensures.0 first.result second.result first.ensures second.ensures beyond.result beyond.ensures at-if3.if3.true wrote,
-      omega (arith, at-end (pen 0 start.args.space.now) _ _ wrote),
+      omega (arith, at_end_lem (pen 0 start.args.space.now) _ _ wrote),
     )
 
 summary-requires : tie.Need-summary-requires
@@ -111,7 +111,7 @@ put-four-requires c κs =
     let accepted = at-if2.if2.false in
     let read = at_read.read in
     let figures = c.before.summary in
-    laws.in-limits start.args.encoded.now read.result sizes.result figures.result first.result second.result read.ensures.0 accepted
+    laws.in_limits start.args.encoded.now read.result sizes.result figures.result first.result second.result read.ensures.0 accepted
     sizes.ensures.0 first.ensures second.ensures (laws.not_beyond first.result second.result beyond.result beyond.ensures
     c.before.before.if3.false) figures.ensures
 
@@ -137,7 +137,7 @@ returns-4 c =
     let read = at_read.read in
     let short = at-if1.if1.false in
     let wrote = c.before.before.put_four in (
-      L.lines-put start.args.encoded.now _ (pen 0 start.args.space.now) short read.result read.ensures.0 accepted sizes.result
+      L.lines_put start.args.encoded.now _ (pen 0 start.args.space.now) short read.result read.ensures.0 accepted sizes.result
           sizes.ensures.0 first.result second.result first.ensures second.ensures beyond.result beyond.ensures at-if3.if3.false
           wrote.ensures.0,
       wrote.ensures.1,

@@ -1,5 +1,5 @@
 -- `comparison::put_verdict` meets its contract.
-use Rattle.plan_text.proofs.Laws.{at-end}
+use Rattle.plan_text.proofs.Laws.{at_end_lem}
 use Rattle.comparison.proofs.Lines as L
 use native.Mathlib.Omega.{arith}
 use Rattle.text.specs.Writing.{pen}
@@ -27,7 +27,7 @@ returns c =
     let said = at-verdict.verdict in
     let w = pen start.args.at start.args.space.now in
     let wrote = c.before.before.put-bytes.ensures in
-    (L.agree-put _ said.result said.ensures.0 _ w at-if1.if1.true wrote, omega (arith, at-end w _ _ wrote))
+    (L.agree_put _ said.result said.ensures.0 _ w at-if1.if1.true wrote, omega (arith, at_end_lem w _ _ wrote))
 
 slice-aggregate-put-bytes-2 : tie.Need-slice-aggregate-put-bytes-2
 slice-aggregate-put-bytes-2 c = search rules
@@ -46,7 +46,7 @@ returns-2 c =
     let said = at-verdict.verdict in
     let w = pen start.args.at start.args.space.now in
     let wrote = c.before.before.put-bytes2.ensures in
-    (L.differ-put _ said.result said.ensures.0 _ w at-if1.if1.false wrote, omega (arith, at-end w _ _ wrote))
+    (L.differ_put _ said.result said.ensures.0 _ w at-if1.if1.false wrote, omega (arith, at_end_lem w _ _ wrote))
 
 pub put-verdict-spec : {M : Type 1} → statement M
 put-verdict-spec =

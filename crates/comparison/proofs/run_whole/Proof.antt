@@ -26,11 +26,11 @@ same-length-4 c = search rules
 returns : tie.Need-returns
 returns c =
     let at-drive = c.before.before.before.before.before.before.before.before in
-    let at-fresh = at-drive.before.before.before.before.before.before.before.before.before.before.before.before.before in
-    let start = at-fresh.before.before.before.before.before.before.before.before.before.before.before in
+    let at_fresh = at-drive.before.before.before.before.before.before.before.before.before.before.before.before.before in
+    let start = at_fresh.before.before.before.before.before.before.before.before.before.before.before in
     let A = start.args in
     laws.run A.encoded.now A.source.now (state_of A.memories.now A.buffer.now A.progress.now A.status.now) _ _ A.order A.steps
-    at-fresh.fresh.result at-fresh.fresh.ensures at-drive.drive.ensures
+    at_fresh.fresh.result at_fresh.fresh.ensures at-drive.drive.ensures
 
 pub run-whole-spec : {M : Type 1} → statement M
 run-whole-spec =

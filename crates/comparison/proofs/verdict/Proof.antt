@@ -34,7 +34,7 @@ array-borrow-prefix-source c =
     let as-index = at-as-index.as-index in
     let known = at-as-index.before in
     let start = known.before in
-    laws.cells-room start.args.encoded.now start.args.extent (λ i. omega (arith, known.shared-slice-known.given i)) start.requires
+    laws.cells_room start.args.encoded.now start.args.extent (λ i. omega (arith, known.shared-slice-known.given i)) start.requires
     as-index.result as-index.ensures.0
 
 slice-aggregate-fill-source : tie.Need-slice-aggregate-fill-source
@@ -44,7 +44,7 @@ slice-aggregate-fill-source c =
     let known = at-as-index.before in
     let start = known.before in
     laws.counted as-index.result (zeros 1024)
-    (laws.cells-room start.args.encoded.now start.args.extent (λ i. omega (arith, known.shared-slice-known.given i)) start.requires
+    (laws.cells_room start.args.encoded.now start.args.extent (λ i. omega (arith, known.shared-slice-known.given i)) start.requires
     as-index.result as-index.ensures.0)
 
 fill-source-requires : tie.Need-fill-source-requires
@@ -56,7 +56,7 @@ fill-source-requires c κs =
     omega (
       arith,
       laws.counted as-index.result (zeros 1024)
-          (laws.cells-room start.args.encoded.now start.args.extent (λ i. omega (arith, known.shared-slice-known.given i)) start.requires
+          (laws.cells_room start.args.encoded.now start.args.extent (λ i. omega (arith, known.shared-slice-known.given i)) start.requires
           as-index.result as-index.ensures.0),
       as-index.ensures.0,
       start.requires.cells,
@@ -68,9 +68,9 @@ array-share-prefix-source c =
     let as-index = c.before.before.before.before.before.before.before.as-index in
     let known = c.before.before.before.before.before.before.before.before in
     let start = known.before in
-    let room = laws.cells-room start.args.encoded.now start.args.extent (λ i. omega (arith, known.shared-slice-known.given i)) start.requires
+    let room = laws.cells_room start.args.encoded.now start.args.extent (λ i. omega (arith, known.shared-slice-known.given i)) start.requires
     as-index.result as-index.ensures.0 in
-    laws.back-room as-index.result (zeros 1024) fill-source.new.0 room fill-source.auto.0
+    laws.back_room as-index.result (zeros 1024) fill-source.new.0 room fill-source.auto.0
 
 slice-aggregate-agrees : tie.Need-slice-aggregate-agrees
 slice-aggregate-agrees c =
@@ -78,10 +78,10 @@ slice-aggregate-agrees c =
     let as-index = c.before.before.before.before.before.before.before.before.as-index in
     let known = c.before.before.before.before.before.before.before.before.before in
     let start = known.before in
-    let room = laws.cells-room start.args.encoded.now start.args.extent (λ i. omega (arith, known.shared-slice-known.given i)) start.requires
+    let room = laws.cells_room start.args.encoded.now start.args.extent (λ i. omega (arith, known.shared-slice-known.given i)) start.requires
     as-index.result as-index.ensures.0 in
     laws.counted as-index.result _
-    (laws.back-room as-index.result (zeros 1024) fill-source.new.0 room fill-source.auto.0)
+    (laws.back_room as-index.result (zeros 1024) fill-source.new.0 room fill-source.auto.0)
 
 array-borrow-prefix-memories : tie.Need-array-borrow-prefix-memories
 array-borrow-prefix-memories c =
@@ -89,7 +89,7 @@ array-borrow-prefix-memories c =
     let memory-words = at-memory-words.memory-words in
     let known = at-memory-words.before.before in
     let start = known.before in
-    laws.memories-room start.args.encoded.now start.args.extent (λ i. omega (arith, known.shared-slice-known.given i)) start.requires
+    laws.memories_room start.args.encoded.now start.args.extent (λ i. omega (arith, known.shared-slice-known.given i)) start.requires
     memory-words.result memory-words.ensures
 
 slice-aggregate-agrees-2 : tie.Need-slice-aggregate-agrees-2
@@ -99,7 +99,7 @@ slice-aggregate-agrees-2 c =
     let known = at-memory-words.before.before in
     let start = known.before in
     laws.counted memory-words.result (zeros 4096)
-    (laws.memories-room start.args.encoded.now start.args.extent (λ i. omega (arith, known.shared-slice-known.given i)) start.requires
+    (laws.memories_room start.args.encoded.now start.args.extent (λ i. omega (arith, known.shared-slice-known.given i)) start.requires
     memory-words.result memory-words.ensures)
 
 array-borrow-prefix-buffer : tie.Need-array-borrow-prefix-buffer
@@ -108,7 +108,7 @@ array-borrow-prefix-buffer c =
     let as-index2 = at-as-index2.as-index2 in
     let known = at-as-index2.before.before.before in
     let start = known.before in
-    laws.words-room start.args.encoded.now start.args.extent (λ i. omega (arith, known.shared-slice-known.given i)) start.requires
+    laws.words_room start.args.encoded.now start.args.extent (λ i. omega (arith, known.shared-slice-known.given i)) start.requires
     as-index2.result as-index2.ensures.0
 
 slice-aggregate-agrees-3 : tie.Need-slice-aggregate-agrees-3
@@ -118,7 +118,7 @@ slice-aggregate-agrees-3 c =
     let known = at-as-index2.before.before.before in
     let start = known.before in
     laws.counted as-index2.result (zeros 7168)
-    (laws.words-room start.args.encoded.now start.args.extent (λ i. omega (arith, known.shared-slice-known.given i)) start.requires
+    (laws.words_room start.args.encoded.now start.args.extent (λ i. omega (arith, known.shared-slice-known.given i)) start.requires
     as-index2.result as-index2.ensures.0)
 
 array-borrow-prefix-progress : tie.Need-array-borrow-prefix-progress
@@ -127,7 +127,7 @@ array-borrow-prefix-progress c =
     let as-index3 = at-as-index3.as-index3 in
     let known = at-as-index3.before.before.before.before in
     let start = known.before in
-    laws.progress-room start.args.encoded.now start.args.extent (λ i. omega (arith, known.shared-slice-known.given i)) start.requires
+    laws.progress_room start.args.encoded.now start.args.extent (λ i. omega (arith, known.shared-slice-known.given i)) start.requires
     as-index3.result as-index3.ensures.0
 
 slice-aggregate-agrees-4 : tie.Need-slice-aggregate-agrees-4
@@ -137,7 +137,7 @@ slice-aggregate-agrees-4 c =
     let known = at-as-index3.before.before.before.before in
     let start = known.before in
     laws.counted (3 * as-index3.result) (zeros 192)
-    (laws.progress-room start.args.encoded.now start.args.extent (λ i. omega (arith, known.shared-slice-known.given i)) start.requires
+    (laws.progress_room start.args.encoded.now start.args.extent (λ i. omega (arith, known.shared-slice-known.given i)) start.requires
     as-index3.result as-index3.ensures.0)
 
 array-borrow-prefix-status : tie.Need-array-borrow-prefix-status
@@ -146,7 +146,7 @@ array-borrow-prefix-status c =
     let as-index4 = at-as-index4.as-index4 in
     let known = at-as-index4.before.before.before.before.before in
     let start = known.before in
-    laws.messages-room start.args.encoded.now start.args.extent (λ i. omega (arith, known.shared-slice-known.given i)) start.requires
+    laws.messages_room start.args.encoded.now start.args.extent (λ i. omega (arith, known.shared-slice-known.given i)) start.requires
     as-index4.result as-index4.ensures.0
 
 slice-aggregate-agrees-5 : tie.Need-slice-aggregate-agrees-5
@@ -156,7 +156,7 @@ slice-aggregate-agrees-5 c =
     let known = at-as-index4.before.before.before.before.before in
     let start = known.before in
     laws.counted as-index4.result (zeros 7168)
-    (laws.messages-room start.args.encoded.now start.args.extent (λ i. omega (arith, known.shared-slice-known.given i)) start.requires
+    (laws.messages_room start.args.encoded.now start.args.extent (λ i. omega (arith, known.shared-slice-known.given i)) start.requires
     as-index4.result as-index4.ensures.0)
 
 array-borrow-prefix-grid : tie.Need-array-borrow-prefix-grid
@@ -165,7 +165,7 @@ array-borrow-prefix-grid c =
     let as-index = at-as-index.as-index in
     let known = at-as-index.before in
     let start = known.before in
-    laws.cells-room start.args.encoded.now start.args.extent (λ i. omega (arith, known.shared-slice-known.given i)) start.requires
+    laws.cells_room start.args.encoded.now start.args.extent (λ i. omega (arith, known.shared-slice-known.given i)) start.requires
     as-index.result as-index.ensures.0
 
 slice-aggregate-agrees-6 : tie.Need-slice-aggregate-agrees-6
@@ -175,7 +175,7 @@ slice-aggregate-agrees-6 c =
     let known = at-as-index.before in
     let start = known.before in
     laws.counted as-index.result (zeros 1024)
-    (laws.cells-room start.args.encoded.now start.args.extent (λ i. omega (arith, known.shared-slice-known.given i)) start.requires
+    (laws.cells_room start.args.encoded.now start.args.extent (λ i. omega (arith, known.shared-slice-known.given i)) start.requires
     as-index.result as-index.ensures.0)
 
 array-borrow-prefix-swept : tie.Need-array-borrow-prefix-swept
@@ -184,7 +184,7 @@ array-borrow-prefix-swept c =
     let as-index = at-as-index.as-index in
     let known = at-as-index.before in
     let start = known.before in
-    laws.cells-room start.args.encoded.now start.args.extent (λ i. omega (arith, known.shared-slice-known.given i)) start.requires
+    laws.cells_room start.args.encoded.now start.args.extent (λ i. omega (arith, known.shared-slice-known.given i)) start.requires
     as-index.result as-index.ensures.0
 
 slice-aggregate-agrees-7 : tie.Need-slice-aggregate-agrees-7
@@ -194,7 +194,7 @@ slice-aggregate-agrees-7 c =
     let known = at-as-index.before in
     let start = known.before in
     laws.counted as-index.result (zeros 1024)
-    (laws.cells-room start.args.encoded.now start.args.extent (λ i. omega (arith, known.shared-slice-known.given i)) start.requires
+    (laws.cells_room start.args.encoded.now start.args.extent (λ i. omega (arith, known.shared-slice-known.given i)) start.requires
     as-index.result as-index.ensures.0)
 
 agrees-requires : tie.Need-agrees-requires
@@ -217,7 +217,7 @@ returns c =
     as-index2.ensures.0
     as-index3.ensures.0 as-index4.ensures.0 fill-source.new.0 fill-source.auto.0 fill-source.ensures _
     c.before.before.before.before.before.before.agrees.ensures in
-    (told, told ∙ L.verdict-true start.args.encoded.now bytes start.args.extent start.requires start.args.counting start.args.falling)
+    (told, told ∙ L.verdict_true start.args.encoded.now bytes start.args.extent start.requires start.args.counting start.args.falling)
 
 pub verdict-spec : {M : Type 1} → statement M
 verdict-spec =

@@ -17,12 +17,12 @@ same-length-3 c = c.before.before.before.before.before.before.before.fresh.auto.
 
 returns : tie.Need-returns
 returns c =
-    let at-fresh = c.before.before.before.before.before.before.before in
-    let start = at-fresh.before.before.before.before.before.before.before.before.before.before in
-    let fresh = at-fresh.fresh in
+    let at_fresh = c.before.before.before.before.before.before.before in
+    let start = at_fresh.before.before.before.before.before.before.before.before.before.before in
+    let fresh = at_fresh.fresh in
     let if1 = c.if1 in
     let A = start.args in
-    reading.not-cleared _ _ _ _ A.progress.now fresh.result (fresh.ensures A.progress.now refl) if1.true
+    reading.not_cleared _ _ _ _ A.progress.now fresh.result (fresh.ensures A.progress.now refl) if1.true
 
 zero-words-requires : tie.Need-zero-words-requires
 zero-words-requires c κs = tt
@@ -42,13 +42,13 @@ same-length-7 c = c.before.before.before.before.before.before.before.before.befo
 returns-2 : tie.Need-returns-2
 returns-2 c =
     let at-if1 = c.before.before.before.before in
-    let at-fresh = at-if1.before.before.before.before.before.before.before in
-    let start = at-fresh.before.before.before.before.before.before.before.before.before.before in
-    let fresh = at-fresh.fresh in
+    let at_fresh = at-if1.before.before.before.before.before.before.before in
+    let start = at_fresh.before.before.before.before.before.before.before.before.before.before in
+    let fresh = at_fresh.fresh in
     let if1 = at-if1.if1 in
     let zero-words = c.before.before.zero-words in
     let A = start.args in
-    reading.all-cleared _ _ _ _ A.progress.now fresh.result (fresh.ensures A.progress.now refl) if1.false _ zero-words.ensures
+    reading.all_cleared _ _ _ _ A.progress.now fresh.result (fresh.ensures A.progress.now refl) if1.false _ zero-words.ensures
 
 pub fresh-spec : {M : Type 1} → statement M
 fresh-spec =

@@ -1,7 +1,7 @@
 use mathlib.Core.Path.{refl}
 use native.Mathlib.Omega.{arith}
 use lib.ListN.{length-set}
-use Rattle.machine.specs.Machine.{setProgress}
+use Rattle.machine.specs.Machine.{set_progress}
 use borrow.Author.Rules.{rules}
 use Rattle.engine.proofs.store_record.Statement.{statement}
 use Rattle.engine.proofs.store_record.Tie as tie
@@ -37,7 +37,7 @@ same_length : tie.Need-same-length
 same_length c = search rules
 
 returns : tie.Need-returns
-unfolding setProgress
+unfolding set_progress
 returns c = refl
 
 pub store-record-spec : {M : Type 1} → statement M

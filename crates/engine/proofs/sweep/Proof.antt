@@ -14,7 +14,7 @@ read-requires c κs = search rules
 returns : tie.Need-returns
 returns c =
     let A = c.before.before.before.before.before.args in
-    lines.sweep-read A.encoded.now A.source.now A.grid.now c.before.read.result.number
+    lines.sweep_read A.encoded.now A.source.now A.grid.now c.before.read.result.number
     (lines.read_number A.encoded.now c.before.read.result c.before.read.ensures.0) c.if1.true
 
 sizes-of-requires : tie.Need-sizes-of-requires
@@ -31,7 +31,7 @@ returns-2 c =
     let sizes-of = c.before.before.sizes-of in
     let if2 = c.if2 in
     let A = start.args in
-    lines.sweep-source A.encoded.now A.source.now A.grid.now (plan_of Direct read.result.nest) (lines.opened-direct A.encoded.now
+    lines.sweep_source A.encoded.now A.source.now A.grid.now (plan_of Direct read.result.nest) (lines.opened_direct A.encoded.now
     read.result read.ensures.0 if1.false refl) (λ q. if2.true (q ∙ sym sizes-of.ensures.0.cells))
 
 returns-3 : tie.Need-returns-3
@@ -45,7 +45,7 @@ returns-3 c =
     let sizes-of = at-sizes-of.sizes-of in
     let if3 = c.if3 in
     let A = start.args in
-    lines.sweep-grid A.encoded.now A.source.now A.grid.now (plan_of Direct read.result.nest) (lines.opened-direct A.encoded.now
+    lines.sweep_grid A.encoded.now A.source.now A.grid.now (plan_of Direct read.result.nest) (lines.opened_direct A.encoded.now
     read.result read.ensures.0 if1.false refl) (λ q. if3.true (q ∙ sym sizes-of.ensures.0.cells))
 
 sweep-requires : tie.Need-sweep-requires
@@ -71,9 +71,9 @@ returns-4 c =
     let sweep = c.before.before.sweep in
     let if4 = at-if4.if4 in
     let A = start.args in
-    lines.sweep-done A.encoded.now A.source.now A.grid.now (plan_of Direct read.result.nest) (lines.opened-direct A.encoded.now
+    lines.sweep_done A.encoded.now A.source.now A.grid.now (plan_of Direct read.result.nest) (lines.opened_direct A.encoded.now
     read.result read.ensures.0 if1.false refl) sweep.new.1.1.1.0 (if2.false ∙ sizes-of.ensures.0.cells) (if3.false
-    ∙ sizes-of.ensures.0.cells) (lines.box-swept read.result.nest sizes-of.ensures.0.accepted if4.true _ _ sweep.ensures)
+    ∙ sizes-of.ensures.0.cells) (lines.box_swept read.result.nest sizes-of.ensures.0.accepted if4.true _ _ sweep.ensures)
 
 sweep-requires-2 : tie.Need-sweep-requires-2
 sweep-requires-2 c κs = search rules
@@ -96,7 +96,7 @@ returns-5 c =
     let if3 = at-if3.if3 in
     let sweep2 = c.before.before.sweep2 in
     let A = start.args in
-    lines.sweep-done A.encoded.now A.source.now A.grid.now (plan_of Direct read.result.nest) (lines.opened-direct A.encoded.now
+    lines.sweep_done A.encoded.now A.source.now A.grid.now (plan_of Direct read.result.nest) (lines.opened_direct A.encoded.now
     read.result read.ensures.0 if1.false refl) sweep2.new.1.1.1.0 (if2.false ∙ sizes-of.ensures.0.cells) (if3.false
     ∙ sizes-of.ensures.0.cells) sweep2.ensures
 

@@ -3,7 +3,7 @@ use Prim.Native.Nat.{◌-◌}
 use native.Mathlib.Omega.{arith}
 use borrow.Author.Rules.{rules}
 use Rattle.kernels.specs.Taps.{made}
-use Rattle.kernels.proofs.Sums.{fits-at, Rowing, rowing-none, rowing-long, rowing_more, rowing-end}
+use Rattle.kernels.proofs.Sums.{fits_at_lem, Rowing, rowing_none, rowing_long, rowing_more, rowing_end}
 use Rattle.kernels.proofs.row_many.Statement.{statement}
 use Rattle.kernels.proofs.row_many.Tie as tie
 
@@ -15,7 +15,7 @@ abbrev decreases-loop : tie.decreases-loop
 decreases-loop source memory₀ rule n backs weights cell width y₀ memory y = width - y
 
 loop-holds : tie.Need-loop-init invariant-loop decreases-loop
-loop-holds c = rowing-none _ _ _ _
+loop-holds c = rowing_none _ _ _ _
 
 add-store-many : tie.Need-overflow-add-store-many invariant-loop decreases-loop
 add-store-many c =
@@ -25,7 +25,7 @@ add-store-many c =
 store-many-requires : tie.Need-store-many-requires invariant-loop decreases-loop
 store-many-requires c κs =
     let s = c.before.before.before.before.before in
-    fits-at s.requires _ 1 _ (omega arith) (omega (arith, c.before.loop-test.true)) (rowing-long c.before.before.loop.invariant)
+    fits_at_lem s.requires _ 1 _ (omega arith) (omega (arith, c.before.loop-test.true)) (rowing_long c.before.before.loop.invariant)
 
 add-y : tie.Need-overflow-add-y invariant-loop decreases-loop
 add-y c = search rules
@@ -39,10 +39,10 @@ loop-again c =
     c.before.before.Store-many.ensures
 
 same_length : tie.Need-same-length invariant-loop decreases-loop
-same_length c = rowing-long c.before.loop.invariant
+same_length c = rowing_long c.before.loop.invariant
 
 returns : tie.Need-returns invariant-loop decreases-loop
-returns c = rowing-end c.before.loop.invariant c.loop-test.false
+returns c = rowing_end c.before.loop.invariant c.loop-test.false
 
 pub row-many-spec : {M : Type 1} → statement M
 row-many-spec =

@@ -4,7 +4,7 @@ use mathlib.Core.Path.{sym, ap, ◌∙◌}
 use mathlib.Core.List.{[], ◌∷◌}
 use borrow.Author.Rules.{rules}
 use Rattle.base.specs.Tests.{tabulate}
-use Rattle.base.specs.Lists.{storeAll}
+use Rattle.base.specs.Lists.{store_all}
 use Rattle.kernels.specs.Taps.{made}
 use Rattle.kernels.proofs.row_one.Statement.{statement}
 use Rattle.kernels.proofs.row_one.Tie as tie
@@ -20,7 +20,7 @@ returns c =
     let s = c.before.before.before.before.before.before.before.before in
     c.before.before.row-tap.ensures
     ∙ ap
-    (λ (o : ℕ). storeAll (made 1 (s.args.p.back ∷ []) (s.args.p.weight ∷ []) o s.args.rule.shift s.args.source.now) s.args.memory.now
+    (λ (o : ℕ). store_all (made 1 (s.args.p.back ∷ []) (s.args.p.weight ∷ []) o s.args.rule.shift s.args.source.now) s.args.memory.now
     (tabulate (λ y. s.args.cell + y) s.args.width)) (sym c.before.before.before.before.if1.true)
 
 row-tap-requires-2 : tie.Need-row-tap-requires-2

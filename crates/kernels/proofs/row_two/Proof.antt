@@ -4,7 +4,7 @@ use mathlib.Core.List.{[], ◌∷◌}
 use native.Mathlib.Omega.{arith}
 use borrow.Author.Rules.{rules}
 use Rattle.kernels.specs.Taps.{made}
-use Rattle.kernels.proofs.Sums.{fits-at, Rowing, rowing-none, rowing-long, rowing_more, rowing-end}
+use Rattle.kernels.proofs.Sums.{fits_at_lem, Rowing, rowing_none, rowing_long, rowing_more, rowing_end}
 use Rattle.kernels.proofs.row_two.Statement.{statement}
 use Rattle.kernels.proofs.row_two.Tie as tie
 
@@ -16,7 +16,7 @@ abbrev decreases-loop : tie.decreases-loop
 decreases-loop source memory₀ rule p q cell width y₀ memory y = width - y
 
 loop-holds : tie.Need-loop-init invariant-loop decreases-loop
-loop-holds c = rowing-none _ _ _ _
+loop-holds c = rowing_none _ _ _ _
 
 add-store-two : tie.Need-overflow-add-store-two invariant-loop decreases-loop
 add-store-two c =
@@ -26,7 +26,7 @@ add-store-two c =
 store-two-requires : tie.Need-store-two-requires invariant-loop decreases-loop
 store-two-requires c κs =
     let s = c.before.before.before.before.before in
-    fits-at s.requires _ 1 _ (omega arith) (omega (arith, c.before.loop-test.true)) (rowing-long c.before.before.loop.invariant)
+    fits_at_lem s.requires _ 1 _ (omega arith) (omega (arith, c.before.loop-test.true)) (rowing_long c.before.before.loop.invariant)
 
 add-y : tie.Need-overflow-add-y invariant-loop decreases-loop
 add-y c = search rules
@@ -40,10 +40,10 @@ loop-again c =
     c.before.before.store_two.ensures
 
 same_length : tie.Need-same-length invariant-loop decreases-loop
-same_length c = rowing-long c.before.loop.invariant
+same_length c = rowing_long c.before.loop.invariant
 
 returns : tie.Need-returns invariant-loop decreases-loop
-returns c = rowing-end c.before.loop.invariant c.loop-test.false
+returns c = rowing_end c.before.loop.invariant c.loop-test.false
 
 pub row-two-spec : {M : Type 1} → statement M
 row-two-spec =

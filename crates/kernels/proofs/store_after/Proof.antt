@@ -6,7 +6,7 @@ use native.Mathlib.Omega.{arith}
 use borrow.Author.Rules.{rules}
 use Rattle.base.specs.Tests.{sum}
 use Rattle.kernels.proofs.Sums.{weighs, closes}
-use Rattle.kernels.proofs.Columns.{word-stored}
+use Rattle.kernels.proofs.Columns.{word_stored}
 use Rattle.kernels.proofs.store_after.Statement.{statement}
 use Rattle.kernels.proofs.store_after.Tie as tie
 
@@ -49,7 +49,7 @@ returns c =
       closes 1 (s.args.p.back ∷ []) (s.args.p.weight ∷ []) _ _ s.args.source.now s.args.memory.now _ _ _
           (ap (λ (z : ℕ). s.args.rule.outside + source-word.result + s.args.p.weight * z) s.requires.1.0 ∙ omega (arith, source-word.ensures.0))
           c.closed.ensures,
-      word-stored s.args.memory.now _ s.args.c c.closed.result c.closed.result refl (omega (arith, s.requires.0.within)) refl (omega (arith, c.closed.ensures)),
+      word_stored s.args.memory.now _ s.args.c c.closed.result c.closed.result refl (omega (arith, s.requires.0.within)) refl (omega (arith, c.closed.ensures)),
     )
 
 pub store-after-spec : {M : Type 1} → statement M

@@ -3,8 +3,8 @@ use mathlib.Core.List.{[], ◌∷◌}
 use native.Mathlib.Omega.{arith}
 use borrow.Author.Rules.{rules}
 use Rattle.kernels.specs.Taps.{made}
-use Rattle.kernels.proofs.Sums.{fits-at}
-use Rattle.kernels.proofs.Columns.{reads-one, reads_two, reads_three, reads-four, column-stands, column-is}
+use Rattle.kernels.proofs.Sums.{fits_at_lem}
+use Rattle.kernels.proofs.Columns.{reads_one, reads_two, reads_three, reads_four, column_stands, column_is}
 use Rattle.kernels.proofs.store_column.Statement.{statement}
 use Rattle.kernels.proofs.store_column.Tie as tie
 
@@ -19,7 +19,7 @@ store-after-requires c κs =
     let s = c.before.before.before in
     let f = made 1 (s.args.p.back ∷ []) (s.args.p.weight ∷ []) s.args.rule.outside s.args.rule.shift s.args.source.now in
     let low = s.requires.0.back 0 (omega arith) in
-    (fits-at s.requires.0 _ 1 _ (omega arith) (omega arith) (omega arith), reads-one f s.args.c s.requires.1.1.1 s.requires.1.0 low s.requires.1.1.0)
+    (fits_at_lem s.requires.0 _ 1 _ (omega arith) (omega arith) (omega arith), reads_one f s.args.c s.requires.1.1.1 s.requires.1.0 low s.requires.1.1.0)
 
 store-after-requires-2 : tie.Need-store-after-requires-2
 store-after-requires-2 c κs =
@@ -27,7 +27,7 @@ store-after-requires-2 c κs =
     let f = made 1 (s.args.p.back ∷ []) (s.args.p.weight ∷ []) s.args.rule.outside s.args.rule.shift s.args.source.now in
     let low = s.requires.0.back 0 (omega arith) in
     let e₁ = c.before.before.before.store-after.ensures.0 in
-    (fits-at s.requires.0 _ 1 _ (omega arith) (omega arith) (omega arith), reads_two f s.args.c s.requires.1.1.1 s.requires.1.0 low s.requires.1.1.0 e₁)
+    (fits_at_lem s.requires.0 _ 1 _ (omega arith) (omega arith) (omega arith), reads_two f s.args.c s.requires.1.1.1 s.requires.1.0 low s.requires.1.1.0 e₁)
 
 store-after-requires-3 : tie.Need-store-after-requires-3
 store-after-requires-3 c κs =
@@ -36,7 +36,7 @@ store-after-requires-3 c κs =
     let low = s.requires.0.back 0 (omega arith) in
     let e₁ = c.before.before.before.before.before.before.before.store-after.ensures.0 in
     let e₂ = c.before.before.before.store-after2.ensures.0 in
-    (fits-at s.requires.0 _ 1 _ (omega arith) (omega arith) (omega arith), reads_three f s.args.c s.requires.1.1.1 s.requires.1.0 low s.requires.1.1.0 e₁ e₂)
+    (fits_at_lem s.requires.0 _ 1 _ (omega arith) (omega arith) (omega arith), reads_three f s.args.c s.requires.1.1.1 s.requires.1.0 low s.requires.1.1.0 e₁ e₂)
 
 add-store-after : tie.Need-overflow-add-store-after
 add-store-after c = search rules
@@ -49,7 +49,7 @@ store-after-requires-4 c κs =
     let e₁ = c.before.before.before.before.before.before.before.before.before.before.before.store-after.ensures.0 in
     let e₂ = c.before.before.before.before.before.before.before.store-after2.ensures.0 in
     let e₃ = c.before.before.before.store-after3.ensures.0 in
-    (fits-at s.requires.0 _ 1 _ (omega arith) (omega arith) (omega arith), reads-four f s.args.c s.requires.1.1.1 s.requires.1.0 low s.requires.1.1.0 e₁ e₂ e₃)
+    (fits_at_lem s.requires.0 _ 1 _ (omega arith) (omega arith) (omega arith), reads_four f s.args.c s.requires.1.1.1 s.requires.1.0 low s.requires.1.1.0 e₁ e₂ e₃)
 
 same_length : tie.Need-same-length
 same_length c = search rules
@@ -63,8 +63,8 @@ returns c =
     let two = c.before.before.before.before.before.before.before.before.before.before.store-after2.ensures in
     let three = c.before.before.before.before.before.before.store-after3.ensures in
     let four = c.before.before.store-after4.ensures in (
-      column-is f s.args.c s.requires.1.1.1 s.requires.1.0 low s.requires.1.1.0 one.0 two.0 three.0 four.0,
-      column-stands f s.args.c s.requires.1.1.1 s.requires.1.0 low s.requires.1.1.0 one.0 two.0 three.0 four.0 _ one.1 two.1
+      column_is f s.args.c s.requires.1.1.1 s.requires.1.0 low s.requires.1.1.0 one.0 two.0 three.0 four.0,
+      column_stands f s.args.c s.requires.1.1.1 s.requires.1.0 low s.requires.1.1.0 one.0 two.0 three.0 four.0 _ one.1 two.1
           three.1 four.1,
     )
 

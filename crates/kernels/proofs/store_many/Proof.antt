@@ -4,7 +4,7 @@ use mathlib.Core.Path.{ap}
 use native.Mathlib.Omega.{arith}
 use borrow.Author.Rules.{rules}
 use lib.ListN.{set}
-use Rattle.kernels.proofs.Sums.{Summing, summing-none, summing-more, summing-end}
+use Rattle.kernels.proofs.Sums.{Summing, summing_none, summing_more, summing_end}
 use Rattle.kernels.proofs.store_many.Statement.{statement}
 use Rattle.kernels.proofs.store_many.Tie as tie
 
@@ -27,7 +27,7 @@ add_total c =
 loop-holds : tie.Need-loop-init invariant-loop decreases-loop
 loop-holds c =
     let s = c.before.before.before.before in
-    summing-none _ _ _ _ 0 s.args.source.now s.args.memory.now _ _ s.requires.besides c.before.word_of.ensures
+    summing_none _ _ _ _ 0 s.args.source.now s.args.memory.now _ _ s.requires.besides c.before.word_of.ensures
 
 tap-at-requires : tie.Need-tap-at-requires invariant-loop decreases-loop
 tap-at-requires c κs =
@@ -58,7 +58,7 @@ loop-less c = omega (arith, c.before.before.before.loop-test.true)
 loop-again : tie.Need-loop-preserved invariant-loop decreases-loop
 loop-again c =
     let s = c.before.before.before.before.before.before.before.before.before in
-    summing-more _ _ _ _ 0 _ _ _ _ _ c.before.before.before.before.loop.invariant c.before.before.before.loop-test.true _ _ _
+    summing_more _ _ _ _ 0 _ _ _ _ _ c.before.before.before.before.loop.invariant c.before.before.before.loop-test.true _ _ _
     c.before.before.tap-at.ensures.0 (c.before.before.tap-at.ensures.1 (s.requires.light _ c.before.before.before.loop-test.true))
     c.with-tap.ensures
 
@@ -83,7 +83,7 @@ same_length c = search rules
 returns : tie.Need-returns invariant-loop decreases-loop
 returns c =
     let s = c.before.before.before.before.before.before.before in
-    ap (set s.args.memory.now s.args.c) (summing-end _ _ _ _ _ _ _ _ _ _ c.before.before.loop.invariant c.before.loop-test.false _
+    ap (set s.args.memory.now s.args.c) (summing_end _ _ _ _ _ _ _ _ _ _ c.before.before.loop.invariant c.before.loop-test.false _
     c.closed.ensures)
 
 pub store-many-spec : {M : Type 1} → statement M

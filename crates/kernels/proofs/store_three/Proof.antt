@@ -3,7 +3,7 @@ use mathlib.Core.List.{[], ◌∷◌}
 use native.Mathlib.Omega.{arith}
 use borrow.Author.Rules.{rules}
 use Rattle.base.specs.Tests.{sum}
-use Rattle.kernels.proofs.Sums.{tap-needs, closes}
+use Rattle.kernels.proofs.Sums.{tap_needs, closes}
 use Rattle.kernels.proofs.store_three.Statement.{statement}
 use Rattle.kernels.proofs.store_three.Tie as tie
 
@@ -16,17 +16,17 @@ add-t c = search rules
 with-tap-requires : tie.Need-with-tap-requires
 with-tap-requires c κs =
     let s = c.before.before.before.before.before in
-    tap-needs s.requires 0 (omega arith) (omega arith) _ (omega arith)
+    tap_needs s.requires 0 (omega arith) (omega arith) _ (omega arith)
 
 with-tap-requires-2 : tie.Need-with-tap-requires-2
 with-tap-requires-2 c κs =
     let s = c.before.before.before.before.before.before.before in
-    tap-needs s.requires 1 (omega arith) (omega arith) _ (omega arith)
+    tap_needs s.requires 1 (omega arith) (omega arith) _ (omega arith)
 
 with-tap-requires-3 : tie.Need-with-tap-requires-3
 with-tap-requires-3 c κs =
     let s = c.before.before.before.before.before.before.before.before.before in
-    tap-needs s.requires 2 (omega arith) (omega arith) _ (omega arith)
+    tap_needs s.requires 2 (omega arith) (omega arith) _ (omega arith)
 
 closed-requires : tie.Need-closed-requires
 closed-requires c κs = search rules

@@ -1,7 +1,7 @@
 -- `kernels::wave` meets its contract, by each of its loops.
 use mathlib.Core.Path.{◌∙◌}
 use borrow.Author.Rules.{rules}
-use Rattle.kernels.proofs.Sums.{fits-same, stores_same, same-one, same-two, same-three, same-four}
+use Rattle.kernels.proofs.Sums.{fits_same, stores_same, same_one, same_two, same_three, same_four}
 use Rattle.kernels.proofs.wave.Statement.{statement}
 use Rattle.kernels.proofs.wave.Tie as tie
 
@@ -11,7 +11,7 @@ tap-at-requires c κs = search rules
 wave-one-requires : tie.Need-wave-one-requires
 wave-one-requires c κs =
     let s = c.before.before.before.before.before in
-    fits-same (same-one s.args.backs.now s.args.weights.now s.requires.light c.before.if1.true c.before.before.tap-at.ensures) s.requires
+    fits_same (same_one s.args.backs.now s.args.weights.now s.requires.light c.before.if1.true c.before.before.tap-at.ensures) s.requires
 
 same_length : tie.Need-same-length
 same_length c = search rules
@@ -19,7 +19,7 @@ same_length c = search rules
 returns : tie.Need-returns
 returns c =
     let s = c.before.before.before.before.before.before.before.before in
-    c.before.before.wave-one.ensures ∙ stores_same (same-one s.args.backs.now s.args.weights.now s.requires.light
+    c.before.before.wave-one.ensures ∙ stores_same (same_one s.args.backs.now s.args.weights.now s.requires.light
     c.before.before.before.before.if1.true c.before.before.before.before.before.tap-at.ensures) _ _ _ _ _
 
 tap-at-requires-2 : tie.Need-tap-at-requires-2
@@ -28,7 +28,7 @@ tap-at-requires-2 c κs = search rules
 wave-two-requires : tie.Need-wave-two-requires
 wave-two-requires c κs =
     let s = c.before.before.before.before.before.before.before in
-    fits-same (same-two s.args.backs.now s.args.weights.now s.requires.light c.before.if2.true
+    fits_same (same_two s.args.backs.now s.args.weights.now s.requires.light c.before.if2.true
     c.before.before.before.before.tap-at.ensures c.before.before.tap-at2.ensures) s.requires
 
 same-length-2 : tie.Need-same-length-2
@@ -37,7 +37,7 @@ same-length-2 c = search rules
 returns-2 : tie.Need-returns-2
 returns-2 c =
     let s = c.before.before.before.before.before.before.before.before.before.before in
-    c.before.before.wave-two.ensures ∙ stores_same (same-two s.args.backs.now s.args.weights.now s.requires.light
+    c.before.before.wave-two.ensures ∙ stores_same (same_two s.args.backs.now s.args.weights.now s.requires.light
     c.before.before.before.before.if2.true c.before.before.before.before.before.before.before.tap-at.ensures
     c.before.before.before.before.before.tap-at2.ensures) _ _ _ _ _
 
@@ -47,7 +47,7 @@ tap-at-requires-3 c κs = search rules
 wave-three-requires : tie.Need-wave-three-requires
 wave-three-requires c κs =
     let s = c.before.before.before.before.before.before.before.before.before in
-    fits-same (same-three s.args.backs.now s.args.weights.now s.requires.light c.before.if3.true
+    fits_same (same_three s.args.backs.now s.args.weights.now s.requires.light c.before.if3.true
     c.before.before.before.before.before.before.tap-at.ensures c.before.before.before.before.tap-at2.ensures
     c.before.before.tap-at3.ensures) s.requires
 
@@ -57,7 +57,7 @@ same-length-3 c = search rules
 returns-3 : tie.Need-returns-3
 returns-3 c =
     let s = c.before.before.before.before.before.before.before.before.before.before.before.before in
-    c.before.before.wave-three.ensures ∙ stores_same (same-three s.args.backs.now s.args.weights.now s.requires.light
+    c.before.before.wave-three.ensures ∙ stores_same (same_three s.args.backs.now s.args.weights.now s.requires.light
     c.before.before.before.before.if3.true c.before.before.before.before.before.before.before.before.before.tap-at.ensures
     c.before.before.before.before.before.before.before.tap-at2.ensures c.before.before.before.before.before.tap-at3.ensures) _ _ _ _ _
 
@@ -67,7 +67,7 @@ tap-at-requires-4 c κs = search rules
 wave-four-requires : tie.Need-wave-four-requires
 wave-four-requires c κs =
     let s = c.before.before.before.before.before.before.before.before.before.before.before in
-    fits-same (same-four s.args.backs.now s.args.weights.now s.requires.light c.before.if4.true
+    fits_same (same_four s.args.backs.now s.args.weights.now s.requires.light c.before.if4.true
     c.before.before.before.before.before.before.before.before.tap-at.ensures
     c.before.before.before.before.before.before.tap-at2.ensures c.before.before.before.before.tap-at3.ensures
     c.before.before.tap-at4.ensures) s.requires
@@ -78,7 +78,7 @@ same-length-4 c = search rules
 returns-4 : tie.Need-returns-4
 returns-4 c =
     let s = c.before.before.before.before.before.before.before.before.before.before.before.before.before.before in
-    c.before.before.wave-four.ensures ∙ stores_same (same-four s.args.backs.now s.args.weights.now s.requires.light
+    c.before.before.wave-four.ensures ∙ stores_same (same_four s.args.backs.now s.args.weights.now s.requires.light
     c.before.before.before.before.if4.true
     c.before.before.before.before.before.before.before.before.before.before.before.tap-at.ensures
     c.before.before.before.before.before.before.before.before.before.tap-at2.ensures

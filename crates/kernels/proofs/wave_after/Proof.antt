@@ -4,8 +4,8 @@ use mathlib.Core.List.{[], ◌∷◌}
 use native.Mathlib.Omega.{arith}
 use borrow.Author.Rules.{rules}
 use Rattle.kernels.specs.Taps.{made, Stands}
-use Rattle.kernels.proofs.Sums.{fits-at, Waving, waving-none, waving-long, waving-end}
-use Rattle.kernels.proofs.Columns.{stands_at, waving-column}
+use Rattle.kernels.proofs.Sums.{fits_at_lem, Waving, waving_none, waving_long, waving_end}
+use Rattle.kernels.proofs.Columns.{stands_at, waving_column}
 use Rattle.kernels.proofs.wave_after.Statement.{statement}
 use Rattle.kernels.proofs.wave_after.Tie as tie
 
@@ -27,7 +27,7 @@ column-at-requires c κs =
     (omega (arith, s.requires.1.0, s.requires.0.back 0 (omega arith), s.requires.0.within), s.requires.0.small)
 
 loop-holds : tie.Need-loop-init invariant-loop decreases-loop
-loop-holds c = (waving-none _ _ _ _ _, stands_at _ (omega arith) c.column-at.ensures)
+loop-holds c = (waving_none _ _ _ _ _, stands_at _ (omega arith) c.column-at.ensures)
 
 add-store-column : tie.Need-overflow-add-store-column invariant-loop decreases-loop
 add-store-column c =
@@ -38,7 +38,7 @@ store-column-requires : tie.Need-store-column-requires invariant-loop decreases-
 store-column-requires c κs =
     let s = c.before.before.before.before.before.before.before in
     let inv = c.before.before.loop.invariant in (
-      fits-at s.requires.0 _ _ _ (omega arith) (omega (arith, c.before.loop-test.true)) (omega (arith, waving-long inv.0)),
+      fits_at_lem s.requires.0 _ _ _ (omega arith) (omega (arith, c.before.loop-test.true)) (omega (arith, waving_long inv.0)),
       (s.requires.1.0, (s.requires.1.1, inv.1)),
     )
 
@@ -52,13 +52,13 @@ loop-again : tie.Need-loop-preserved invariant-loop decreases-loop
 loop-again c =
     let inv = c.before.before.before.before.before.loop.invariant in
     let stored = c.before.before.store-column.ensures in
-    (waving-column inv.0 _ c.before.before.before.before.loop-test.true stored.0, stands_at _ (omega arith) stored.1)
+    (waving_column inv.0 _ c.before.before.before.before.loop-test.true stored.0, stands_at _ (omega arith) stored.1)
 
 same_length : tie.Need-same-length invariant-loop decreases-loop
-same_length c = waving-long c.before.loop.invariant.0
+same_length c = waving_long c.before.loop.invariant.0
 
 returns : tie.Need-returns invariant-loop decreases-loop
-returns c = waving-end c.before.loop.invariant.0 c.loop-test.false
+returns c = waving_end c.before.loop.invariant.0 c.loop-test.false
 
 pub wave-after-spec : {M : Type 1} → statement M
 wave-after-spec =

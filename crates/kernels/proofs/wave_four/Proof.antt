@@ -3,13 +3,13 @@ use Prim.Native.Nat.{◌-◌}
 use mathlib.Core.List.{[], ◌∷◌}
 use native.Mathlib.Omega.{arith}
 use borrow.Author.Rules.{rules}
-use Rattle.kernels.specs.Taps.{madeBy}
-use Rattle.kernels.proofs.Sums.{column-small, column_fits, Waving, waving-none, waving-long, waving-more, waving-end}
+use Rattle.kernels.specs.Taps.{made_by}
+use Rattle.kernels.proofs.Sums.{column_small, column_fits, Waving, waving_none, waving_long, waving_more, waving_end}
 use Rattle.kernels.proofs.wave_four.Statement.{statement}
 use Rattle.kernels.proofs.wave_four.Tie as tie
 
 abbrev invariant-loop : tie.invariant-loop
-invariant-loop source memory₀ rule p q r s a t width y₀ memory y = Waving (madeBy rule (p ∷ q ∷ r ∷ s ∷ []) source) memory₀ memory a t width y
+invariant-loop source memory₀ rule p q r s a t width y₀ memory y = Waving (made_by rule (p ∷ q ∷ r ∷ s ∷ []) source) memory₀ memory a t width y
 
 abbrev decreases-loop : tie.decreases-loop
 decreases-loop source memory₀ rule p q r s a t width y₀ memory y = width - y
@@ -31,22 +31,22 @@ abbrev start : tie.In-loop invariant-loop decreases-loop → tie.Start invariant
 start c = c.before.before.before.before
 
 loop-holds : tie.Need-loop-init invariant-loop decreases-loop
-loop-holds c = waving-none _ _ _ _ _
+loop-holds c = waving_none _ _ _ _ _
 
 add-b : tie.Need-overflow-add-b invariant-loop decreases-loop
-add-b c = omega (arith, column-small c.before.loop.invariant (start c).requires c.loop-test.true)
+add-b c = omega (arith, column_small c.before.loop.invariant (start c).requires c.loop-test.true)
 
 add-b-2 : tie.Need-overflow-add-b-2 invariant-loop decreases-loop
-add-b-2 c = omega (arith, column-small c.before.loop.invariant (start c).requires c.loop-test.true)
+add-b-2 c = omega (arith, column_small c.before.loop.invariant (start c).requires c.loop-test.true)
 
 add-c : tie.Need-overflow-add-c invariant-loop decreases-loop
-add-c c = omega (arith, column-small c.before.loop.invariant (start c).requires c.loop-test.true)
+add-c c = omega (arith, column_small c.before.loop.invariant (start c).requires c.loop-test.true)
 
 add-d : tie.Need-overflow-add-d invariant-loop decreases-loop
-add-d c = omega (arith, column-small c.before.loop.invariant (start c).requires c.loop-test.true)
+add-d c = omega (arith, column_small c.before.loop.invariant (start c).requires c.loop-test.true)
 
 add-store-four : tie.Need-overflow-add-store-four invariant-loop decreases-loop
-add-store-four c = let b = c.before in omega (arith, column-small b.before.loop.invariant (start b).requires b.loop-test.true)
+add-store-four c = let b = c.before in omega (arith, column_small b.before.loop.invariant (start b).requires b.loop-test.true)
 
 store-four-requires : tie.Need-store-four-requires invariant-loop decreases-loop
 store-four-requires c κs =
@@ -80,14 +80,14 @@ loop-again c =
     let third = fourth.before.before.before.before in
     let second = third.before.before.before.before in
     let first = second.before.before.before.before in
-    waving-more (turn-4 c).before.loop.invariant _ _ _ _ (turn-4 c).loop-test.true first.store-four.ensures second.store-four2.ensures
+    waving_more (turn-4 c).before.loop.invariant _ _ _ _ (turn-4 c).loop-test.true first.store-four.ensures second.store-four2.ensures
     third.store-four3.ensures fourth.store-four4.ensures
 
 same_length : tie.Need-same-length invariant-loop decreases-loop
-same_length c = waving-long c.before.loop.invariant
+same_length c = waving_long c.before.loop.invariant
 
 returns : tie.Need-returns invariant-loop decreases-loop
-returns c = waving-end c.before.loop.invariant c.loop-test.false
+returns c = waving_end c.before.loop.invariant c.loop-test.false
 
 pub wave-four-spec : {M : Type 1} → statement M
 wave-four-spec =

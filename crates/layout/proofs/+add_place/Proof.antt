@@ -3,7 +3,7 @@ use borrow.Author.Rules.{rules}
 use native.Mathlib.Omega.{arith}
 use mathlib.Core.Path.{◌∙◌}
 use lib.ListN.{length-set}
-use Rattle.layout.proofs.Dims.{placed-none, placed-more, places-less, place-fits}
+use Rattle.layout.proofs.Dims.{placed_none, placed_more, places_less, place_fits}
 use Prim.Native.Nat.{ℕ, ◌<◌}
 use borrow.Fn.Kinds.{In}
 use borrow.Fn.PlainCycle.{Measures, is, falls, and}
@@ -26,7 +26,7 @@ add-place-below t =
 add-place-returns :
     (t : ℕ) →
     add-place-lts.Need-returns (add-place-below t, add-place.Post) (add-place-at t) add-place.Post
-add-place-returns t c = (c.before.requires.1.0, placed-none _ _ _ _ c.if1.true)
+add-place-returns t c = (c.before.requires.1.0, placed_none _ _ _ _ c.if1.true)
 
 add-place-sub-j :
     (t : ℕ) →
@@ -67,7 +67,7 @@ add-place-add-at t c =
     record {
       fits = omega (
         arith,
-        place-fits c.before.before.before.args.lengths.now c.before.before.before.args.at.now
+        place_fits c.before.before.before.args.lengths.now c.before.before.before.args.at.now
             c.before.before.before.args.n c.before.before.before.args.left c.before.before.if1.false (omega arith)
             c.before.before.before.requires.1.1,
       );
@@ -93,7 +93,7 @@ add-place-add-place-requires t c κs = (
   omega arith,
   (
     length-set c.before.before.before.before.args.at.now _ _ ∙ c.before.before.before.before.requires.1.0,
-    places-less _ _ c.before.before.before.before.args.n _ c.before.before.before.if1.false (omega arith)
+    places_less _ _ c.before.before.before.before.args.n _ c.before.before.before.if1.false (omega arith)
         c.before.before.before.before.requires.1.1,
   ),
 )
@@ -105,7 +105,7 @@ add-place-returns-2 :
     (add-place-at t)
     add-place.Post
 add-place-returns-2 t c =
-    (c.add-place.ensures.0, placed-more _ _ _ _ _ c.before.before.before.before.if1.false (omega arith) c.add-place.ensures.1)
+    (c.add-place.ensures.0, placed_more _ _ _ _ _ c.before.before.before.before.if1.false (omega arith) c.add-place.ensures.1)
 
 pub +add-place-spec : {M : Type 1} → statement M
 +add-place-spec =

@@ -5,7 +5,7 @@ use mathlib.Core.Path.{sym}
 use Prim.Native.Nat.{◌-◌, ◌*◌, ◌^◌}
 use lib.ListN.{get_or}
 use Rattle.base.specs.Tests as tests
-use Rattle.layout.proofs.Dims.{ProductTurn, product-turn}
+use Rattle.layout.proofs.Dims.{ProductTurn, product_turn}
 use Prim.Native.Nat.{ℕ, ◌<◌}
 use borrow.Fn.Kinds.{In}
 use borrow.Fn.PlainCycle.{Measures, is, falls, and}
@@ -29,7 +29,7 @@ product-of-below t =
 -- what is known past the test
 of : (t : ℕ) (c : product-of-lts.Else1 (product-of-below t, product-of.Post) (product-of-at t) product-of.Post) → ProductTurn c.before.args.counts.now
     c.before.args.left
-of t c = product-turn _ _ c.if1.false c.before.requires.1
+of t c = product_turn _ _ c.if1.false c.before.requires.1
 
 all : (t : ℕ) (c : product-of-lts.After-product-of (product-of-below t, product-of.Post) (product-of-at t) product-of.Post)
     → c.product-of.result * get_or c.before.before.args.counts.now (c.before.before.args.left - 1) 0 < 2 ^ 64

@@ -5,7 +5,7 @@ use mathlib.Core.Path.{sym}
 use Prim.Native.Nat.{◌+◌, ◌-◌, ◌*◌, ◌≤◌}
 use lib.ListN.{get_or}
 use Rattle.nest.specs.Places as geometry
-use Rattle.layout.proofs.Dims.{RankTurn, rank-turn}
+use Rattle.layout.proofs.Dims.{RankTurn, rank_turn}
 use Prim.Native.Nat.{ℕ, ◌<◌}
 use borrow.Fn.Kinds.{In}
 use borrow.Fn.PlainCycle.{Measures, is, falls, and}
@@ -27,7 +27,7 @@ rank-of-below t = and 2 rank-of-kinds.ps (falls 2 rank-of-kinds.ps ◌<◌ μ-ra
 -- what is known past the test
 of : (t : ℕ) (c : rank-of-lts.Else1 (rank-of-below t, rank-of.Post) (rank-of-at t) rank-of.Post) → RankTurn c.before.args.lengths.now
     c.before.args.at.now c.before.args.left
-of t c = rank-turn _ _ _ c.if1.false c.before.requires.1
+of t c = rank_turn _ _ _ c.if1.false c.before.requires.1
 
 all : (t : ℕ) (c : rank-of-lts.After-rank-of (rank-of-below t, rank-of.Post) (rank-of-at t) rank-of.Post)
     → c.rank-of.result * get_or c.before.before.args.lengths.now (c.before.before.args.left - 1) 0 + get_or c.before.before.args.at.now

@@ -4,14 +4,14 @@ use native.Mathlib.Omega.{arith}
 use Prim.Native.Nat.{ℕ, ◌+◌, ◌-◌}
 use mathlib.Core.Path.{refl, ap}
 use lib.ListN.{get_or}
-use Rattle.nest.specs.Nest.{tileCount}
+use Rattle.nest.specs.Nest.{tile_count}
 use native.Mathlib.Nat.{div-le_self}
-use Rattle.layout.proofs.Loops.{Filled, filled_none, filled_more, filled-end}
+use Rattle.layout.proofs.Loops.{Filled, filled_none, filled_more, filled_end}
 use Rattle.layout.proofs.across_of.Statement.{statement}
 use Rattle.layout.proofs.across_of.Tie as tie
 
 abbrev invariant-loop : tie.invariant-loop
-invariant-loop nest across₀ n j₀ across j = Filled 4 (tileCount nest) n across j
+invariant-loop nest across₀ n j₀ across j = Filled 4 (tile_count nest) n across j
 
 abbrev decreases-loop : tie.decreases-loop
 decreases-loop nest across₀ n j₀ across j = n - j
@@ -38,7 +38,7 @@ tile-along-requires : tie.Need-tile-along-requires invariant-loop decreases-loop
 tile-along-requires c κs =
     let at-loop = c.before.before.before in
     let start = at-loop.before in
-    (omega (arith, start.requires.length_most at-loop.loop.j), (start.requires.tiled _ (omega arith), omega (arith, start.requires.tile-most at-loop.loop.j)))
+    (omega (arith, start.requires.length_most at-loop.loop.j), (start.requires.tiled _ (omega arith), omega (arith, start.requires.tile_most at-loop.loop.j)))
 
 add-across : tie.Need-overflow-add-across invariant-loop decreases-loop
 add-across c =
@@ -65,15 +65,15 @@ loop-less : tie.Need-loop-smaller invariant-loop decreases-loop
 loop-less c = search rules
 
 loop-again : tie.Need-loop-preserved invariant-loop decreases-loop
-unfolding tileCount
+unfolding tile_count
 loop-again c =
     let at-loop-test = c.before.before.before in
     let at-loop = at-loop-test.before in
     let start = at-loop.before in
-    filled_more _ _ _ _ _ at-loop.loop.invariant at-loop-test.loop-test.true start.requires.dimensions-most (ap (λ (a : ℕ). a + 1) c.tile-along.ensures)
+    filled_more _ _ _ _ _ at-loop.loop.invariant at-loop-test.loop-test.true start.requires.dimensions_most (ap (λ (a : ℕ). a + 1) c.tile-along.ensures)
 
 returns : tie.Need-returns invariant-loop decreases-loop
-returns c = filled-end _ _ _ _ c.before.loop.invariant (omega arith)
+returns c = filled_end _ _ _ _ c.before.loop.invariant (omega arith)
 
 pub across-of-spec : {M : Type 1} → statement M
 across-of-spec =

@@ -3,7 +3,7 @@ use borrow.Author.Rules.{rules}
 use native.Mathlib.Omega.{arith}
 use Prim.Native.Nat.{◌-◌}
 use mathlib.Core.Path.{refl}
-use Rattle.layout.proofs.Cells.{Boxing, boxing-none, boxing-low, boxing-more, boxing-countable, boxing-end}
+use Rattle.layout.proofs.Cells.{Boxing, boxing_none, boxing_low, boxing_more, boxing_countable, boxing_end}
 use Rattle.layout.proofs.bounds_of.Statement.{statement}
 use Rattle.layout.proofs.bounds_of.Tie as tie
 
@@ -17,7 +17,7 @@ put-tile-requires : tie.Need-put-tile-requires invariant-loop decreases-loop
 put-tile-requires c κs = c.before.before.before.requires.0
 
 loop-holds : tie.Need-loop-init invariant-loop decreases-loop
-loop-holds c = boxing-none _ c.before.before.before.before.requires.0.accepted _ _ _ c.put-tile.ensures.1 c.put-tile.ensures.0 refl
+loop-holds c = boxing_none _ c.before.before.before.before.requires.0.accepted _ _ _ c.put-tile.ensures.1 c.put-tile.ensures.0 refl
 
 mul-k : tie.Need-overflow-mul-k invariant-loop decreases-loop
 mul-k c = search rules
@@ -37,7 +37,7 @@ mul-first-2 c =
     record {
       fits = omega (
         arith,
-        boxing-low _ start.requires.0.accepted _ _ _ _ c.before.loop.invariant c.loop-test.true,
+        boxing_low _ start.requires.0.accepted _ _ _ _ c.before.loop.invariant c.loop-test.true,
         start.requires.0.accepted.length_most c.before.loop.j,
       );
     }
@@ -56,7 +56,7 @@ array-read-least c = search rules
 
 sub-least : tie.Need-overflow-sub-least invariant-loop decreases-loop
 sub-least c =
-    omega (arith, boxing-low _ c.before.before.before.before.before.before.requires.0.accepted _ _ _ _ c.before.loop.invariant c.loop-test.true)
+    omega (arith, boxing_low _ c.before.before.before.before.before.before.requires.0.accepted _ _ _ _ c.before.loop.invariant c.loop-test.true)
 
 least-requires : tie.Need-least-requires invariant-loop decreases-loop
 least-requires c κs = search rules
@@ -75,19 +75,19 @@ loop-less c = search rules
 
 loop-again : tie.Need-loop-preserved invariant-loop decreases-loop
 loop-again c =
-    boxing-more _ c.before.before.before.before.before.before.before.requires.0.accepted _ _ _ _ c.before.before.loop.invariant
+    boxing_more _ c.before.before.before.before.before.before.before.requires.0.accepted _ _ _ _ c.before.before.loop.invariant
     c.before.loop-test.true _ c.least.ensures
 
 product-of-requires : tie.Need-product-of-requires invariant-loop decreases-loop
 product-of-requires c κs =
     let start = c.before.before.before.before.before.before.before in
-    boxing-countable _ start.requires.0.accepted _ _ _ _ c.before.before.loop.invariant (omega arith) start.requires.1
+    boxing_countable _ start.requires.0.accepted _ _ _ _ c.before.before.loop.invariant (omega arith) start.requires.1
 
 returns : tie.Need-returns invariant-loop decreases-loop
 returns c =
     let at-loop = c.before.before.before in
     let start = at-loop.before.before.before.before.before in
-    (boxing-end _ start.requires.0.accepted _ _ _ _ at-loop.loop.invariant (omega arith) start.requires.1 _ c.product-of.ensures, refl)
+    (boxing_end _ start.requires.0.accepted _ _ _ _ at-loop.loop.invariant (omega arith) start.requires.1 _ c.product-of.ensures, refl)
 
 pub bounds-of-spec : {M : Type 1} → statement M
 bounds-of-spec =

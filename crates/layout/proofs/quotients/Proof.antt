@@ -3,13 +3,13 @@ use borrow.Author.Rules.{rules}
 use native.Mathlib.Omega.{arith}
 use Prim.Native.Nat.{◌-◌, ◌/◌}
 use lib.ListN.{get_or}
-use Rattle.nest.specs.Nest.{tileLength}
-use Rattle.layout.proofs.Loops.{Filled, filled_none, filled_more, filled-end}
+use Rattle.nest.specs.Nest.{tile_length}
+use Rattle.layout.proofs.Loops.{Filled, filled_none, filled_more, filled_end}
 use Rattle.layout.proofs.quotients.Statement.{statement}
 use Rattle.layout.proofs.quotients.Tie as tie
 
 abbrev invariant-loop : tie.invariant-loop
-invariant-loop nest at tile₀ n j₀ tile j = Filled 4 (λ i. get_or at i 0 / tileLength nest i) n tile j
+invariant-loop nest at tile₀ n j₀ tile j = Filled 4 (λ i. get_or at i 0 / tile_length nest i) n tile j
 
 abbrev decreases-loop : tie.decreases-loop
 decreases-loop nest at tile₀ n j₀ tile j = n - j
@@ -34,7 +34,7 @@ tile-along-requires c κs = (
   c.before.before.before.requires.1 _ (omega arith),
   (
     c.before.before.before.requires.0.tiled _ (omega arith),
-    omega (arith, c.before.before.before.requires.0.tile-most c.before.before.loop.j),
+    omega (arith, c.before.before.before.requires.0.tile_most c.before.before.loop.j),
   ),
 )
 
@@ -54,10 +54,10 @@ loop-again : tie.Need-loop-preserved invariant-loop decreases-loop
 loop-again c =
     let at-loop = c.before.before.before in
     let start = at-loop.before in
-    filled_more _ _ _ _ _ at-loop.loop.invariant c.before.before.loop-test.true start.requires.0.dimensions-most c.tile-along.ensures
+    filled_more _ _ _ _ _ at-loop.loop.invariant c.before.before.loop-test.true start.requires.0.dimensions_most c.tile-along.ensures
 
 returns : tie.Need-returns invariant-loop decreases-loop
-returns c = filled-end _ _ _ _ c.before.loop.invariant (omega arith)
+returns c = filled_end _ _ _ _ c.before.loop.invariant (omega arith)
 
 pub quotients-spec : {M : Type 1} → statement M
 quotients-spec =

@@ -4,7 +4,7 @@ use native.Mathlib.Omega.{arith}
 use Prim.Native.Nat.{ℕ, ◌-◌, ◌%◌}
 use mathlib.Core.Path.{ap}
 use lib.ListN.{get_or}
-use Rattle.layout.proofs.Loops.{Changed, changed-none, changed-more, filled-end}
+use Rattle.layout.proofs.Loops.{Changed, changed_none, changed_more, filled_end}
 use Rattle.layout.proofs.remainders.Statement.{statement}
 use Rattle.layout.proofs.remainders.Tie as tie
 
@@ -15,7 +15,7 @@ abbrev decreases-loop : tie.decreases-loop
 decreases-loop at₀ counts n j₀ at j = n - j
 
 loop-holds : tie.Need-loop-init invariant-loop decreases-loop
-loop-holds c = changed-none _ _ _ c.before.requires.1
+loop-holds c = changed_none _ _ _ c.before.requires.1
 
 mul_at : tie.Need-overflow-mul-at invariant-loop decreases-loop
 mul_at c = search rules
@@ -44,12 +44,12 @@ loop-less c = search rules
 loop-again : tie.Need-loop-preserved invariant-loop decreases-loop
 loop-again c =
     let start = c.before.before.before.before in
-    changed-more _ _ _ _ _ _ c.before.before.loop.invariant c.before.loop-test.true
-    (omega (arith, start.requires.0.spread-low, start.requires.0.dimensions-most))
+    changed_more _ _ _ _ _ _ c.before.before.loop.invariant c.before.loop-test.true
+    (omega (arith, start.requires.0.spread_low, start.requires.0.dimensions_most))
     (ap (λ (a : ℕ). a % get_or start.args.nest.counts c.before.before.loop.j 0) (c.before.before.loop.invariant.rest _ (omega arith)))
 
 returns : tie.Need-returns invariant-loop decreases-loop
-returns c = filled-end _ _ _ _ c.before.loop.invariant.first (omega arith)
+returns c = filled_end _ _ _ _ c.before.loop.invariant.first (omega arith)
 
 pub remainders-spec : {M : Type 1} → statement M
 remainders-spec =

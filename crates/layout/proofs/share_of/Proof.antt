@@ -5,14 +5,14 @@ use mathlib.Core.Path.{◌≡◌}
 use mathlib.Core.Bool.{true}
 use borrow.Author.Tests.{not-true, not-false}
 use borrow.Author.Rules.{rules}
-use Rattle.layout.proofs.Shares.{shared-all, shared-some}
+use Rattle.layout.proofs.Shares.{shared_all, shared_some}
 use Rattle.layout.proofs.share_of.Statement.{statement}
 use Rattle.layout.proofs.share_of.Tie as tie
 use Rattle.layout.proofs.share_of.Reads as reads
 use Rattle.layout.proofs.share_of.Lts as lts
 
 returns : tie.Need-returns
-returns c = shared-all _ _ _ _ (not-true _ c.if1.true) c.before.requires.0
+returns c = shared_all _ _ _ _ (not-true _ c.if1.true) c.before.requires.0
 
 -- past the test
 spreads : (c : lts.Else1 reads.Pre reads.Post) → c.before.args.spread ≡ true
@@ -37,7 +37,7 @@ div-t11 : tie.Need-nonzero-div-t11
 div-t11 c = (c.before.requires.1.1 (spreads c)).0
 
 returns-2 : tie.Need-returns-2
-returns-2 c = shared-some _ _ _ _ (spreads c)
+returns-2 c = shared_some _ _ _ _ (spreads c)
 
 pub share-of-spec : {M : Type 1} → statement M
 share-of-spec =

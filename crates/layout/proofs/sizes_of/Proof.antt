@@ -2,7 +2,7 @@
 use borrow.Author.Rules.{rules}
 use mathlib.Core.Path.{refl, ◌∙◌}
 use Rattle.nest.specs.Nest.{cells, processors}
-use Rattle.layout.proofs.Cells.{lengths-countable, across-countable, counts-countable, across-product}
+use Rattle.layout.proofs.Cells.{lengths_countable, across_countable, counts_countable, across_product}
 use Rattle.layout.proofs.sizes_of.Statement.{statement}
 use Rattle.layout.proofs.sizes_of.Tie as tie
 
@@ -10,13 +10,13 @@ across-of-requires : tie.Need-across-of-requires
 across-of-requires c κs = search rules
 
 product-requires : tie.Need-product-requires
-product-requires c κs = lengths-countable _ c.before.before.before.requires
+product-requires c κs = lengths_countable _ c.before.before.before.requires
 
 product-requires-2 : tie.Need-product-requires-2
-product-requires-2 c κs = across-countable _ c.before.before.before.before.requires _ c.before.across-of.ensures
+product-requires-2 c κs = across_countable _ c.before.before.before.before.requires _ c.before.across-of.ensures
 
 product-requires-3 : tie.Need-product-requires-3
-product-requires-3 c κs = counts-countable _ c.before.before.before.before.before.requires
+product-requires-3 c κs = counts_countable _ c.before.before.before.before.before.requires
 
 ways-of-requires : tie.Need-ways-of-requires
 ways-of-requires c κs = c.before.before.before.before.before.before.requires
@@ -30,7 +30,7 @@ returns c =
       record {
         accepted = start.requires;
         cells = at-product.product.ensures;
-        tiles = c.before.before.product2.ensures ∙ across-product _ start.requires _
+        tiles = c.before.before.product2.ensures ∙ across_product _ start.requires _
             at-across-of.across-of.ensures;
         processors = c.before.product3.ensures;
         ways = c.ways-of.ensures;

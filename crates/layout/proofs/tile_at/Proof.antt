@@ -2,7 +2,7 @@
 use native.Mathlib.Omega.{arith}
 use Prim.Native.Nat.{◌-◌, ◌<◌, ◌≤◌}
 use lib.ListN.{get_or}
-use Rattle.layout.proofs.Shares.{Finding, Turn, finding-none, finding-more, finding-end, share-asks}
+use Rattle.layout.proofs.Shares.{Finding, Turn, finding_none, finding_more, finding_end, share_asks}
 use Rattle.layout.proofs.tile_at.Statement.{statement}
 use Rattle.layout.proofs.tile_at.Tie as tie
 use Rattle.layout.proofs.tile_at.Reads as reads
@@ -19,7 +19,7 @@ decreases-loop processor finished counts across spread m j₀ rest₀ left₀ we
 loop-holds : tie.Need-loop-init invariant-loop decreases-loop
 loop-holds c =
     let start = c.before.before in
-    finding-none start.args.sizes.route start.args.nest start.requires.0.accepted start.args.sizes.across
+    finding_none start.args.sizes.route start.args.nest start.requires.0.accepted start.args.sizes.across
     (record { each = start.requires.0.across }) start.args.processor start.args.finished start.requires.1
 
 sub-j : tie.Need-overflow-sub-j invariant-loop decreases-loop
@@ -27,7 +27,7 @@ sub-j c = omega (arith, c.loop-test.true)
 
 -- in the loop's body
 low : (c : lts.In-loop (share-of-reads.Asked, share-of-reads.Learnt) reads.Pre reads.Post invariant-loop decreases-loop) → c.before.loop.j - 1 < 4
-low c = omega (arith, c.loop-test.true, c.before.loop.invariant.low, c.before.before.before.before.requires.0.accepted.dimensions-most)
+low c = omega (arith, c.loop-test.true, c.before.loop.invariant.low, c.before.before.before.before.requires.0.accepted.dimensions_most)
 
 mul-share-of : tie.Need-overflow-mul-share-of invariant-loop decreases-loop
 mul-share-of c = omega (arith, low c)
@@ -44,7 +44,7 @@ array-read-share-of-2 c = low c
 share-of-requires : tie.Need-share-of-requires invariant-loop decreases-loop
 share-of-requires c κs =
     let start = c.before.before.before.before in
-    share-asks start.args.sizes.route start.args.nest start.requires.0.accepted start.args.sizes.across
+    share_asks start.args.sizes.route start.args.nest start.requires.0.accepted start.args.sizes.across
     (record { each = start.requires.0.across }) start.args.processor c.before.loop.j c.loop-test.true c.before.loop.invariant.low
 
 -- past the share
@@ -55,7 +55,7 @@ turn : (c : lts.After-share-of (share-of-reads.Asked, share-of-reads.Learnt) rea
     (c.before.before.loop.j - 1) c.before.before.loop.left c.before.before.loop.weight c.before.before.loop.tile c.share-of.result
 turn c =
     let start = c.before.before.before.before.before in
-    finding-more start.args.sizes.route start.args.nest start.requires.0.accepted start.args.sizes.across
+    finding_more start.args.sizes.route start.args.nest start.requires.0.accepted start.args.sizes.across
     (record { each = start.requires.0.across }) start.args.processor start.args.finished start.requires.1
     c.before.before.loop.j c.before.before.loop.rest c.before.before.loop.left c.before.before.loop.weight
     c.before.before.loop.tile c.share-of.result c.before.loop-test.true c.before.before.loop.invariant c.share-of.ensures
@@ -68,10 +68,10 @@ rem-tile : tie.Need-nonzero-rem-tile invariant-loop decreases-loop
 rem-tile c = (turn c.before).some
 
 mul-tile : tie.Need-overflow-mul-tile invariant-loop decreases-loop
-mul-tile c = omega (arith, (turn c.before.before).in-range, small c.before.before)
+mul-tile c = omega (arith, (turn c.before.before).in_range, small c.before.before)
 
 add-tile : tie.Need-overflow-add-tile invariant-loop decreases-loop
-add-tile c = omega (arith, (turn c.before.before.before).in-range, small c.before.before.before)
+add-tile c = omega (arith, (turn c.before.before.before).in_range, small c.before.before.before)
 
 mul-tile-2 : tie.Need-overflow-mul-tile-2 invariant-loop decreases-loop
 mul-tile-2 c = omega (arith, (turn c.before.before.before).room, (turn c.before.before.before).wide)
@@ -100,7 +100,7 @@ loop-again c = (turn c.before.before.before.before).next
 returns : tie.Need-returns invariant-loop decreases-loop
 returns c =
     let start = c.before.before.before.before in
-    finding-end start.args.sizes.route start.args.nest start.requires.0.accepted start.args.sizes.across
+    finding_end start.args.sizes.route start.args.nest start.requires.0.accepted start.args.sizes.across
     (record { each = start.requires.0.across }) start.args.processor start.args.finished start.requires.1
     _ _ _ _ _ c.before.loop.invariant (omega (arith, c.loop-test.false))
 

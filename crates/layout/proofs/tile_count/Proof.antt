@@ -2,7 +2,7 @@
 use native.Mathlib.Omega.{arith}
 use mathlib.Core.Path.{sym}
 use Prim.Native.Nat.{◌-◌, ◌*◌, ◌<◌, ◌≤◌}
-use Rattle.layout.proofs.Shares.{Counting, counting-none, counting_more, counting-few, counting-end, share-asks, no-tiles}
+use Rattle.layout.proofs.Shares.{Counting, counting_none, counting_more, counting_few, counting_end, share_asks, no_tiles}
 use Rattle.layout.proofs.tile_count.Statement.{statement}
 use Rattle.layout.proofs.tile_count.Tie as tie
 use Rattle.layout.proofs.tile_count.Reads as reads
@@ -17,7 +17,7 @@ decreases-loop processor counts across spread m j₀ rest₀ n₀ j rest n = j
 
 returns : tie.Need-returns invariant-loop decreases-loop
 returns c = (
-  sym (no-tiles c.before.before.args.sizes.route _ c.before.before.requires.accepted _
+  sym (no_tiles c.before.before.args.sizes.route _ c.before.before.requires.accepted _
       (omega (arith, c.if1.true, c.before.before.requires.processors))),
   omega arith,
 )
@@ -25,7 +25,7 @@ returns c = (
 loop-holds : tie.Need-loop-init invariant-loop decreases-loop
 loop-holds c =
     let start = c.before.before.before.before in
-    counting-none start.args.sizes.route start.args.nest start.requires.accepted start.args.sizes.across (record { each = start.requires.across })
+    counting_none start.args.sizes.route start.args.nest start.requires.accepted start.args.sizes.across (record { each = start.requires.across })
     start.args.processor
 
 sub-j : tie.Need-overflow-sub-j invariant-loop decreases-loop
@@ -33,7 +33,7 @@ sub-j c = omega (arith, c.loop-test.true)
 
 -- in the loop's body
 low : (c : lts.In-loop (share-of-reads.Asked, share-of-reads.Learnt) reads.Pre reads.Post invariant-loop decreases-loop) → c.before.loop.j - 1 < 4
-low c = omega (arith, c.loop-test.true, c.before.loop.invariant.low, c.before.before.before.before.before.before.requires.accepted.dimensions-most)
+low c = omega (arith, c.loop-test.true, c.before.loop.invariant.low, c.before.before.before.before.before.before.requires.accepted.dimensions_most)
 
 mul-share-of : tie.Need-overflow-mul-share-of invariant-loop decreases-loop
 mul-share-of c = omega (arith, low c)
@@ -50,7 +50,7 @@ array-read-share-of-2 c = low c
 share-of-requires : tie.Need-share-of-requires invariant-loop decreases-loop
 share-of-requires c κs =
     let start = c.before.before.before.before.before.before in
-    share-asks start.args.sizes.route start.args.nest start.requires.accepted start.args.sizes.across (record { each = start.requires.across })
+    share_asks start.args.sizes.route start.args.nest start.requires.accepted start.args.sizes.across (record { each = start.requires.across })
     start.args.processor c.before.loop.j c.loop-test.true c.before.loop.invariant.low
 
 -- past the share
@@ -72,7 +72,7 @@ few : (c : lts.After-share-of (share-of-reads.Asked, share-of-reads.Learnt) read
     * c.share-of.result.tiles ≤ 16384
 few c =
     let start = c.before.before.before.before.before.before.before in
-    counting-few start.args.sizes.route start.args.nest start.requires.accepted start.args.sizes.across (record { each = start.requires.across })
+    counting_few start.args.sizes.route start.args.nest start.requires.accepted start.args.sizes.across (record { each = start.requires.across })
     start.args.processor _ _ _ (more c)
 
 mul-n : tie.Need-overflow-mul-n invariant-loop decreases-loop
@@ -87,10 +87,10 @@ loop-again c = more c.before
 returns-2 : tie.Need-returns-2 invariant-loop decreases-loop
 returns-2 c =
     let start = c.before.before.before.before.before.before in (
-      counting-end start.args.sizes.route start.args.nest start.requires.accepted start.args.sizes.across (record { each = start.requires.across })
+      counting_end start.args.sizes.route start.args.nest start.requires.accepted start.args.sizes.across (record { each = start.requires.across })
           start.args.processor (omega (arith, c.before.before.before.before.if1.false, start.requires.processors))
           _ _ _ c.before.loop.invariant (omega (arith, c.loop-test.false)),
-      counting-few start.args.sizes.route start.args.nest start.requires.accepted start.args.sizes.across (record { each = start.requires.across })
+      counting_few start.args.sizes.route start.args.nest start.requires.accepted start.args.sizes.across (record { each = start.requires.across })
           start.args.processor _ _ _ c.before.loop.invariant,
     )
 

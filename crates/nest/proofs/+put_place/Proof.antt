@@ -3,7 +3,7 @@ use borrow.Author.Rules.{rules}
 use native.Mathlib.Omega.{arith}
 use mathlib.Core.Path.{◌∙◌}
 use lib.ListN.{length-set}
-use Rattle.nest.proofs.Dims.{lengths-less, written_none, written-more}
+use Rattle.nest.proofs.Dims.{lengths_less, written_none, written_more}
 use Prim.Native.Nat.{ℕ, ◌<◌}
 use borrow.Fn.Kinds.{In}
 use borrow.Fn.PlainCycle.{Measures, is, falls, and}
@@ -74,7 +74,7 @@ put-place-put-place-requires t c κs = (
   omega arith,
   (
     length-set c.before.before.before.args.at.now _ _ ∙ c.before.before.before.requires.1.0,
-    lengths-less _ _ c.before.before.if1.false c.before.before.before.requires.1.1,
+    lengths_less _ _ c.before.before.if1.false c.before.before.before.requires.1.1,
   ),
 )
 
@@ -85,7 +85,7 @@ put-place-returns-2 :
     (put-place-at t)
     put-place.Post
 put-place-returns-2 t c =
-    (c.put-place.ensures.0, written-more _ _ _ _ _ c.before.before.before.if1.false (omega arith) c.put-place.ensures.1)
+    (c.put-place.ensures.0, written_more _ _ _ _ _ c.before.before.before.if1.false (omega arith) c.put-place.ensures.1)
 
 pub +put-place-spec : {M : Type 1} → statement M
 +put-place-spec =

@@ -14,7 +14,7 @@ add-t6 : tie.Need-overflow-add-t6
 add-t6 c = search rules
 
 returns-3 : tie.Need-returns-3
-returns-3 c = C.below-some _ _ _ c.before.before.if1.false c.if2.false
+returns-3 c = C.below_some _ _ _ c.before.before.if1.false c.if2.false
 
 pub below-spec : {M : Type 1} → statement M
 below-spec = tie.close (tie.spec returns returns-2 add-t6 returns-3)

@@ -9,104 +9,104 @@ use Rattle.nest.proofs.cut.Tie as tie
 array-read-j : tie.Need-array-read-j
 array-read-j c =
     let start = c.before.before.before.before.before in
-    omega (arith, start.requires.1.0, start.requires.0.bounds-most)
+    omega (arith, start.requires.1.0, start.requires.0.bounds_most)
 
 cast-j : tie.Need-overflow-cast-j
 cast-j c =
     let start = c.before.before.before.before.before in
-    omega (arith, start.requires.0.bounded-low start.args.k start.requires.1.0, start.requires.0.dimensions-most)
+    omega (arith, start.requires.0.bounded_low start.args.k start.requires.1.0, start.requires.0.dimensions_most)
 
 array-read-before : tie.Need-array-read-before
 array-read-before c =
     let start = c.before.before.before.before.before in
-    omega (arith, start.requires.1.0, start.requires.0.bounds-most)
+    omega (arith, start.requires.1.0, start.requires.0.bounds_most)
 
 cast-before : tie.Need-overflow-cast-before
 cast-before c =
     let start = c.before.before.before.before.before in
-    omega (arith, C.before-four start.args.nest start.requires.0 start.args.at.now start.args.k start.requires.1.0)
+    omega (arith, C.before_four start.args.nest start.requires.0 start.args.at.now start.args.k start.requires.1.0)
 
 mul-before : tie.Need-overflow-mul-before
 mul-before c =
     let start = c.before.before.before.before.before in
-    omega (arith, C.before-four start.args.nest start.requires.0 start.args.at.now start.args.k start.requires.1.0)
+    omega (arith, C.before_four start.args.nest start.requires.0 start.args.at.now start.args.k start.requires.1.0)
 
 element-copy-out-before : tie.Need-element-copy-out-before
 element-copy-out-before c =
     let start = c.before.before.before.before.before in
-    omega (arith, C.before-four start.args.nest start.requires.0 start.args.at.now start.args.k start.requires.1.0)
+    omega (arith, C.before_four start.args.nest start.requires.0 start.args.at.now start.args.k start.requires.1.0)
 
 array-read-level : tie.Need-array-read-level
 array-read-level c =
     let start = c.before.before.before.before.before.before in
-    omega (arith, start.requires.1.0, start.requires.0.bounds-most)
+    omega (arith, start.requires.1.0, start.requires.0.bounds_most)
 
 cast-level : tie.Need-overflow-cast-level
 cast-level c =
     let start = c.before.before.before.before.before.before in
-    omega (arith, start.requires.0.slope-most start.args.k)
+    omega (arith, start.requires.0.slope_most start.args.k)
 
 mul-level : tie.Need-overflow-mul-level
 mul-level c =
     let start = c.before.before.before.before.before.before in
-    omega (arith, C.line-room start.args.nest start.requires.0 start.args.at.now start.args.k start.requires.1.0 start.requires.1.1)
+    omega (arith, C.line_room start.args.nest start.requires.0 start.args.at.now start.args.k start.requires.1.0 start.requires.1.1)
 
 mul-level-2 : tie.Need-overflow-mul-level-2
 mul-level-2 c =
     let start = c.before.before.before.before.before.before in
-    omega (arith, start.requires.1.0, start.requires.0.bounds-most)
+    omega (arith, start.requires.1.0, start.requires.0.bounds_most)
 
 array-read-level-2 : tie.Need-array-read-level-2
 array-read-level-2 c =
     let start = c.before.before.before.before.before.before in
-    omega (arith, start.requires.1.0, start.requires.0.bounds-most)
+    omega (arith, start.requires.1.0, start.requires.0.bounds_most)
 
 cast-level-2 : tie.Need-overflow-cast-level-2
 cast-level-2 c =
     let start = c.before.before.before.before.before.before in
-    omega (arith, start.requires.0.offset-most start.args.k)
+    omega (arith, start.requires.0.offset_most start.args.k)
 
 add-level : tie.Need-overflow-add-level
 add-level c =
     let start = c.before.before.before.before.before.before in
     omega (
       arith,
-      C.line-room start.args.nest start.requires.0 start.args.at.now start.args.k start.requires.1.0 start.requires.1.1,
-      start.requires.0.offset-most start.args.k,
+      C.line_room start.args.nest start.requires.0 start.args.at.now start.args.k start.requires.1.0 start.requires.1.1,
+      start.requires.0.offset_most start.args.k,
     )
 
 add-base : tie.Need-overflow-add-base
 add-base c =
     let start = c.before.before.before.before.before.before in
-    omega (arith, C.base-room start.args.nest start.requires.0 start.args.at.now start.args.k start.requires.1.0 start.requires.1.1)
+    omega (arith, C.base_room start.args.nest start.requires.0 start.args.at.now start.args.k start.requires.1.0 start.requires.1.1)
 
 array-read-lower : tie.Need-array-read-lower
 array-read-lower c =
     let start = c.before.before.before.before.before.before in
-    omega (arith, start.requires.1.0, start.requires.0.bounds-most)
+    omega (arith, start.requires.1.0, start.requires.0.bounds_most)
 
 add-if1 : tie.Need-overflow-add-if1
 add-if1 c =
     let start = c.before.before.before.before.before.before in
-    omega (arith, start.requires.0.bounded-low start.args.k start.requires.1.0, start.requires.0.dimensions-most)
+    omega (arith, start.requires.0.bounded_low start.args.k start.requires.1.0, start.requires.0.dimensions_most)
 
 mul-met : tie.Need-overflow-mul-met
 mul-met c =
     let start = c.before.before.before.before.before.before.before.before in
-    omega (arith, c.if1.true, start.requires.0.dimensions-most)
+    omega (arith, c.if1.true, start.requires.0.dimensions_most)
 
 element-copy-out-met : tie.Need-element-copy-out-met
 element-copy-out-met c =
     let start = c.before.before.before.before.before.before.before.before in
-    omega (arith, c.if1.true, start.requires.0.dimensions-most)
+    omega (arith, c.if1.true, start.requires.0.dimensions_most)
 
 add-met : tie.Need-overflow-add-met
 add-met c =
     let start = c.before.before.before.before.before.before.before.before.before in
     omega (
       arith,
-      C.base-room start.args.nest start.requires.0 start.args.at.now start.args.k start.requires.1.0 start.requires.1.1,
-      start.requires.1.1 _ (start.requires.0.bounded-low _ start.requires.1.0),
+      C.base_room start.args.nest start.requires.0 start.args.at.now start.args.k start.requires.1.0 start.requires.1.1,
+      start.requires.1.1 _ (start.requires.0.bounded_low _ start.requires.1.0),
     )
 
 met-requires : tie.Need-met-requires
@@ -118,7 +118,7 @@ kept-requires c κs = search rules
 returns : tie.Need-returns
 returns c =
     let start = c.before.before.before.before.before.before.before.before.before.before.before in
-    C.cut-other start.args.nest start.requires.0 start.args.at.now start.args.k start.requires.1.0 _ _ _ _
+    C.cut_other start.args.nest start.requires.0 start.args.at.now start.args.k start.requires.1.0 _ _ _ _
     c.before.before.before.if1.true refl c.before.met.ensures c.kept.ensures
 
 above-requires : tie.Need-above-requires
@@ -127,7 +127,7 @@ above-requires c κs = search rules
 returns-2 : tie.Need-returns-2
 returns-2 c =
     let start = c.before.before.before.before.before.before.before.before.before.before in
-    C.cut-lower start.args.nest start.requires.0 start.args.at.now start.args.k start.requires.1.0 _ _ _
+    C.cut_lower start.args.nest start.requires.0 start.args.at.now start.args.k start.requires.1.0 _ _ _
     c.before.before.if1.false refl c.before.if2.true c.above.ensures
 
 below-requires : tie.Need-below-requires
@@ -136,7 +136,7 @@ below-requires c κs = search rules
 returns-3 : tie.Need-returns-3
 returns-3 c =
     let start = c.before.before.before.before.before.before.before.before.before.before in
-    C.cut-upper start.args.nest start.requires.0 start.args.at.now start.args.k start.requires.1.0 _ _ _
+    C.cut_upper start.args.nest start.requires.0 start.args.at.now start.args.k start.requires.1.0 _ _ _
     c.before.before.if1.false refl c.before.if2.false c.below.ensures
 
 pub cut_spec : {M : Type 1} → statement M

@@ -4,7 +4,7 @@ use Rattle.nest.proofs.kept.Statement.{statement}
 use Rattle.nest.proofs.kept.Tie as tie
 
 returns : tie.Need-returns
-returns c = C.all-kept _ _ c.if1.true
+returns c = C.all_kept _ _ c.if1.true
 
 returns-2 : tie.Need-returns-2
 returns-2 c = C.none_kept _ _ c.if1.false

@@ -14,7 +14,7 @@ abbrev decreases-loop : tie.decreases-loop
 decreases-loop marks₀ from to u₀ marks u = to - u
 
 loop-holds : tie.Need-loop-init invariant-loop decreases-loop
-loop-holds c = C.marking-start _ _ _ c.requires.0
+loop-holds c = C.marking_start _ _ _ c.requires.0
 
 slice-write-marks : tie.Need-slice-write-marks invariant-loop decreases-loop
 slice-write-marks c = omega (arith, c.before.loop.invariant.long, c.loop-test.true, c.before.before.requires.1)
@@ -26,13 +26,13 @@ loop-less : tie.Need-loop-smaller invariant-loop decreases-loop
 loop-less c = omega (arith, c.loop-test.true)
 
 loop-again : tie.Need-loop-preserved invariant-loop decreases-loop
-loop-again c = C.marking-next _ _ _ _ _ c.before.loop.invariant c.loop-test.true c.before.before.requires.1
+loop-again c = C.marking_next _ _ _ _ _ c.before.loop.invariant c.loop-test.true c.before.before.requires.1
 
 same_length : tie.Need-same-length invariant-loop decreases-loop
 same_length c = c.before.loop.invariant.long
 
 returns : tie.Need-returns invariant-loop decreases-loop
-returns c = C.marking-end _ _ _ _ _ c.before.loop.invariant c.loop-test.false
+returns c = C.marking_end _ _ _ _ _ c.before.loop.invariant c.loop-test.false
 
 pub mark_spec : {M : Type 1} → statement M
 mark_spec =

@@ -15,7 +15,7 @@ tile-at-requires : tie.Need-tile-at-requires
 tile-at-requires c κs =
     let at-put-row = c.before.before.before.before.before in
     let start = at-put-row.before.before.before in
-    (start.requires.0, S.row_inside start.args.nest start.requires.0.0 start.args.q _ at-put-row.put-row.ensures)
+    (start.requires.0, S.row_inside start.args.nest start.requires.0.0 start.args.q _ at-put-row.put_row.ensures)
 
 sub-length : tie.Need-overflow-sub-length
 sub-length c = search rules
@@ -32,9 +32,9 @@ tile-along-requires c κs =
     let at-span-of = at-if1.before.before in
     let at-put-row = at-span-of.before.before in
     let start = at-put-row.before.before.before in
-    let ends = S.row_ends start.args.nest start.requires.0.0 start.requires.0.1 start.args.q _ _ at-put-row.put-row.ensures
+    let ends = S.row_ends start.args.nest start.requires.0.0 start.requires.0.1 start.args.q _ _ at-put-row.put_row.ensures
     at-span-of.Span-of.ensures at-if1.if1.true in
-    (ends.0, (start.requires.0.1 _ (omega (arith, start.requires.0.0.dimensions-least)), start.requires.0.0.tile-wide _))
+    (ends.0, (start.requires.0.1 _ (omega (arith, start.requires.0.0.dimensions_least)), start.requires.0.0.tile_wide _))
 
 sub-tile-along : tie.Need-overflow-sub-tile-along
 sub-tile-along c = search rules
@@ -45,9 +45,9 @@ tile-along-requires-2 c κs =
     let at-span-of = at-if1.before.before in
     let at-put-row = at-span-of.before.before in
     let start = at-put-row.before.before.before in
-    let ends = S.row_ends start.args.nest start.requires.0.0 start.requires.0.1 start.args.q _ _ at-put-row.put-row.ensures
+    let ends = S.row_ends start.args.nest start.requires.0.0 start.requires.0.1 start.args.q _ _ at-put-row.put_row.ensures
     at-span-of.Span-of.ensures at-if1.if1.true in
-    (ends.1, (start.requires.0.1 _ (omega (arith, start.requires.0.0.dimensions-least)), start.requires.0.0.tile-wide _))
+    (ends.1, (start.requires.0.1 _ (omega (arith, start.requires.0.0.dimensions_least)), start.requires.0.0.tile_wide _))
 
 add-mark : tie.Need-overflow-add-mark
 add-mark c =
@@ -61,9 +61,9 @@ add-mark c =
     record {
       fits = omega (
         arith,
-        S.told-order start.args.nest start.requires.0.0 start.requires.0.1 start.args.q _ _ at-put-row.put-row.ensures
+        S.told_order start.args.nest start.requires.0.0 start.requires.0.1 start.args.q _ _ at-put-row.put_row.ensures
             at-span-of.Span-of.ensures _ _ _ at-tile-at.tile-at.ensures from.ensures to.ensures at-if1.if1.true,
-        S.told-fits start.args.nest start.requires.0.0 start.requires.0.1 start.args.q _ _ at-put-row.put-row.ensures
+        S.told_fits start.args.nest start.requires.0.0 start.requires.0.1 start.args.q _ _ at-put-row.put_row.ensures
             at-span-of.Span-of.ensures _ _ _ at-tile-at.tile-at.ensures from.ensures to.ensures at-if1.if1.true,
       );
     }
@@ -80,7 +80,7 @@ add-mark-2 c =
     record {
       fits = omega (
         arith,
-        S.told-fits start.args.nest start.requires.0.0 start.requires.0.1 start.args.q _ _ at-put-row.put-row.ensures
+        S.told_fits start.args.nest start.requires.0.0 start.requires.0.1 start.args.q _ _ at-put-row.put_row.ensures
             at-span-of.Span-of.ensures _ _ _ at-tile-at.tile-at.ensures from.ensures to.ensures at-if1.if1.true,
       );
     }
@@ -97,7 +97,7 @@ add-mark-3 c =
     record {
       fits = omega (
         arith,
-        S.told-fits start.args.nest start.requires.0.0 start.requires.0.1 start.args.q _ _ at-put-row.put-row.ensures
+        S.told_fits start.args.nest start.requires.0.0 start.requires.0.1 start.args.q _ _ at-put-row.put_row.ensures
             at-span-of.Span-of.ensures _ _ _ at-tile-at.tile-at.ensures from.ensures to.ensures at-if1.if1.true,
       );
     }
@@ -113,12 +113,12 @@ mark-requires c κs =
     let start = at-put-row.before.before.before in (
       omega (
         arith,
-        S.told-order start.args.nest start.requires.0.0 start.requires.0.1 start.args.q _ _ at-put-row.put-row.ensures
+        S.told_order start.args.nest start.requires.0.0 start.requires.0.1 start.args.q _ _ at-put-row.put_row.ensures
             at-span-of.Span-of.ensures _ _ _ at-tile-at.tile-at.ensures from.ensures to.ensures at-if1.if1.true,
       ),
       omega (
         arith,
-        S.told-room start.args.nest start.requires.0.0 start.requires.0.1 start.args.q _ _ at-put-row.put-row.ensures
+        S.told_room start.args.nest start.requires.0.0 start.requires.0.1 start.args.q _ _ at-put-row.put_row.ensures
             at-span-of.Span-of.ensures _ _ _ at-tile-at.tile-at.ensures from.ensures to.ensures at-if1.if1.true,
         start.requires.1.1,
       ),
@@ -137,7 +137,7 @@ returns c =
     let at-span-of = at-if1.before.before in
     let at-put-row = at-span-of.before.before in
     let start = at-put-row.before.before.before in
-    S.marked-row-by start.args.nest start.requires.0.0 start.requires.0.1 start.args.q _ _ at-put-row.put-row.ensures
+    S.marked_row_by start.args.nest start.requires.0.0 start.requires.0.1 start.args.q _ _ at-put-row.put_row.ensures
     at-span-of.Span-of.ensures _ _ _ at-tile-at.tile-at.ensures from.ensures to.ensures at-if1.if1.true _ _ at_mark.mark.ensures
 
 returns-2 : tie.Need-returns-2
@@ -145,7 +145,7 @@ returns-2 c =
     let at-span-of = c.before.before in
     let at-put-row = at-span-of.before.before in
     let start = at-put-row.before.before.before in
-    S.marked-none start.args.nest start.requires.0.0 start.requires.0.1 start.args.q _ _ at-put-row.put-row.ensures
+    S.marked_none start.args.nest start.requires.0.0 start.requires.0.1 start.args.q _ _ at-put-row.put_row.ensures
     at-span-of.Span-of.ensures _ c.if1.false
 
 pub mark-row-spec : {M : Type 1} → statement M

@@ -8,12 +8,12 @@ use Rattle.nest.proofs.put_row.Statement.{statement}
 use Rattle.nest.proofs.put_row.Tie as tie
 
 sub-put-place : tie.Need-overflow-sub-put-place
-sub-put-place c = c.before.before.before.before.requires.0.dimensions-least
+sub-put-place c = c.before.before.before.before.requires.0.dimensions_least
 
 put-place-requires : tie.Need-put-place-requires
 put-place-requires c κs =
     let start = c.before.before.before.before in
-    (ap length start.requires.1, C.row-lengths start.args.nest start.requires.0 start.args.q)
+    (ap length start.requires.1, C.row_lengths start.args.nest start.requires.0 start.args.q)
 
 returns : tie.Need-returns
 returns c =

@@ -9,7 +9,7 @@ sub-product-of : tie.Need-overflow-sub-product-of
 sub-product-of c = search rules
 
 product-of-requires : tie.Need-product-of-requires
-product-of-requires c κs = (omega (arith, c.before.before.requires.dimensions-most), c.before.before.requires.length-wide)
+product-of-requires c κs = (omega (arith, c.before.before.requires.dimensions_most), c.before.before.requires.length_wide)
 
 returns : tie.Need-returns
 returns c = S.rows_are c.before.before.before.args.nest c.before.before.before.requires _ c.product-of.ensures

@@ -7,7 +7,7 @@ put-row-requires : tie.Need-put-row-requires
 put-row-requires c κs = (c.before.requires, refl)
 
 returns : tie.Need-returns
-returns c = c.put-row.ensures
+returns c = c.put_row.ensures
 
 pub row-place-spec : {M : Type 1} → statement M
 row-place-spec = tie.close (tie.spec put-row-requires returns)

@@ -4,13 +4,13 @@
 use Rattle.std.specs.Prelude.{ℕ, zero, suc, List, [], ◌∷◌, ◌++◌, length, ltb, eqb}
 use Rattle.base.specs.Tests.{pick}
 use Rattle.base.specs.Lists.{sublist}
-use Rattle.machine.specs.Plan.{Plan, count, heldBy}
+use Rattle.machine.specs.Plan.{Plan, count, held_by}
 use Rattle.machine.specs.Machine.{State, Answered}
 use Rattle.engine.specs.Calls.{recipe}
-use Rattle.network.specs.Apart.{AreasApart, replaced, senderAt, takerAt}
-use Rattle.network.specs.Packets.{Packet, Network, networkOf, packetAt, NetworkEvent, turnBy, post_of, arrivalOf}
-use Rattle.part.specs.Part.{mailAt}
-use Rattle.part_calls.specs.front.Calls.{partFreshCall, partTurnCall, partPostCall, partArriveCall, partCollectCall}
+use Rattle.network.specs.Apart.{AreasApart, replaced, sender_at, taker_at}
+use Rattle.network.specs.Packets.{Packet, Network, network_of, packet_at, NetworkEvent, turn_by, post_of, arrivalOf}
+use Rattle.part.specs.Part.{mail_at}
+use Rattle.part_calls.specs.front.Calls.{part_fresh_call, part_turn_call, part_post_call, part_arrive_call, part_collect_call}
 
 -- a network as network/specs/Packets has it, but here `areas b` is what processor b is lent: its own part
 
@@ -19,73 +19,73 @@ abbrev pub PartSources : Type 0
 PartSources = ℕ → List ℕ
 
 -- each processor's fresh start, in the areas that it is lent
-unfoldable pub partStart : List ℕ → ℕ → AreasApart → Network
-partStart bytes route lent = networkOf (λ b. (partFreshCall bytes route (lent b) b).after) []
+unfoldable pub part_start : List ℕ → ℕ → AreasApart → Network
+part_start bytes route lent = network_of (λ b. (part_fresh_call bytes route (lent b) b).after) []
 
 -- ---- a turn: the call on the processor's part
 
 abbrev pub turned : List ℕ → ℕ → PartSources → Network → ℕ → Answered State
-turned bytes route sources n b = partTurnCall bytes route (sources b) (n.areas b) b
+turned bytes route sources n b = part_turn_call bytes route (sources b) (n.areas b) b
 
-unfoldable pub turnOnPart : List ℕ → ℕ → PartSources → Network → ℕ → Answered Network
-turnOnPart bytes route sources n b =
+unfoldable pub turn_on_part : List ℕ → ℕ → PartSources → Network → ℕ → Answered Network
+turn_on_part bytes route sources n b =
     pick (ltb b (recipe bytes route).processors)
     (record {
       number = (turned bytes route sources n b).number;
-      after = networkOf (replaced n.areas b (turned bytes route sources n b).after) n.packets;
+      after = network_of (replaced n.areas b (turned bytes route sources n b).after) n.packets;
     })
     (record { number = 11; after = n })
 
 -- ---- message m is posted: the call on its sender's part; the packet has the words that lie in its place in the sender's mail
 
 abbrev pub from : List ℕ → ℕ → ℕ → ℕ
-from bytes route m = senderAt (recipe bytes route) m
+from bytes route m = sender_at (recipe bytes route) m
 
-abbrev pub handedOver : List ℕ → ℕ → Network → ℕ → Answered State
-handedOver bytes route n m = partPostCall bytes route (n.areas (from bytes route m)) (from bytes route m) m
+abbrev pub handed_over : List ℕ → ℕ → Network → ℕ → Answered State
+handed_over bytes route n m = part_post_call bytes route (n.areas (from bytes route m)) (from bytes route m) m
 
-abbrev pub packetIn : Plan → ℕ → State → ℕ → Packet
-packetIn p b s m = record { message = m; words = sublist s.buffer (mailAt p b m) (length (heldBy p m)) }
+abbrev pub packet_in : Plan → ℕ → State → ℕ → Packet
+packet_in p b s m = record { message = m; words = sublist s.buffer (mail_at p b m) (length (held_by p m)) }
 
-unfoldable pub postOnPart : List ℕ → ℕ → Network → ℕ → Answered Network
-postOnPart bytes route n m =
+unfoldable pub post_on_part : List ℕ → ℕ → Network → ℕ → Answered Network
+post_on_part bytes route n m =
     pick (ltb m (count (recipe bytes route)))
     (record {
-      number = (handedOver bytes route n m).number;
-      after = networkOf (replaced n.areas (from bytes route m) (handedOver bytes route n m).after)
+      number = (handed_over bytes route n m).number;
+      after = network_of (replaced n.areas (from bytes route m) (handed_over bytes route n m).after)
           (n.packets
-          ++ pick (eqb (handedOver bytes route n m).number 0)
-          (packetIn (recipe bytes route) (from bytes route m) (n.areas (from bytes route m)) m ∷ []) []);
+          ++ pick (eqb (handed_over bytes route n m).number 0)
+          (packet_in (recipe bytes route) (from bytes route m) (n.areas (from bytes route m)) m ∷ []) []);
     })
     (record { number = 11; after = n })
 
 -- ---- the k-th packet arrives: the call on its taker's part
 
-abbrev pub carriedBy : Network → ℕ → ℕ
-carriedBy n k = (packetAt n.packets k).message
+abbrev pub carried_by : Network → ℕ → ℕ
+carried_by n k = (packet_at n.packets k).message
 
 abbrev pub to : List ℕ → ℕ → ℕ → ℕ
-to bytes route m = takerAt (recipe bytes route) m
+to bytes route m = taker_at (recipe bytes route) m
 
-abbrev pub takenIn : List ℕ → ℕ → Network → ℕ → Answered State
-takenIn bytes route n k =
-    partArriveCall bytes route (n.areas (to bytes route (carriedBy n k))) (to bytes route (carriedBy n k)) (carriedBy n k) (packetAt n.packets k).words
+abbrev pub taken_in : List ℕ → ℕ → Network → ℕ → Answered State
+taken_in bytes route n k =
+    part_arrive_call bytes route (n.areas (to bytes route (carried_by n k))) (to bytes route (carried_by n k)) (carried_by n k) (packet_at n.packets k).words
 
-unfoldable pub arriveOnPart : List ℕ → ℕ → Network → ℕ → Answered Network
-arriveOnPart bytes route n k =
+unfoldable pub arrive_on_part : List ℕ → ℕ → Network → ℕ → Answered Network
+arrive_on_part bytes route n k =
     pick (ltb k (length n.packets))
     (record {
-      number = (takenIn bytes route n k).number;
-      after = networkOf (replaced n.areas (to bytes route (carriedBy n k)) (takenIn bytes route n k).after) n.packets;
+      number = (taken_in bytes route n k).number;
+      after = network_of (replaced n.areas (to bytes route (carried_by n k)) (taken_in bytes route n k).after) n.packets;
     })
     (record { number = 11; after = n })
 
-unfoldable pub actsOnParts : List ℕ → ℕ → PartSources → Network → NetworkEvent → Answered Network
-actsOnParts bytes route sources n (turnBy b) = turnOnPart bytes route sources n b
-actsOnParts bytes route sources n (post_of m) = postOnPart bytes route n m
-actsOnParts bytes route sources n (arrivalOf k) = arriveOnPart bytes route n k
+unfoldable pub acts_on_parts : List ℕ → ℕ → PartSources → Network → NetworkEvent → Answered Network
+acts_on_parts bytes route sources n (turn_by b) = turn_on_part bytes route sources n b
+acts_on_parts bytes route sources n (post_of m) = post_on_part bytes route n m
+acts_on_parts bytes route sources n (arrivalOf k) = arrive_on_part bytes route n k
 
 -- ---- a grid into which the parts of the processors below n were put, one after the other
-unfoldable pub collectedTo : List ℕ → ℕ → AreasApart → List ℕ → ℕ → List ℕ
-collectedTo bytes route areas grid zero = grid
-collectedTo bytes route areas grid (suc b) = (partCollectCall bytes route (areas b) b (collectedTo bytes route areas grid b)).after
+unfoldable pub collected_to : List ℕ → ℕ → AreasApart → List ℕ → ℕ → List ℕ
+collected_to bytes route areas grid zero = grid
+collected_to bytes route areas grid (suc b) = (part_collect_call bytes route (areas b) b (collected_to bytes route areas grid b)).after

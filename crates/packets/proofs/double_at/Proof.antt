@@ -26,7 +26,7 @@ returns : tie.Need-returns
 returns c =
     let at2 = c.before.before in
     let at4 = at2.before.before in
-    double-words at4.args.packet.now at4.args.at _ _ _ at2.word-at.ensures c.before.word-at2.ensures c.double.ensures
+    double-words at4.args.packet.now at4.args.at _ _ _ at2.word_at.ensures c.before.word-at2.ensures c.double.ensures
 
 pub double-at-spec : {M : Type 1} → statement M
 double-at-spec =

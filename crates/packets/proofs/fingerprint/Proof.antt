@@ -1,5 +1,5 @@
 -- The recipe, and then the four bytes of the route, by both.
-use Rattle.packets.proofs.Bytes.{put_whole, fingerprint-is}
+use Rattle.packets.proofs.Bytes.{put_whole, fingerprint_is}
 use mathlib.Core.Path.{refl}
 use borrow.Author.Rules.{rules}
 use Rattle.packets.proofs.fingerprint.Statement.{statement}
@@ -39,7 +39,7 @@ returns c =
     let at6 = at4.before.before in
     let at8 = at6.before.before in
     let at11 = at8.before.before.before in
-    fingerprint-is at11.args.recipe.now at8.put_word.new.0 at11.args.route at6.fed.result at4.fed2.result at3.mixed.result
+    fingerprint_is at11.args.recipe.now at8.put_word.new.0 at11.args.route at6.fed.result at4.fed2.result at3.mixed.result
     c.before.mixed2.result _
     (put_whole _ at8.put_word.new.0 at11.args.route refl at8.put_word.ensures) at6.fed.ensures at4.fed2.ensures at3.mixed.ensures
     c.before.mixed2.ensures c.double.ensures

@@ -42,7 +42,7 @@ returns c =
     let at8 = at7.before in
     let at10 = at8.before.before in
     header-fields at10.args.packet.now _ _ _ _ _ _ _ _ _ at8.double-at.ensures at7.double-at2.ensures at6.double-at3.ensures
-    at5.word-at.ensures at4.word-at2.ensures at3.word-at3.ensures at2.word-at4.ensures c.before.word-at5.ensures c.word-at6.ensures
+    at5.word_at.ensures at4.word-at2.ensures at3.word-at3.ensures at2.word-at4.ensures c.before.word-at5.ensures c.word-at6.ensures
 
 pub header-of-spec : {M : Type 1} → statement M
 header-of-spec =

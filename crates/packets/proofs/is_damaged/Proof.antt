@@ -1,5 +1,5 @@
 -- Each return is a law of a line.
-use Rattle.packets.proofs.Answers.{damaged-short, damaged-unfit, damaged-magic, damaged-check, part-crc, fit-long, count_at, first-at, word-behind}
+use Rattle.packets.proofs.Answers.{damaged-short, damaged-unfit, damaged-magic, damaged-check, part-crc, fit-long, count_at, first_at, word-behind}
 use native.Mathlib.Omega.{arith}
 use Prim.Native.Nat.{◌+◌, ◌*◌}
 use mathlib.Core.Path.{refl, sym, ◌∙◌}
@@ -26,7 +26,7 @@ returns-2 c =
     let at2 = c.before.before in
     let at3 = at2.before in
     let at6 = at3.before.before.before in
-    damaged-unfit at6.args.packet.now at2.word-index.result (at2.word-index.ensures ∙ count_at at6.args.packet.now _ at3.word-at.ensures)
+    damaged-unfit at6.args.packet.now at2.word-index.result (at2.word-index.ensures ∙ count_at at6.args.packet.now _ at3.word_at.ensures)
     (sym c.before.is-unfit.ensures ∙ c.if2.true)
 
 word-at-requires-2 : tie.Need-word-at-requires-2
@@ -35,7 +35,7 @@ word-at-requires-2 c κs = search rules
 returns-3 : tie.Need-returns-3
 returns-3 c =
     let at8 = c.before.before.before.before.before.before.before.before in
-    damaged-magic at8.args.packet.now c.before.word-at2.result (first-at at8.args.packet.now _ c.before.word-at2.ensures) c.if3.true
+    damaged-magic at8.args.packet.now c.before.word-at2.result (first_at at8.args.packet.now _ c.before.word-at2.ensures) c.if3.true
 
 mul-end : tie.Need-overflow-mul-end
 mul-end c = search rules
@@ -74,8 +74,8 @@ returns-4 c =
     let at8 = at7.before in
     let at11 = at8.before.before.before in
     damaged-check at11.args.packet.now at7.word-index.result c.before.crc.result c.word-at3.result at4.word-at2.result _
-    (at7.word-index.ensures ∙ count_at at11.args.packet.now _ at8.word-at.ensures) (sym at6.is-unfit.ensures ∙ at5.if2.false)
-    (first-at at11.args.packet.now _ at4.word-at2.ensures) at3.if3.false
+    (at7.word-index.ensures ∙ count_at at11.args.packet.now _ at8.word_at.ensures) (sym at6.is-unfit.ensures ∙ at5.if2.false)
+    (first_at at11.args.packet.now _ at4.word-at2.ensures) at3.if3.false
     (part-crc at11.args.packet.now (56 + 4 * at7.word-index.result) c.before.crc.result c.before.crc.ensures)
     (word-behind at11.args.packet.now _ _ c.word-at3.ensures) refl
 

@@ -1,5 +1,5 @@
 -- Each return is a law of a line.
-use Rattle.packets.proofs.Answers.{whole_is, number-damaged, number-stale, number_short, number-none, count_at}
+use Rattle.packets.proofs.Answers.{whole_is, number-damaged, number-stale, number_short, number_none, count_at}
 use native.Mathlib.Omega.{arith}
 use mathlib.Core.Path.{sym, ◌∙◌}
 use borrow.Author.Rules.{rules}
@@ -47,7 +47,7 @@ returns-3 c =
     let at8 = at6.before.before in
     number_short at8.args.fingerprint at8.args.run at8.args.packet.now at8.args.room (sym at6.is-damaged.ensures ∙ at5.if1.false)
     (sym at4.is-stale.ensures ∙ at3.if2.false)
-    (omega (arith, c.before.word-index.ensures, count_at at8.args.packet.now _ at2.word-at.ensures, c.if3.true))
+    (omega (arith, c.before.word-index.ensures, count_at at8.args.packet.now _ at2.word_at.ensures, c.if3.true))
 
 returns-4 : tie.Need-returns-4
 returns-4 c =
@@ -57,9 +57,9 @@ returns-4 c =
     let at5 = at4.before in
     let at6 = at5.before in
     let at8 = at6.before.before in
-    number-none at8.args.fingerprint at8.args.run at8.args.packet.now at8.args.room (sym at6.is-damaged.ensures ∙ at5.if1.false)
+    number_none at8.args.fingerprint at8.args.run at8.args.packet.now at8.args.room (sym at6.is-damaged.ensures ∙ at5.if1.false)
     (sym at4.is-stale.ensures ∙ at3.if2.false)
-    (omega (arith, c.before.word-index.ensures, count_at at8.args.packet.now _ at2.word-at.ensures, c.if3.false))
+    (omega (arith, c.before.word-index.ensures, count_at at8.args.packet.now _ at2.word_at.ensures, c.if3.false))
 
 pub number-of-spec : {M : Type 1} → statement M
 number-of-spec =

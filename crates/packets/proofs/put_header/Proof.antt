@@ -1,5 +1,5 @@
 -- Fourteen words, three numbers by their halves.
-use Rattle.packets.proofs.Bytes.{head-put}
+use Rattle.packets.proofs.Bytes.{head_put}
 use borrow.Author.Rules.{rules}
 use Rattle.packets.proofs.put_header.Statement.{statement}
 use Rattle.packets.proofs.put_header.Tie as tie
@@ -41,8 +41,8 @@ returns c =
     let at9 = at8.before in
     let at10 = at9.before in
     let at12 = at10.before.before in
-    head-put at12.args.header at12.args.count _ _ _ _ _ _ at12.args.space.now _ at10.low_word.ensures at9.high_word_lem.ensures
-    at8.low-word2.ensures at7.high-word2.ensures at6.low-word3.ensures at5.high-word3.ensures at2.put-words.ensures
+    head_put at12.args.header at12.args.count _ _ _ _ _ _ at12.args.space.now _ at10.low_word.ensures at9.high_word_lem.ensures
+    at8.low-word2.ensures at7.high-word2.ensures at6.low-word3.ensures at5.high-word3.ensures at2.put_words.ensures
 
 pub put-header-spec : {M : Type 1} → statement M
 put-header-spec =

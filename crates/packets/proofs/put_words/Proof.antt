@@ -3,21 +3,21 @@ use borrow.Author.Rules.{rules}
 use Prim.Native.Nat.{◌-◌}
 use native.Mathlib.Omega.{arith}
 use lib.ListN.{length, take}
-use Rattle.packets.specs.Packet.{wordsBytes}
+use Rattle.packets.specs.Packet.{words_bytes}
 use Rattle.packets.specs.Calls.{Put}
-use Rattle.packets.proofs.Bytes.{words-none, words_more, words-all}
+use Rattle.packets.proofs.Bytes.{words_none, words_more, words_all}
 use Rattle.packets.proofs.put_words.Statement.{statement}
 use Rattle.packets.proofs.put_words.Tie as tie
 
 abbrev invariant-loop : tie.invariant-loop
-invariant-loop space₀ at words i₀ space i = Put space₀ at (wordsBytes (take i words)) space
+invariant-loop space₀ at words i₀ space i = Put space₀ at (words_bytes (take i words)) space
 
 abbrev decreases-loop : tie.decreases-loop
 decreases-loop space₀ at words i₀ space i = length words - i
 
 loop-holds : tie.Need-loop-init invariant-loop decreases-loop
 loop-holds c =
-    words-none c.before.before.args.space.now c.before.before.args.at c.before.before.args.words.now
+    words_none c.before.before.args.space.now c.before.before.args.at c.before.before.args.words.now
 
 mul-put-word : tie.Need-overflow-mul-put-word invariant-loop decreases-loop
 mul-put-word c = search rules
@@ -56,7 +56,7 @@ same_length c = c.before.loop.invariant.long
 returns : tie.Need-returns invariant-loop decreases-loop
 returns c =
     let at4 = c.before.before.before.before in
-    words-all at4.args.space.now c.before.loop.space at4.args.at c.before.loop.i at4.args.words.now c.loop-test.false
+    words_all at4.args.space.now c.before.loop.space at4.args.at c.before.loop.i at4.args.words.now c.loop-test.false
     c.before.loop.invariant
 
 pub put-words-spec : {M : Type 1} → statement M

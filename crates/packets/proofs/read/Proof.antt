@@ -40,7 +40,7 @@ take-words-requires c κs =
     let at7 = at4.before.before.before in
     let r = readable at7.args.fingerprint at7.args.run at7.args.packet.now (length at7.args.words.now)
     (sym at4.number_of.ensures ∙ at3.if1.false) in
-    let e = count_at at7.args.packet.now _ at2.word-at.ensures in
+    let e = count_at at7.args.packet.now _ at2.word_at.ensures in
     (omega (arith, r.whole.long, c.before.word-index.ensures, e), omega (arith, r.fits, c.before.word-index.ensures, e))
 
 header-of-requires : tie.Need-header-of-requires
@@ -68,8 +68,8 @@ returns-2 c =
     let at11 = at8.before.before.before in
     read_all at11.args.fingerprint at11.args.run at11.args.packet.now at11.args.words.now at3.take_words.new.1.1.0
     c.header_of.result
-    at6.word-at.result at5.word-index.result (sym (sym at8.number_of.ensures ∙ at7.if1.false)) c.header_of.ensures
-    (count_at at11.args.packet.now _ at6.word-at.ensures) at5.word-index.ensures at3.take_words.ensures
+    at6.word_at.result at5.word-index.result (sym (sym at8.number_of.ensures ∙ at7.if1.false)) c.header_of.ensures
+    (count_at at11.args.packet.now _ at6.word_at.ensures) at5.word-index.ensures at3.take_words.ensures
 
 pub read_spec : {M : Type 1} → statement M
 read_spec =

@@ -51,7 +51,7 @@ part-crc-end c =
     let at7 = at3.before.before.before.before in
     let at9 = at7.before.before in
     let at10 = at9.before in
-    omega (arith, fit-long _ _ (sym at10.is-unfit.ensures ∙ at9.if1.false), at7.put-header.ensures.long, at3.put-words.ensures.long)
+    omega (arith, fit-long _ _ (sym at10.is-unfit.ensures ∙ at9.if1.false), at7.put-header.ensures.long, at3.put_words.ensures.long)
 
 crc-requires : tie.Need-crc-requires
 crc-requires c κs = search rules
@@ -62,7 +62,7 @@ put-word-requires c κs =
     let at10 = at6.before.before.before.before in
     let at12 = at10.before.before in
     let at13 = at12.before in
-    omega (arith, fit-long _ _ (sym at13.is-unfit.ensures ∙ at12.if1.false), at10.put-header.ensures.long, at6.put-words.ensures.long)
+    omega (arith, fit-long _ _ (sym at13.is-unfit.ensures ∙ at12.if1.false), at10.put-header.ensures.long, at6.put_words.ensures.long)
 
 same_length : tie.Need-same-length
 same_length c = search rules
@@ -77,10 +77,10 @@ returns-2 c =
     let at16 = at15.before in
     let at19 = at16.before.before.before in
     write_done at19.args.header at19.args.words.now at19.args.space.now at2.put_word.new.0 (sym at16.is-unfit.ensures ∙ at15.if1.false)
-    (written_all at19.args.header at19.args.words.now at19.args.space.now at13.put-header.new.0 at9.put-words.new.0
+    (written_all at19.args.header at19.args.words.now at19.args.space.now at13.put-header.new.0 at9.put_words.new.0
     at2.put_word.new.0
-    at4.crc.result (fit-long _ _ (sym at16.is-unfit.ensures ∙ at15.if1.false)) at13.put-header.ensures at9.put-words.ensures
-    (part-crc at9.put-words.new.0 (56 + 4 * length at19.args.words.now) at4.crc.result at4.crc.ensures) at2.put_word.ensures)
+    at4.crc.result (fit-long _ _ (sym at16.is-unfit.ensures ∙ at15.if1.false)) at13.put-header.ensures at9.put_words.ensures
+    (part-crc at9.put_words.new.0 (56 + 4 * length at19.args.words.now) at4.crc.result at4.crc.ensures) at2.put_word.ensures)
 
 pub write_spec : {M : Type 1} → statement M
 write_spec =

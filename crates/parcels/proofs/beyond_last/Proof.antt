@@ -6,7 +6,7 @@ use lib.ListN.{get_or}
 use lib.Dec.{leb}
 use borrow.Author.Tests.{le-leb, lt-leb}
 use Rattle.base.proofs.Tests.{some_one}
-use Rattle.layout.proofs.Loops.{Nowhere, nowhere-none, nowhere-more, nowhere-end}
+use Rattle.layout.proofs.Loops.{Nowhere, nowhere_none, nowhere_more, nowhere_end}
 use Rattle.parcels.proofs.beyond_last.Statement.{statement}
 use Rattle.parcels.proofs.beyond_last.Tie as tie
 
@@ -17,7 +17,7 @@ abbrev decreases-loop : tie.decreases-loop
 decreases-loop n across at ahead j₀ j = n - j
 
 loop-holds : tie.Need-loop-init invariant-loop decreases-loop
-loop-holds c = nowhere-none _ _
+loop-holds c = nowhere_none _ _
 
 mul-if1 : tie.Need-overflow-mul-if1 invariant-loop decreases-loop
 mul-if1 c = omega (arith, c.loop-test.true, c.before.before.requires.0)
@@ -50,10 +50,10 @@ loop-less : tie.Need-loop-smaller invariant-loop decreases-loop
 loop-less c = omega (arith, c.before.loop-test.true)
 
 loop-again : tie.Need-loop-preserved invariant-loop decreases-loop
-loop-again c = nowhere-more _ _ _ c.before.before.loop.invariant c.before.loop-test.true (lt-leb _ _ c.if1.false)
+loop-again c = nowhere_more _ _ _ c.before.before.loop.invariant c.before.loop-test.true (lt-leb _ _ c.if1.false)
 
 returns-2 : tie.Need-returns-2 invariant-loop decreases-loop
-returns-2 c = sym (nowhere-end _ _ _ c.before.loop.invariant c.loop-test.false)
+returns-2 c = sym (nowhere_end _ _ _ c.before.loop.invariant c.loop-test.false)
 
 pub beyond-last-spec : {M : Type 1} → statement M
 beyond-last-spec =

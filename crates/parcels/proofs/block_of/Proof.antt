@@ -5,9 +5,9 @@ use Prim.Native.Nat.{◌+◌, ◌*◌, ◌-◌, min}
 use lib.ListN.{get_or}
 use lib.Dec.{ltb}
 use Rattle.base.specs.Tests.{one}
-use Rattle.layout.proofs.Loops.{Filled, filled_none, filled_more, filled-end}
+use Rattle.layout.proofs.Loops.{Filled, filled_none, filled_more, filled_end}
 use Rattle.layout.proofs.Cells.{count_most}
-use Rattle.parcels.proofs.Sendings.{tile-few, begin-end}
+use Rattle.parcels.proofs.Sendings.{tile_few, begin_end}
 use Rattle.parcels.proofs.block_of.Statement.{statement}
 use Rattle.parcels.proofs.block_of.Tie as tie
 
@@ -22,16 +22,16 @@ loop-holds : tie.Need-loop-init invariant-loop decreases-loop
 loop-holds c = (filled_none _ _ _ (omega arith), filled_none _ _ _ (omega arith))
 
 mul-k : tie.Need-overflow-mul-k invariant-loop decreases-loop
-mul-k c = omega (arith, c.loop-test.true, c.before.before.before.before.requires.0.dimensions-most)
+mul-k c = omega (arith, c.loop-test.true, c.before.before.before.before.requires.0.dimensions_most)
 
 array-read-k : tie.Need-array-read-k invariant-loop decreases-loop
-array-read-k c = omega (arith, c.loop-test.true, c.before.before.before.before.requires.0.dimensions-most)
+array-read-k c = omega (arith, c.loop-test.true, c.before.before.before.before.requires.0.dimensions_most)
 
 mul-back : tie.Need-overflow-mul-back invariant-loop decreases-loop
-mul-back c = omega (arith, c.loop-test.true, c.before.before.before.before.requires.0.dimensions-most)
+mul-back c = omega (arith, c.loop-test.true, c.before.before.before.before.requires.0.dimensions_most)
 
 array-read-back : tie.Need-array-read-back invariant-loop decreases-loop
-array-read-back c = omega (arith, c.loop-test.true, c.before.before.before.before.requires.0.dimensions-most)
+array-read-back c = omega (arith, c.loop-test.true, c.before.before.before.before.requires.0.dimensions_most)
 
 back-requires : tie.Need-back-requires invariant-loop decreases-loop
 back-requires c κs = search rules
@@ -41,7 +41,7 @@ mul-first c =
     let start = c.before.before.before.before.before in
     omega (
       arith,
-      tile-few _ start.requires.0 c.back.result c.before.before.loop.j
+      tile_few _ start.requires.0 c.back.result c.before.before.loop.j
           (omega (
             arith,
             c.back.ensures,
@@ -52,22 +52,22 @@ mul-first c =
     )
 
 mul-corner : tie.Need-overflow-mul-corner invariant-loop decreases-loop
-mul-corner c = omega (arith, c.before.loop-test.true, c.before.before.before.before.before.requires.0.dimensions-most)
+mul-corner c = omega (arith, c.before.loop-test.true, c.before.before.before.before.before.requires.0.dimensions_most)
 
 array-write-corner : tie.Need-array-write-corner invariant-loop decreases-loop
-array-write-corner c = omega (arith, c.before.loop-test.true, c.before.before.before.before.before.requires.0.dimensions-most)
+array-write-corner c = omega (arith, c.before.loop-test.true, c.before.before.before.before.before.requires.0.dimensions_most)
 
 mul-end-of : tie.Need-overflow-mul-end-of invariant-loop decreases-loop
-mul-end-of c = omega (arith, c.before.loop-test.true, c.before.before.before.before.before.requires.0.dimensions-most)
+mul-end-of c = omega (arith, c.before.loop-test.true, c.before.before.before.before.before.requires.0.dimensions_most)
 
 array-read-end-of : tie.Need-array-read-end-of invariant-loop decreases-loop
-array-read-end-of c = omega (arith, c.before.loop-test.true, c.before.before.before.before.before.requires.0.dimensions-most)
+array-read-end-of c = omega (arith, c.before.loop-test.true, c.before.before.before.before.before.requires.0.dimensions_most)
 
 mul-end-of-2 : tie.Need-overflow-mul-end-of-2 invariant-loop decreases-loop
-mul-end-of-2 c = omega (arith, c.before.loop-test.true, c.before.before.before.before.before.requires.0.dimensions-most)
+mul-end-of-2 c = omega (arith, c.before.loop-test.true, c.before.before.before.before.before.requires.0.dimensions_most)
 
 array-read-end-of-2 : tie.Need-array-read-end-of-2 invariant-loop decreases-loop
-array-read-end-of-2 c = omega (arith, c.before.loop-test.true, c.before.before.before.before.before.requires.0.dimensions-most)
+array-read-end-of-2 c = omega (arith, c.before.loop-test.true, c.before.before.before.before.before.requires.0.dimensions_most)
 
 end-of-requires : tie.Need-end-of-requires invariant-loop decreases-loop
 end-of-requires c κs =
@@ -78,7 +78,7 @@ end-of-requires c κs =
         count_most _ start.requires.0 c.before.before.loop.j
             c.before.loop-test.true,
       ),
-      start.requires.0.tile-most _,
+      start.requires.0.tile_most _,
     )
 
 sub-lengths : tie.Need-overflow-sub-lengths invariant-loop decreases-loop
@@ -88,18 +88,18 @@ sub-lengths c =
     omega (
       arith,
       c.end_of_lem.ensures,
-      begin-end _ start.requires.0 _ c.before.back.result at-loop.loop.j c.before.before.loop-test.true
+      begin_end _ start.requires.0 _ c.before.back.result at-loop.loop.j c.before.before.loop-test.true
           (start.requires.1 at-loop.loop.j c.before.before.loop-test.true) (omega (arith, c.before.back.ensures)),
     )
 
 mul-lengths : tie.Need-overflow-mul-lengths invariant-loop decreases-loop
-mul-lengths c = omega (arith, c.before.before.loop-test.true, c.before.before.before.before.before.before.requires.0.dimensions-most)
+mul-lengths c = omega (arith, c.before.before.loop-test.true, c.before.before.before.before.before.before.requires.0.dimensions_most)
 
 array-write-lengths : tie.Need-array-write-lengths invariant-loop decreases-loop
-array-write-lengths c = omega (arith, c.before.before.loop-test.true, c.before.before.before.before.before.before.requires.0.dimensions-most)
+array-write-lengths c = omega (arith, c.before.before.loop-test.true, c.before.before.before.before.before.before.requires.0.dimensions_most)
 
 add-j : tie.Need-overflow-add-j invariant-loop decreases-loop
-add-j c = omega (arith, c.before.before.loop-test.true, c.before.before.before.before.before.before.requires.0.dimensions-most)
+add-j c = omega (arith, c.before.before.loop-test.true, c.before.before.before.before.before.before.requires.0.dimensions_most)
 
 loop-less : tie.Need-loop-smaller invariant-loop decreases-loop
 loop-less c = omega (arith, c.before.before.loop-test.true)
@@ -108,16 +108,16 @@ loop-again : tie.Need-loop-preserved invariant-loop decreases-loop
 loop-again c =
     let at-loop = c.before.before.before in
     let start = at-loop.before.before.before in (
-      filled_more _ _ _ _ _ at-loop.loop.invariant.0 c.before.before.loop-test.true start.requires.0.dimensions-most (rw c.before.back.ensures),
-      filled_more _ _ _ _ _ at-loop.loop.invariant.1 c.before.before.loop-test.true start.requires.0.dimensions-most
+      filled_more _ _ _ _ _ at-loop.loop.invariant.0 c.before.before.loop-test.true start.requires.0.dimensions_most (rw c.before.back.ensures),
+      filled_more _ _ _ _ _ at-loop.loop.invariant.1 c.before.before.loop-test.true start.requires.0.dimensions_most
           (rw (c.before.back.ensures, c.end_of_lem.ensures)),
     )
 
 returns : tie.Need-returns invariant-loop decreases-loop
 returns c =
     record {
-      corner = filled-end _ _ _ _ c.before.loop.invariant.0 c.loop-test.false;
-      lengths = filled-end _ _ _ _ c.before.loop.invariant.1
+      corner = filled_end _ _ _ _ c.before.loop.invariant.0 c.loop-test.false;
+      lengths = filled_end _ _ _ _ c.before.loop.invariant.1
           c.loop-test.false;
     }
 

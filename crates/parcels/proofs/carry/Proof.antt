@@ -1,7 +1,7 @@
 -- `parcels::carry` meets its contract.
 use mathlib.Core.Path.{sym}
 use borrow.Author.Tests.{lt-leb, le-leb}
-use Rattle.base.proofs.Tests.{and-false, and_left}
+use Rattle.base.proofs.Tests.{and_false, and_left}
 use borrow.Author.Rules.{rules}
 use Rattle.parcels.proofs.carry.Statement.{statement}
 use Rattle.parcels.proofs.carry.Tie as tie
@@ -10,7 +10,7 @@ add-moved : tie.Need-overflow-add-moved
 add-moved c = search rules
 
 returns : tie.Need-returns
-returns c = sym (and-false _ _ (lt-leb _ _ c.if1.true))
+returns c = sym (and_false _ _ (lt-leb _ _ c.if1.true))
 
 returns-2 : tie.Need-returns-2
 returns-2 c = sym (and_left _ _ (le-leb _ _ c.if1.false))

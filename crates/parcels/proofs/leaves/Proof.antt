@@ -7,7 +7,7 @@ use lib.ListN.{get_or}
 use lib.Dec.{ltb, eqb}
 use Rattle.base.specs.Tests.{◌and◌}
 use Rattle.base.proofs.Tests.{some_one}
-use Rattle.layout.proofs.Loops.{Nowhere, nowhere-none, nowhere-more, nowhere-end}
+use Rattle.layout.proofs.Loops.{Nowhere, nowhere_none, nowhere_more, nowhere_end}
 use Rattle.parcels.proofs.leaves.Statement.{statement}
 use Rattle.parcels.proofs.leaves.Tie as tie
 
@@ -18,7 +18,7 @@ abbrev decreases-loop : tie.decreases-loop
 decreases-loop n counts ahead j₀ j = n - j
 
 loop-holds : tie.Need-loop-init invariant-loop decreases-loop
-loop-holds c = nowhere-none _ _
+loop-holds c = nowhere_none _ _
 
 mul-hops : tie.Need-overflow-mul-hops invariant-loop decreases-loop
 mul-hops c = omega (arith, c.loop-test.true, c.before.before.requires)
@@ -45,10 +45,10 @@ loop-less : tie.Need-loop-smaller invariant-loop decreases-loop
 loop-less c = omega (arith, c.before.before.loop-test.true)
 
 loop-again : tie.Need-loop-preserved invariant-loop decreases-loop
-loop-again c = nowhere-more _ _ _ c.before.before.before.loop.invariant c.before.before.loop-test.true (sym c.before.hops.ensures ∙ c.if1.false)
+loop-again c = nowhere_more _ _ _ c.before.before.before.loop.invariant c.before.before.loop-test.true (sym c.before.hops.ensures ∙ c.if1.false)
 
 returns-2 : tie.Need-returns-2 invariant-loop decreases-loop
-returns-2 c = sym (nowhere-end _ _ _ c.before.loop.invariant c.loop-test.false)
+returns-2 c = sym (nowhere_end _ _ _ c.before.loop.invariant c.loop-test.false)
 
 pub leaves-spec : {M : Type 1} → statement M
 leaves-spec =

@@ -4,11 +4,11 @@ use Prim.Native.Nat.{◌-◌, ◌*◌}
 use native.Mathlib.Nat.{zero-mul, mul-le-mul_right}
 use mathlib.Core.Path.{refl, sym, ap, ◌∙◌}
 use Rattle.base.specs.Lists.{pack}
-use Rattle.layout.proofs.Steps.{ways-some, way-low}
-use Rattle.parcels.proofs.Packing.{PackedTo, packed_none, packed-room, packed-end}
-use Rattle.parcels.proofs.Rows.{size_few, rows_few, row-ranked}
-use Rattle.parcels.proofs.Alike.{row_first, packed-over, packed-next}
-use Rattle.parcels.proofs.Sendings.{headed, full-found, words-found}
+use Rattle.layout.proofs.Steps.{ways_some, way_low}
+use Rattle.parcels.proofs.Packing.{PackedTo, packed_none, packed_room, packed_end}
+use Rattle.parcels.proofs.Rows.{size_few, rows_few, row_ranked}
+use Rattle.parcels.proofs.Alike.{row_first, packed_over, packed_next}
+use Rattle.parcels.proofs.Sendings.{headed, full_found, words_found}
 use Rattle.parcels.proofs.pack.Statement.{statement}
 use Rattle.parcels.proofs.pack.Tie as tie
 
@@ -20,7 +20,7 @@ decreases-loop nest slot words₀ memory sending components rows width lengths c
 
 div-place-of-tile : tie.Need-nonzero-div-place-of-tile invariant-loop decreases-loop
 div-place-of-tile c =
-    ways-some _ c.before.before.before.requires.0.accepted c.before.before.before.args.sizes.route _ c.before.before.before.requires.0.ways
+    ways_some _ c.before.before.before.requires.0.accepted c.before.before.before.args.sizes.route _ c.before.before.before.requires.0.ways
 
 place-of-tile-requires : tie.Need-place-of-tile-requires invariant-loop decreases-loop
 place-of-tile-requires c κs = c.before.before.before.requires.0
@@ -28,12 +28,12 @@ place-of-tile-requires c κs = c.before.before.before.requires.0
 rem-along-of : tie.Need-nonzero-rem-along-of invariant-loop decreases-loop
 rem-along-of c =
     let start = c.before.before.before.before.before in
-    ways-some _ start.requires.0.accepted start.args.sizes.route _ start.requires.0.ways
+    ways_some _ start.requires.0.accepted start.args.sizes.route _ start.requires.0.ways
 
 along-of-requires : tie.Need-along-of-requires invariant-loop decreases-loop
 along-of-requires c κs =
     let start = c.before.before.before.before.before in
-    (start.requires.0, way-low _ start.requires.0.accepted start.args.sizes.route _ start.requires.0.ways start.args.slot)
+    (start.requires.0, way_low _ start.requires.0.accepted start.args.sizes.route _ start.requires.0.ways start.args.slot)
 
 sending-of-requires : tie.Need-sending-of-requires invariant-loop decreases-loop
 sending-of-requires c κs =
@@ -46,7 +46,7 @@ sending-of-requires c κs =
 loop-holds : tie.Need-loop-init invariant-loop decreases-loop
 loop-holds c =
     let start = c.before.before.before.before.before.before.before.before.before in
-    rw (zero-mul c.before.before.sending-of.result.width) (packed_none _ _ _ _ (words-found _ _ _ _ c.before.before.sending-of.ensures _
+    rw (zero-mul c.before.before.sending-of.result.width) (packed_none _ _ _ _ (words_found _ _ _ _ c.before.before.sending-of.ensures _
     start.requires.1.1.1) (size_few _ start.requires.0.accepted _ c.before.before.sending-of.ensures.shape))
 
 row-at-requires : tie.Need-row-at-requires invariant-loop decreases-loop
@@ -72,21 +72,21 @@ loop-again : tie.Need-loop-preserved invariant-loop decreases-loop
 loop-again c =
     let at-row-at = c.before.before.before in
     let at-loop = at-row-at.before.before.before in
-    packed-over _ _ _ _ at-row-at.row_at.ensures c.before.if1.true _ _ _ at-loop.loop.invariant
+    packed_over _ _ _ _ at-row-at.row_at.ensures c.before.if1.true _ _ _ at-loop.loop.invariant
 
 rank-requires : tie.Need-rank-requires invariant-loop decreases-loop
 rank-requires c κs =
     let at-row-at = c.before.before.before.before in
     let at-sending-of = at-row-at.before.before.before.before.before.before in
     let start = at-sending-of.before.before.before.before.before.before.before in
-    row-ranked _ _ _ _ at-row-at.row_at.ensures.place start.requires.0.accepted at-sending-of.sending-of.ensures.shape
+    row_ranked _ _ _ _ at-row-at.row_at.ensures.place start.requires.0.accepted at-sending-of.sending-of.ensures.shape
 
 pack-row-requires : tie.Need-pack-row-requires invariant-loop decreases-loop
 pack-row-requires c κs =
     let at-row-at = c.before.before.before.before.before.before.before in
     let at-loop = at-row-at.before.before.before in
     let start = at-loop.before.before.before.before.before.before.before.before.before.before in
-    packed-room _ _ _ _ _ _ _ (row_first _ _ _ _ at-row-at.row_at.ensures _ c.before.before.rank.ensures) _ _ _ at-loop.loop.invariant
+    packed_room _ _ _ _ _ _ _ (row_first _ _ _ _ at-row-at.row_at.ensures _ c.before.before.rank.ensures) _ _ _ at-loop.loop.invariant
     start.requires.0.accepted start.requires.1.1.0
 
 add-r-2 : tie.Need-overflow-add-r-2 invariant-loop decreases-loop
@@ -103,24 +103,24 @@ loop-less-2 c =
 
 loop-again-2 : tie.Need-loop-preserved-2 invariant-loop decreases-loop
 loop-again-2 c =
-    let at-rank = c.before.before.before.before.before in
-    let at-row-at = at-rank.before.before.before.before.before in
+    let at_rank = c.before.before.before.before.before in
+    let at-row-at = at_rank.before.before.before.before.before in
     let at-loop = at-row-at.before.before.before in
-    packed-next _ _ _ _ at-row-at.row_at.ensures _ (row_first _ _ _ _ at-row-at.row_at.ensures _ at-rank.rank.ensures) _ _ _ _ _
+    packed_next _ _ _ _ at-row-at.row_at.ensures _ (row_first _ _ _ _ at-row-at.row_at.ensures _ at_rank.rank.ensures) _ _ _ _ _
     at-loop.loop.invariant c.before.before.pack-row.ensures
 
 same_length : tie.Need-same-length invariant-loop decreases-loop
 same_length c =
     let at-sending-of = c.before.before.before.before in
     let start = at-sending-of.before.before.before.before.before.before.before in
-    c.before.loop.invariant.long ∙ sym (words-found _ _ _ _ at-sending-of.sending-of.ensures _ start.requires.1.1.1)
+    c.before.loop.invariant.long ∙ sym (words_found _ _ _ _ at-sending-of.sending-of.ensures _ start.requires.1.1.1)
 
 returns : tie.Need-returns invariant-loop decreases-loop
 returns c =
     let at-sending-of = c.before.before.before.before in
     let start = at-sending-of.before.before.before.before.before.before.before in
-    packed-end _ _ _ _ _ _ c.before.loop.invariant (mul-le-mul_right at-sending-of.sending-of.result.width c.loop-test.false)
-    ∙ ap (pack start.args.memory.now) (sym (full-found _ _ _ _ at-sending-of.sending-of.ensures _ start.requires.1.1.1))
+    packed_end _ _ _ _ _ _ c.before.loop.invariant (mul-le-mul_right at-sending-of.sending-of.result.width c.loop-test.false)
+    ∙ ap (pack start.args.memory.now) (sym (full_found _ _ _ _ at-sending-of.sending-of.ensures _ start.requires.1.1.1))
 
 pub pack-spec : {M : Type 1} → statement M
 pack-spec =

@@ -7,8 +7,8 @@ use mathlib.Core.Path.{refl}
 use lib.ListN.{length, get_or}
 use lib.Dec.{ltb}
 use borrow.Author.Tests.{le-ltb}
-use Rattle.layout.proofs.Loops.{nowhere-more}
-use Rattle.parcels.proofs.Packing.{Packing, Searching, packing-none, packing-long, packing-room, packing-hit, packing-left, packing-end}
+use Rattle.layout.proofs.Loops.{nowhere_more}
+use Rattle.parcels.proofs.Packing.{Packing, Searching, packing_none, packing_long, packing_room, packing_hit, packing_left, packing_end}
 use Rattle.parcels.proofs.pack_row.Statement.{statement}
 use Rattle.parcels.proofs.pack_row.Tie as tie
 
@@ -35,11 +35,11 @@ room c =
     let at-cells-test = at-distances.before in
     let at_cells = at-cells-test.before in
     let start = at_cells.before in
-    packing-room _ _ _ _ _ _ _ _ start.requires _ _ _ at_cells.cells.invariant at-cells-test.cells-test.true _ _ _ _ at-distances.distances.invariant
+    packing_room _ _ _ _ _ _ _ _ start.requires _ _ _ at_cells.cells.invariant at-cells-test.cells-test.true _ _ _ _ at-distances.distances.invariant
     at-distances-test.distances-test.true c.before.if1.true
 
 cells-holds : tie.Need-cells-init invariant-distances decreases-distances invariant-cells decreases-cells
-cells-holds c = packing-none _ _ _ _ _ _ _ _
+cells-holds c = packing_none _ _ _ _ _ _ _ _
 
 add-number : tie.Need-overflow-add-number invariant-distances decreases-distances invariant-cells decreases-cells
 add-number c = omega (arith, c.cells-test.true, c.before.before.requires.low, c.before.before.requires.short)
@@ -48,7 +48,7 @@ add-last : tie.Need-overflow-add-last invariant-distances decreases-distances in
 add-last c = omega (arith, c.cells-test.true, c.before.before.requires.small)
 
 distances-holds : tie.Need-distances-init invariant-distances decreases-distances invariant-cells decreases-cells
-distances-holds c = record { same-words = refl; same_count = refl; same-y = refl; low = omega arith; none = λ i h. absurd (omega arith) }
+distances-holds c = record { same_words = refl; same_count = refl; same_y = refl; low = omega arith; none = λ i h. absurd (omega arith) }
 
 mul-if1 : tie.Need-overflow-mul-if1 invariant-distances decreases-distances invariant-cells decreases-cells
 mul-if1 c = omega (arith, c.distances-test.true, c.before.before.before.before.requires.few)
@@ -83,13 +83,13 @@ add-y c =
     let at-distances = c.before.before.before.before in
     let at-cells-test = at-distances.before in
     let start = at-cells-test.before.before in
-    omega (arith, at-distances.distances.invariant.same-y, at-cells-test.cells-test.true, start.requires.small)
+    omega (arith, at-distances.distances.invariant.same_y, at-cells-test.cells-test.true, start.requires.small)
 
 cells-less : tie.Need-cells-smaller invariant-distances decreases-distances invariant-cells decreases-cells
 cells-less c =
     let at-distances = c.before.before.before.before in
     let at-cells-test = at-distances.before in
-    omega (arith, at-distances.distances.invariant.same-y, at-cells-test.cells-test.true)
+    omega (arith, at-distances.distances.invariant.same_y, at-cells-test.cells-test.true)
 
 cells-again : tie.Need-cells-preserved invariant-distances decreases-distances invariant-cells decreases-cells
 cells-again c =
@@ -98,7 +98,7 @@ cells-again c =
     let at-cells-test = at-distances.before in
     let at_cells = at-cells-test.before in
     let start = at_cells.before in
-    packing-hit _ _ _ _ _ _ _ _ start.requires _ _ _ at_cells.cells.invariant at-cells-test.cells-test.true _ _ _ _ at-distances.distances.invariant
+    packing_hit _ _ _ _ _ _ _ _ start.requires _ _ _ at_cells.cells.invariant at-cells-test.cells-test.true _ _ _ _ at-distances.distances.invariant
     at-distances-test.distances-test.true c.before.if1.true
 
 add-e : tie.Need-overflow-add-e invariant-distances decreases-distances invariant-cells decreases-cells
@@ -110,12 +110,12 @@ distances-less c = search rules
 distances-again : tie.Need-distances-preserved invariant-distances decreases-distances invariant-cells decreases-cells
 distances-again c =
     record {
-      same-words = c.before.before.before.distances.invariant.same-words;
+      same_words = c.before.before.before.distances.invariant.same_words;
       same_count = c.before.before.before.distances.invariant.same_count;
-      same-y =
-          c.before.before.before.distances.invariant.same-y;
+      same_y =
+          c.before.before.before.distances.invariant.same_y;
       low = omega (arith, c.before.before.distances-test.true);
-      none = (nowhere-more _ _ _
+      none = (nowhere_more _ _ _
           (record { low = c.before.before.before.distances.invariant.low; none = c.before.before.before.distances.invariant.none })
           c.before.before.distances-test.true (le-ltb _ _ c.if1.false)).none;
     }
@@ -124,21 +124,21 @@ same_length : tie.Need-same-length invariant-distances decreases-distances invar
 same_length c =
     let at_cells = c.before.before.before in
     let start = at_cells.before in
-    packing-long _ _ _ _ _ _ _ _ start.requires _ _ _ (omega arith) (packing-left _ _ _ _ _ _ _ _ start.requires _ _ _ at_cells.cells.invariant
+    packing_long _ _ _ _ _ _ _ _ start.requires _ _ _ (omega arith) (packing_left _ _ _ _ _ _ _ _ start.requires _ _ _ at_cells.cells.invariant
     c.before.before.cells-test.true _ _ _ _ c.before.distances.invariant c.distances-test.false)
 
 returns : tie.Need-returns invariant-distances decreases-distances invariant-cells decreases-cells
 returns c =
     let at_cells = c.before.before.before in
     let start = at_cells.before in
-    packing-left _ _ _ _ _ _ _ _ start.requires _ _ _ at_cells.cells.invariant c.before.before.cells-test.true _ _ _ _ c.before.distances.invariant
+    packing_left _ _ _ _ _ _ _ _ start.requires _ _ _ at_cells.cells.invariant c.before.before.cells-test.true _ _ _ _ c.before.distances.invariant
     c.distances-test.false
 
 same-length-2 : tie.Need-same-length-2 invariant-distances decreases-distances invariant-cells decreases-cells
-same-length-2 c = packing-long _ _ _ _ _ _ _ _ c.before.before.requires _ _ _ c.before.cells.invariant.low c.before.cells.invariant.first
+same-length-2 c = packing_long _ _ _ _ _ _ _ _ c.before.before.requires _ _ _ c.before.cells.invariant.low c.before.cells.invariant.first
 
 returns-2 : tie.Need-returns-2 invariant-distances decreases-distances invariant-cells decreases-cells
-returns-2 c = packing-end _ _ _ _ _ _ _ _ _ _ _ c.before.cells.invariant c.cells-test.false
+returns-2 c = packing_end _ _ _ _ _ _ _ _ _ _ _ c.before.cells.invariant c.cells-test.false
 
 pub pack-row-spec : {M : Type 1} → statement M
 pack-row-spec =

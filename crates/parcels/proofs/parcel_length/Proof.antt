@@ -3,10 +3,10 @@ use native.Mathlib.Omega.{arith}
 use Prim.Native.Nat.{◌-◌, ◌*◌}
 use native.Mathlib.Nat.{zero-mul, mul-le-mul_right}
 use mathlib.Core.Path.{refl, sym}
-use Rattle.layout.proofs.Steps.{ways-some, way-low}
-use Rattle.parcels.proofs.Walks.{Measuring, measure-none, measure-few}
+use Rattle.layout.proofs.Steps.{ways_some, way_low}
+use Rattle.parcels.proofs.Walks.{Measuring, measure_none, measure_few}
 use Rattle.parcels.proofs.Rows.{size_few, rows_few}
-use Rattle.parcels.proofs.Alike.{measure-alike}
+use Rattle.parcels.proofs.Alike.{measure_alike}
 use Rattle.parcels.proofs.Sendings.{headed, measured}
 use Rattle.parcels.proofs.parcel_length.Statement.{statement}
 use Rattle.parcels.proofs.parcel_length.Tie as tie
@@ -18,19 +18,19 @@ abbrev decreases-loop : tie.decreases-loop
 decreases-loop nest slot sending components rows count₀ r₀ count r = rows - r
 
 div-place-of-tile : tie.Need-nonzero-div-place-of-tile invariant-loop decreases-loop
-div-place-of-tile c = ways-some _ c.before.requires.0.accepted c.before.args.sizes.route _ c.before.requires.0.ways
+div-place-of-tile c = ways_some _ c.before.requires.0.accepted c.before.args.sizes.route _ c.before.requires.0.ways
 
 place-of-tile-requires : tie.Need-place-of-tile-requires invariant-loop decreases-loop
 place-of-tile-requires c κs = c.before.requires.0
 
 rem-along-of : tie.Need-nonzero-rem-along-of invariant-loop decreases-loop
 rem-along-of c =
-    ways-some _ c.before.before.before.requires.0.accepted c.before.before.before.args.sizes.route _ c.before.before.before.requires.0.ways
+    ways_some _ c.before.before.before.requires.0.accepted c.before.before.before.args.sizes.route _ c.before.before.before.requires.0.ways
 
 along-of-requires : tie.Need-along-of-requires invariant-loop decreases-loop
 along-of-requires c κs = (
   c.before.before.before.requires.0,
-  way-low _ c.before.before.before.requires.0.accepted c.before.before.before.args.sizes.route _
+  way_low _ c.before.before.before.requires.0.accepted c.before.before.before.args.sizes.route _
       c.before.before.before.requires.0.ways c.before.before.before.args.slot,
 )
 
@@ -55,7 +55,7 @@ sending-of-requires c κs =
     )
 
 loop-holds : tie.Need-loop-init invariant-loop decreases-loop
-loop-holds c = rw (zero-mul c.before.sending-of.result.width) (measure-none _ _)
+loop-holds c = rw (zero-mul c.before.sending-of.result.width) (measure_none _ _)
 
 row-at-requires : tie.Need-row-at-requires invariant-loop decreases-loop
 row-at-requires c κs =
@@ -70,7 +70,7 @@ mul-count c =
     let start = at-sending-of.before.before.before.before.before.before.before in
     omega (
       arith,
-      measure-few _ _ _ _ (measure-alike _ _ _ _ c.before.row_at.ensures _ at-loop.loop.invariant),
+      measure_few _ _ _ _ (measure_alike _ _ _ _ c.before.row_at.ensures _ at-loop.loop.invariant),
       size_few _ start.requires.0.accepted _
           at-sending-of.sending-of.ensures.shape,
     )
@@ -82,7 +82,7 @@ add-count c =
     let start = at-sending-of.before.before.before.before.before.before.before in
     omega (
       arith,
-      measure-few _ _ _ _ (measure-alike _ _ _ _ c.before.row_at.ensures _ at-loop.loop.invariant),
+      measure_few _ _ _ _ (measure_alike _ _ _ _ c.before.row_at.ensures _ at-loop.loop.invariant),
       size_few _ start.requires.0.accepted _
           at-sending-of.sending-of.ensures.shape,
     )
@@ -97,7 +97,7 @@ loop-less : tie.Need-loop-smaller invariant-loop decreases-loop
 loop-less c = omega (arith, c.before.before.row_at.ensures.least, c.before.before.row_at.ensures.room)
 
 loop-again : tie.Need-loop-preserved invariant-loop decreases-loop
-loop-again c = measure-alike _ _ _ _ c.before.before.row_at.ensures _ c.before.before.before.before.before.loop.invariant
+loop-again c = measure_alike _ _ _ _ c.before.before.row_at.ensures _ c.before.before.before.before.before.loop.invariant
 
 returns-2 : tie.Need-returns-2 invariant-loop decreases-loop
 returns-2 c =

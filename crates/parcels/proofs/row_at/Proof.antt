@@ -1,6 +1,6 @@
 -- `parcels::row_at` meets its contract.
-use Rattle.parcels.proofs.Rows.{box-places, row_small, row-inner}
-use Rattle.parcels.proofs.Alike.{row-found}
+use Rattle.parcels.proofs.Rows.{box_places, row_small, row_inner}
+use Rattle.parcels.proofs.Alike.{row_found}
 use borrow.Author.Rules.{rules}
 use Rattle.parcels.proofs.row_at.Statement.{statement}
 use Rattle.parcels.proofs.row_at.Tie as tie
@@ -12,7 +12,7 @@ sub-last c =
 add-place-requires : tie.Need-add-place-requires
 add-place-requires c κs =
     let S = c.before.before.before.before.before.before in
-    (search (rules, S.well-formed.1.1.0), box-places _ S.requires.0 _ S.requires.1.1.0)
+    (search (rules, S.well-formed.1.1.0), box_places _ S.requires.0 _ S.requires.1.1.0)
 
 ends-of-requires : tie.Need-ends-of-requires
 ends-of-requires c κs =
@@ -34,14 +34,14 @@ run-of-requires c κs =
 rows-alike-requires : tie.Need-rows-alike-requires
 rows-alike-requires c κs =
     let S = c.before.before.before.before.before.before.before.before.before.before.before in
-    (S.requires.0, (S.requires.1.0, row-inner _ S.requires.0 _ S.requires.1.1.0 _ _ c.before.before.before.before.add-place.ensures.1))
+    (S.requires.0, (S.requires.1.0, row_inner _ S.requires.0 _ S.requires.1.1.0 _ _ c.before.before.before.before.add-place.ensures.1))
 
 returns : tie.Need-returns
 returns c =
     let at-ends-of = c.before.before.before in
     let at-add-place = at-ends-of.before.before in
     let S = at-add-place.before.before.before.before.before.before.before in
-    row-found _ S.requires.0 _ S.requires.1.1.0 _ S.requires.1.1.1 _ at-add-place.add-place.ensures.1 _ c.rows_alike.ensures _
+    row_found _ S.requires.0 _ S.requires.1.1.0 _ S.requires.1.1.1 _ at-add-place.add-place.ensures.1 _ c.rows_alike.ensures _
     at-ends-of.ends_of.ensures _ c.before.run_of.ensures
 
 pub row-at-spec : {M : Type 1} → statement M

@@ -3,7 +3,7 @@ use borrow.Author.Rules.{rules}
 use native.Mathlib.Omega.{arith}
 use Prim.Native.Nat.{◌-◌}
 use mathlib.Core.Logic.{⊎_elim, inl, inr}
-use Rattle.parcels.proofs.Windows.{Highest, highest-none, highest-turn, run_end}
+use Rattle.parcels.proofs.Windows.{Highest, highest_none, highest_turn, run_end}
 use Rattle.parcels.proofs.run_of.Statement.{statement}
 use Rattle.parcels.proofs.run_of.Tie as tie
 
@@ -14,7 +14,7 @@ abbrev decreases-loop : tie.decreases-loop
 decreases-loop ends n component width end₀ e₀ end e = n - e
 
 loop-holds : tie.Need-loop-init invariant-loop decreases-loop
-loop-holds c = highest-none _ _ _
+loop-holds c = highest_none _ _ _
 
 mul-if1 : tie.Need-overflow-mul-if1 invariant-loop decreases-loop
 mul-if1 c = omega (arith, c.loop-test.true, c.before.before.requires)
@@ -36,8 +36,8 @@ loop-less c = omega (arith, c.before.before.loop-test.true)
 
 loop-again : tie.Need-loop-preserved invariant-loop decreases-loop
 loop-again c =
-    ⊎_elim (λ p. highest-turn _ _ _ _ _ c.before.before.before.loop.invariant c.before.before.loop-test.true _ (inl (p.0.taken, p.2)))
-    (λ p. highest-turn _ _ _ _ _ c.before.before.before.loop.invariant c.before.before.loop-test.true _ (inr (p.0.left, p.1))) c.if1.branch
+    ⊎_elim (λ p. highest_turn _ _ _ _ _ c.before.before.before.loop.invariant c.before.before.loop-test.true _ (inl (p.0.taken, p.2)))
+    (λ p. highest_turn _ _ _ _ _ c.before.before.before.loop.invariant c.before.before.loop-test.true _ (inr (p.0.left, p.1))) c.if1.branch
 
 sub-least : tie.Need-overflow-sub-least invariant-loop decreases-loop
 sub-least c = omega (arith, c.before.loop.invariant.most)

@@ -1,35 +1,35 @@
 -- `parcels::sending_of` meets its contract.
 use native.Mathlib.Omega.{arith}
 use mathlib.Core.Path.{refl}
-use Rattle.layout.proofs.Steps.{ways-some, way-low, ways-few}
+use Rattle.layout.proofs.Steps.{ways_some, way_low, ways_few}
 use Rattle.layout.proofs.CellRows.{fewer}
-use Rattle.parcels.proofs.Sendings.{headed-at, headed-to, boxed-countable, sends-of}
+use Rattle.parcels.proofs.Sendings.{headed_at, headed_to, boxed_countable, sends_of}
 use borrow.Author.Rules.{rules}
 use Rattle.parcels.proofs.sending_of.Statement.{statement}
 use Rattle.parcels.proofs.sending_of.Tie as tie
 
 rem-way : tie.Need-nonzero-rem-way
-rem-way c = ways-some _ c.before.requires.0.accepted c.before.args.sizes.route _ c.before.requires.0.ways
+rem-way c = ways_some _ c.before.requires.0.accepted c.before.args.sizes.route _ c.before.requires.0.ways
 
 earlier-of-requires : tie.Need-earlier-of-requires
 earlier-of-requires c κs = search rules
 
 block-of-requires : tie.Need-block-of-requires
-block-of-requires c κs = (c.before.before.requires.0.accepted, headed-at _ c.before.before.requires.0.accepted _ _ _ _ c.before.before.requires.1)
+block-of-requires c κs = (c.before.before.requires.0.accepted, headed_at _ c.before.before.requires.0.accepted _ _ _ _ c.before.before.requires.1)
 
 later-of-requires : tie.Need-later-of-requires
 later-of-requires c κs =
     let start = c.before.before.before.before in
     omega (
       arith,
-      way-low _ start.requires.0.accepted start.args.sizes.route _ start.requires.0.ways start.args.slot,
-      ways-few _ start.requires.0.accepted start.args.sizes.route,
+      way_low _ start.requires.0.accepted start.args.sizes.route _ start.requires.0.ways start.args.slot,
+      ways_few _ start.requires.0.accepted start.args.sizes.route,
     )
 
 window-of-requires : tie.Need-window-of-requires
 window-of-requires c κs =
     let start = c.before.before.before.before.before in
-    (start.requires.0.accepted, (refl, headed-to _ start.requires.0.accepted _ _ _ _ start.requires.1))
+    (start.requires.0.accepted, (refl, headed_to _ start.requires.0.accepted _ _ _ _ start.requires.1))
 
 sub-last : tie.Need-overflow-sub-last
 sub-last c = search rules
@@ -39,7 +39,7 @@ product-requires c κs =
     let at-block-of = c.before.before.before.before.before in
     let at-earlier-of = at-block-of.before in
     let start = at-earlier-of.before.before in
-    fewer _ start.requires.0.accepted _ (boxed-countable _ start.requires.0.accepted _ _ _ _ start.requires.1 _ start.requires.0.ways _ _
+    fewer _ start.requires.0.accepted _ (boxed_countable _ start.requires.0.accepted _ _ _ _ start.requires.1 _ start.requires.0.ways _ _
     at-earlier-of.earlier-of.ensures at-block-of.Block-of.ensures)
 
 mul-t14 : tie.Need-overflow-mul-t14
@@ -55,7 +55,7 @@ returns c =
     let at-block-of = at-later-of.before.before in
     let at-earlier-of = at-block-of.before in
     let start = at-earlier-of.before.before in
-    sends-of _ start.requires.0.accepted _ _ _ _ start.requires.1 _ start.requires.0.ways _ _ _ at-earlier-of.earlier-of.ensures
+    sends_of _ start.requires.0.accepted _ _ _ _ start.requires.1 _ start.requires.0.ways _ _ _ at-earlier-of.earlier-of.ensures
     at-later-of.Later-of.ensures at-block-of.Block-of.ensures at-window-of.window-of.ensures c.product.ensures refl
 
 pub sending-of-spec : {M : Type 1} → statement M

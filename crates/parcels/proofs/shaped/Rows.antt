@@ -17,10 +17,10 @@ use Rattle.layout.specs.Places.{nth, Countable, Placed}
 use Rattle.layout.proofs.CellRows.{fewer}
 use Rattle.layout.proofs.Loops.{Filled}
 use Rattle.parcels.specs.declared.Sending.{Sending}
-use Rattle.parcels.specs.Windows.{windowOf}
+use Rattle.parcels.specs.Windows.{window_of}
 use Rattle.parcels.specs.Sendings.{BoxOfRows}
-use Rattle.parcels.proofs.Rows.{block-countable, row_has}
-use Rattle.parcels.specs.shaped.Runs.{comesShaped, RunsAre}
+use Rattle.parcels.proofs.Rows.{block_countable, row_has}
+use Rattle.parcels.specs.shaped.Runs.{comes_shaped, RunsAre}
 use Rattle.parcels.specs.shaped.Parcels.{Farthest, Near, RowRuns}
 
 -- ---- how far the distances go: the first n components, each with its dimension
@@ -31,13 +31,13 @@ pub record Most (components most : List ℕ) (n : ℕ) : Type 0 where
   pub small : (j : ℕ) → get_or most j 0 ≤ 1024
 
 module _ (components : List ℕ) where
-  pub most-none : (most : List ℕ) → length most ≡ 4 → ((j : ℕ) → get_or most j 0 ≡ 0) → Most components most 0
-  most-none most l h = record { long = l; each = λ i k. absurd (omega arith); small = λ j. omega (arith, h j) }
+  pub most_none : (most : List ℕ) → length most ≡ 4 → ((j : ℕ) → get_or most j 0 ≡ 0) → Most components most 0
+  most_none most l h = record { long = l; each = λ i k. absurd (omega arith); small = λ j. omega (arith, h j) }
 
-  pub most-more : (most : List ℕ) (n v : ℕ) → Most components most n → get_or components n 0 ≤ 1024
+  pub most_more : (most : List ℕ) (n v : ℕ) → Most components most n → get_or components n 0 ≤ 1024
       → v ≡ max (get_or most (n % 4) 0) (get_or components n 0)
       → Most components (set most (n % 4) v) (n + 1)
-  most-more most n v p m h =
+  most_more most n v p m h =
       record {
         long = length-set most (n % 4) v ∙ p.long;
         each = λ i k. go i (eq-or-lt_of_le (below i k)) (ℕ_discrete (i % 4) (n % 4));
@@ -47,8 +47,8 @@ module _ (components : List ℕ) where
       here : n % 4 < 4
       here = omega arith
 
-      v-small : v ≤ 1024
-      v-small = omega (arith, h, m, p.small (n % 4))
+      v_small : v ≤ 1024
+      v_small = omega (arith, h, m, p.small (n % 4))
 
       below : (i : ℕ) → i < n + 1 → i ≤ n
       below i k = omega arith
@@ -62,12 +62,12 @@ module _ (components : List ℕ) where
       go i (inr o) (no q) = rw (get_or-set_other most (n % 4) (i % 4) v 0 q) (p.each i o)
 
       low : (j : ℕ) → Dec (j ≡ n % 4) → get_or (set most (n % 4) v) j 0 ≤ 1024
-      low j (yes q) = rw (q, get_or-set_same most (n % 4) v 0 (omega (arith, p.long, here))) v-small
+      low j (yes q) = rw (q, get_or-set_same most (n % 4) v 0 (omega (arith, p.long, here))) v_small
       low j (no q) = rw (get_or-set_other most (n % 4) j v 0 q) (p.small j)
 
 module _ (x : Nest) (ok : Accepted x) where
-  pub component-small : (i : ℕ) → get_or x.components i 0 ≤ 1024
-  component-small i = go (ok.component-most (i / 4) (i % 4))
+  pub component_small : (i : ℕ) → get_or x.components i 0 ≤ 1024
+  component_small i = go (ok.component_most (i / 4) (i % 4))
     where
       split : 4 * (i / 4) + i % 4 ≡ i
       split = omega arith
@@ -75,12 +75,12 @@ module _ (x : Nest) (ok : Accepted x) where
       go : component x (i / 4) (i % 4) ≤ 1024 → get_or x.components i 0 ≤ 1024
       go h = rw split at h
 
-  pub most-end : (most : List ℕ) (i : ℕ) → 4 * x.distances ≤ i → Most x.components most i → Farthest x most
-  most-end most i k p =
+  pub most_end : (most : List ℕ) (i : ℕ) → 4 * x.distances ≤ i → Most x.components most i → Farthest x most
+  most_end most i k p =
       record {
         each = λ d j l o.
-            let r : (4 * d + j) % 4 ≡ j = rest d j (omega (arith, ok.dimensions-most)) in
-            rw r at (p.each (4 * d + j) (omega (arith, ok.dimensions-most)));
+            let r : (4 * d + j) % 4 ≡ j = rest d j (omega (arith, ok.dimensions_most)) in
+            rw r at (p.each (4 * d + j) (omega (arith, ok.dimensions_most)));
         small = p.small;
       }
     where
@@ -100,55 +100,55 @@ abbrev pub sides : Sending → List ℕ → ℕ → ℕ
 sides z most j = get_or z.block.lengths j 0 - over z most j
 
 -- by the code's steps
-pub over-is : (low most from side a b o : ℕ) → a ≡ low - most → b ≡ a - from → o ≡ min b (side - 1)
+pub over_is : (low most from side a b o : ℕ) → a ≡ low - most → b ≡ a - from → o ≡ min b (side - 1)
     → (from + o ≡ from + min (low - most - from) (side - 1)) × (side - o ≡ side - min (low - most - from) (side - 1))
-over-is low most from side a b o ea eb eo =
+over_is low most from side a b o ea eb eo =
     let e : o ≡ min (low - most - from) (side - 1) = eo ∙ rw (eb, ea) refl in (ap (λ (i : ℕ). from + i) e, ap (λ (i : ℕ). side - i) e)
 
 module _ (x : Nest) (ok : Accepted x) (z : Sending) (p : BoxOfRows x z) (most : List ℕ) (f : Farthest x most) (corner lengths : List ℕ) (i : ℕ)
     (c : Filled 4 (corners z most) x.dimensions corner i) (l : Filled 4 (sides z most) x.dimensions lengths i) (h : x.dimensions ≤ i) where
-  corner-is : (j : ℕ) → j < x.dimensions → get_or corner j 0 ≡ corners z most j
-  corner-is j o = c.each j (omega arith)
+  corner_is : (j : ℕ) → j < x.dimensions → get_or corner j 0 ≡ corners z most j
+  corner_is j o = c.each j (omega arith)
 
-  side-is : (j : ℕ) → j < x.dimensions → get_or lengths j 0 ≡ sides z most j
-  side-is j o = l.each j (omega arith)
+  side_is : (j : ℕ) → j < x.dimensions → get_or lengths j 0 ≡ sides z most j
+  side_is j o = l.each j (omega arith)
 
   least : (j : ℕ) → j < x.dimensions → 1 ≤ get_or lengths j 0
-  least j o = omega (arith, side-is j o, p.least j o)
+  least j o = omega (arith, side_is j o, p.least j o)
 
   same_end : (j : ℕ) → j < x.dimensions → get_or corner j 0 + get_or lengths j 0 ≡ get_or z.block.corner j 0 + get_or z.block.lengths j 0
-  same_end j o = omega (arith, corner-is j o, side-is j o, p.least j o)
+  same_end j o = omega (arith, corner_is j o, side_is j o, p.least j o)
 
   inner : (j : ℕ) → j < x.dimensions → get_or corner j 0 + get_or lengths j 0 ≤ length_of x j
   inner j o = omega (arith, same_end j o, p.inside j o)
 
   deep : last x < x.dimensions
-  deep = omega (arith, ok.dimensions-least)
+  deep = omega (arith, ok.dimensions_least)
 
-  pub near-countable : Countable lengths (last x)
-  near-countable = fewer x ok lengths (block-countable x ok (record { corner = corner; lengths = lengths }) least inner)
+  pub near_countable : Countable lengths (last x)
+  near_countable = fewer x ok lengths (block_countable x ok (record { corner = corner; lengths = lengths }) least inner)
 
-  pub near-is : (rows : ℕ) → rows ≡ product (nth lengths) (last x)
+  pub near_is : (rows : ℕ) → rows ≡ product (nth lengths) (last x)
       → Near x z (record { block = record { corner = corner; lengths = lengths }; window = z.window; rows = rows; width = z.width })
-  near-is rows e =
+  near_is rows e =
       record {
         shape = record {
           least = least;
           inside = inner;
           opens = p.opens;
           rows = e;
-          width = omega (arith, p.width, side-is (last x) deep, p.opens);
+          width = omega (arith, p.width, side_is (last x) deep, p.opens);
         };
         window = refl;
-        from = λ j o. omega (arith, corner-is j o);
+        from = λ j o. omega (arith, corner_is j o);
         to = same_end;
-        has = λ d j a k o m n w. omega (arith, corner-is j o, f.each d j k o);
+        has = λ d j a k o m n w. omega (arith, corner_is j o, f.each d j k o);
       }
 
 -- ---- a row as the code has it
 
-pub row-runs : (x : Nest) (ok : Accepted x) (z : Sending) (p : BoxOfRows x z) (r : ℕ) (at : List ℕ) → Placed z.block.lengths z.block.corner r (last x)
+pub row_runs : (x : Nest) (ok : Accepted x) (z : Sending) (p : BoxOfRows x z) (r : ℕ) (at : List ℕ) → Placed z.block.lengths z.block.corner r (last x)
     at
-    → (place : List ℕ) (n : ℕ) (starts ends : List ℕ) → (place ≡ at) × RunsAre x (nth at) (comesShaped x (windowOf z.window)) n starts ends
+    → (place : List ℕ) (n : ℕ) (starts ends : List ℕ) → (place ≡ at) × RunsAre x (nth at) (comes_shaped x (window_of z.window)) n starts ends
     → RowRuns x z r place n starts ends
-row-runs x ok z p r at g place n starts ends (e, f) = rw e (record { place = row_has x ok z p r at g; runs = f })
+row_runs x ok z p r at g place n starts ends (e, f) = rw e (record { place = row_has x ok z p r at g; runs = f })

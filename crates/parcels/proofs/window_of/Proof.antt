@@ -6,8 +6,8 @@ use mathlib.Core.Path.{refl}
 use lib.ListN.{get_or}
 use lib.Dec.{leb}
 use Rattle.base.specs.Tests.{one}
-use Rattle.layout.proofs.Loops.{Changed, changed-none, changed-more}
-use Rattle.parcels.proofs.Sendings.{tile-few, one-few, windowed}
+use Rattle.layout.proofs.Loops.{Changed, changed_none, changed_more}
+use Rattle.parcels.proofs.Sendings.{tile_few, one_few, windowed}
 use Rattle.parcels.proofs.window_of.Statement.{statement}
 use Rattle.parcels.proofs.window_of.Tie as tie
 
@@ -19,25 +19,25 @@ abbrev decreases-loop : tie.decreases-loop
 decreases-loop later lengths at ahead tiling low₀ high₀ n j₀ low high j = n - j
 
 loop-holds : tie.Need-loop-init invariant-loop decreases-loop
-loop-holds c = (changed-none _ _ _ (omega arith), changed-none _ _ _ (omega arith))
+loop-holds c = (changed_none _ _ _ (omega arith), changed_none _ _ _ (omega arith))
 
 mul-k : tie.Need-overflow-mul-k invariant-loop decreases-loop
-mul-k c = omega (arith, c.loop-test.true, c.before.before.before.requires.0.spread-low, c.before.before.before.requires.0.dimensions-most)
+mul-k c = omega (arith, c.loop-test.true, c.before.before.before.requires.0.spread_low, c.before.before.before.requires.0.dimensions_most)
 
 array-read-k : tie.Need-array-read-k invariant-loop decreases-loop
-array-read-k c = omega (arith, c.loop-test.true, c.before.before.before.requires.0.spread-low, c.before.before.before.requires.0.dimensions-most)
+array-read-k c = omega (arith, c.loop-test.true, c.before.before.before.requires.0.spread_low, c.before.before.before.requires.0.dimensions_most)
 
 mul-to : tie.Need-overflow-mul-to invariant-loop decreases-loop
-mul-to c = omega (arith, c.loop-test.true, c.before.before.before.requires.0.spread-low, c.before.before.before.requires.0.dimensions-most)
+mul-to c = omega (arith, c.loop-test.true, c.before.before.before.requires.0.spread_low, c.before.before.before.requires.0.dimensions_most)
 
 array-read-to : tie.Need-array-read-to invariant-loop decreases-loop
-array-read-to c = omega (arith, c.loop-test.true, c.before.before.before.requires.0.spread-low, c.before.before.before.requires.0.dimensions-most)
+array-read-to c = omega (arith, c.loop-test.true, c.before.before.before.requires.0.spread_low, c.before.before.before.requires.0.dimensions_most)
 
 mul-to-2 : tie.Need-overflow-mul-to-2 invariant-loop decreases-loop
-mul-to-2 c = omega (arith, c.loop-test.true, c.before.before.before.requires.0.spread-low, c.before.before.before.requires.0.dimensions-most)
+mul-to-2 c = omega (arith, c.loop-test.true, c.before.before.before.requires.0.spread_low, c.before.before.before.requires.0.dimensions_most)
 
 array-read-to-2 : tie.Need-array-read-to-2 invariant-loop decreases-loop
-array-read-to-2 c = omega (arith, c.loop-test.true, c.before.before.before.requires.0.spread-low, c.before.before.before.requires.0.dimensions-most)
+array-read-to-2 c = omega (arith, c.loop-test.true, c.before.before.before.requires.0.spread_low, c.before.before.before.requires.0.dimensions_most)
 
 add-to : tie.Need-overflow-add-to invariant-loop decreases-loop
 add-to c = omega (arith, c.before.before.before.requires.1.1 c.before.loop.j c.loop-test.true)
@@ -46,16 +46,16 @@ mul_low : tie.Need-overflow-mul-low invariant-loop decreases-loop
 mul_low c =
     omega (
       arith,
-      tile-few _ c.before.before.before.requires.0 (get_or c.before.before.before.args.t3 c.before.loop.j 0 + get_or
+      tile_few _ c.before.before.before.requires.0 (get_or c.before.before.before.args.t3 c.before.loop.j 0 + get_or
           c.before.before.before.args.t4 c.before.loop.j 0) c.before.loop.j
           (omega (arith, c.before.before.before.requires.1.1 c.before.loop.j c.loop-test.true)),
     )
 
 mul-low-2 : tie.Need-overflow-mul-low-2 invariant-loop decreases-loop
-mul-low-2 c = omega (arith, c.loop-test.true, c.before.before.before.requires.0.spread-low, c.before.before.before.requires.0.dimensions-most)
+mul-low-2 c = omega (arith, c.loop-test.true, c.before.before.before.requires.0.spread_low, c.before.before.before.requires.0.dimensions_most)
 
 array-write-low : tie.Need-array-write-low invariant-loop decreases-loop
-array-write-low c = omega (arith, c.loop-test.true, c.before.before.before.requires.0.spread-low, c.before.before.before.requires.0.dimensions-most)
+array-write-low c = omega (arith, c.loop-test.true, c.before.before.before.requires.0.spread_low, c.before.before.before.requires.0.dimensions_most)
 
 one-requires : tie.Need-one-requires invariant-loop decreases-loop
 one-requires c κs = search rules
@@ -67,18 +67,18 @@ add-end-of c =
       arith,
       start.requires.1.1 c.before.before.loop.j c.before.loop-test.true,
       c.one.ensures,
-      one-few (leb start.args.later c.before.before.loop.j),
+      one_few (leb start.args.later c.before.before.loop.j),
     )
 
 mul-end-of : tie.Need-overflow-mul-end-of invariant-loop decreases-loop
 mul-end-of c =
     let start = c.before.before.before.before in
-    omega (arith, c.before.loop-test.true, start.requires.0.spread-low, start.requires.0.dimensions-most)
+    omega (arith, c.before.loop-test.true, start.requires.0.spread_low, start.requires.0.dimensions_most)
 
 array-read-end-of : tie.Need-array-read-end-of invariant-loop decreases-loop
 array-read-end-of c =
     let start = c.before.before.before.before in
-    omega (arith, c.before.loop-test.true, start.requires.0.spread-low, start.requires.0.dimensions-most)
+    omega (arith, c.before.loop-test.true, start.requires.0.spread_low, start.requires.0.dimensions_most)
 
 end-of-requires : tie.Need-end-of-requires invariant-loop decreases-loop
 end-of-requires c κs =
@@ -87,25 +87,25 @@ end-of-requires c κs =
         arith,
         start.requires.1.1 c.before.before.loop.j c.before.loop-test.true,
         c.one.ensures,
-        one-few (leb start.args.later c.before.before.loop.j),
+        one_few (leb start.args.later c.before.before.loop.j),
       ),
-      start.requires.0.tile-most _,
+      start.requires.0.tile_most _,
     )
 
 mul-high : tie.Need-overflow-mul-high invariant-loop decreases-loop
 mul-high c =
     let start = c.before.before.before.before.before in
-    omega (arith, c.before.before.loop-test.true, start.requires.0.spread-low, start.requires.0.dimensions-most)
+    omega (arith, c.before.before.loop-test.true, start.requires.0.spread_low, start.requires.0.dimensions_most)
 
 array-write-high : tie.Need-array-write-high invariant-loop decreases-loop
 array-write-high c =
     let start = c.before.before.before.before.before in
-    omega (arith, c.before.before.loop-test.true, start.requires.0.spread-low, start.requires.0.dimensions-most)
+    omega (arith, c.before.before.loop-test.true, start.requires.0.spread_low, start.requires.0.dimensions_most)
 
 add-j : tie.Need-overflow-add-j invariant-loop decreases-loop
 add-j c =
     let start = c.before.before.before.before.before in
-    omega (arith, c.before.before.loop-test.true, start.requires.0.spread-low, start.requires.0.dimensions-most)
+    omega (arith, c.before.before.loop-test.true, start.requires.0.spread_low, start.requires.0.dimensions_most)
 
 loop-less : tie.Need-loop-smaller invariant-loop decreases-loop
 loop-less c = omega (arith, c.before.before.loop-test.true)
@@ -114,10 +114,10 @@ loop-again : tie.Need-loop-preserved invariant-loop decreases-loop
 loop-again c =
     let at-loop = c.before.before.before in
     let start = at-loop.before.before in (
-      changed-more _ _ _ _ _ _ at-loop.loop.invariant.0 c.before.before.loop-test.true
-          (omega (arith, start.requires.0.spread-low, start.requires.0.dimensions-most)) refl,
-      changed-more _ _ _ _ _ _ at-loop.loop.invariant.1
-          c.before.before.loop-test.true (omega (arith, start.requires.0.spread-low, start.requires.0.dimensions-most))
+      changed_more _ _ _ _ _ _ at-loop.loop.invariant.0 c.before.before.loop-test.true
+          (omega (arith, start.requires.0.spread_low, start.requires.0.dimensions_most)) refl,
+      changed_more _ _ _ _ _ _ at-loop.loop.invariant.1
+          c.before.before.loop-test.true (omega (arith, start.requires.0.spread_low, start.requires.0.dimensions_most))
           (rw (c.end_of_lem.ensures, c.before.one.ensures)),
     )
 

@@ -6,16 +6,16 @@ use Rattle.base.specs.Tests.{keep}
 use Rattle.nest.specs.declared.Nest.{Nest}
 use Rattle.nest.specs.Nest.{length_of, component}
 use Rattle.nest.specs.Spans.{last}
-use Rattle.plan.specs.Shaped.{shapedParcel}
+use Rattle.plan.specs.Shaped.{shaped_parcel}
 use Rattle.layout.specs.Places.{nth, Has}
 use Rattle.parcels.specs.declared.Sending.{Sending}
-use Rattle.parcels.specs.Windows.{windowOf}
-use Rattle.parcels.specs.Sendings.{BoxOfRows, place_in, cellIn}
-use Rattle.parcels.specs.shaped.Runs.{comesShaped, RunsAre}
+use Rattle.parcels.specs.Windows.{window_of}
+use Rattle.parcels.specs.Sendings.{BoxOfRows, place_in, cell_in}
+use Rattle.parcels.specs.shaped.Runs.{comes_shaped, RunsAre}
 
 -- of the first n cells of the box, those that some distance puts into the window, both in the shape
-unfoldable pub shapedFound : Nest → Sending → ℕ → List ℕ
-shapedFound x z n = map (cellIn x z) (keep (λ q. comesShaped x (windowOf z.window) (place_in x z q)) n)
+unfoldable pub shaped_found : Nest → Sending → ℕ → List ℕ
+shaped_found x z n = map (cell_in x z) (keep (λ q. comes_shaped x (window_of z.window) (place_in x z q)) n)
 
 -- no distance goes farther than this in dimension j
 pub record Farthest (x : Nest) (most : List ℕ) : Type 0 where
@@ -36,9 +36,9 @@ pub record Near (x : Nest) (z y : Sending) : Type 0 where
 pub record Rows (x : Nest) (u v : ℕ) (z : Sending) : Type 0 where
   pub shape : BoxOfRows x z
   pub ends : get_or z.window.high (last x) 0 ≤ length_of x (last x)
-  pub cells : shapedParcel x u v ≡ shapedFound x z (z.rows * z.width)
+  pub cells : shaped_parcel x u v ≡ shaped_found x z (z.rows * z.width)
 
 -- row r: its place, and the runs of its cells that are found
 pub record RowRuns (x : Nest) (z : Sending) (r : ℕ) (at : List ℕ) (n : ℕ) (starts ends : List ℕ) : Type 0 where
   pub place : Has at (place_in x z (r * z.width)) x.dimensions
-  pub runs : RunsAre x (nth at) (comesShaped x (windowOf z.window)) n starts ends
+  pub runs : RunsAre x (nth at) (comes_shaped x (window_of z.window)) n starts ends

@@ -7,7 +7,7 @@ use Rattle.part.proofs.box_tile.Tie as tie
 returns : tie.Need-returns
 returns c =
     let S = c.before.before in
-    chains.box-number S.args.nest S.args.sizes S.requires.0.0.accepted S.args.tile S.requires.1 c.if1.true
+    chains.box_number S.args.nest S.args.sizes S.requires.0.0.accepted S.args.tile S.requires.1 c.if1.true
 
 box-of-requires : tie.Need-box-of-requires
 box-of-requires c κs =
@@ -15,7 +15,7 @@ box-of-requires c κs =
       S.requires.0.0.accepted,
       (
         (S.requires.0.1.shape c.if1.false).owned.tiled,
-        chains.shape-number S.args.nest S.args.sizes S.requires.0.0.accepted S.args.tile S.requires.1 S.requires.0.1.routed c.if1.false,
+        chains.shape_number S.args.nest S.args.sizes S.requires.0.0.accepted S.args.tile S.requires.1 S.requires.0.1.routed c.if1.false,
       ),
     )
 

@@ -15,7 +15,7 @@ sub-before : tie.Need-overflow-sub-before invariant-loop decreases-loop
 sub-before c = c.requires.0
 
 loop-holds : tie.Need-loop-init invariant-loop decreases-loop
-loop-holds c = chains.repeat-start c.args.at c.args.n c.args.sides.now
+loop-holds c = chains.repeat_start c.args.at c.args.n c.args.sides.now
 
 add-sides : tie.Need-overflow-add-sides invariant-loop decreases-loop
 add-sides c = omega (arith, c.loop-test.true, c.before.before.requires.1.0, c.before.before.requires.1.1)
@@ -49,7 +49,7 @@ loop-again : tie.Need-loop-preserved invariant-loop decreases-loop
 loop-again c =
     let S = c.before.before.before in
     let loop = c.before.before.loop in
-    chains.repeat-next S.args.at S.args.n S.args.sides.now loop.sides loop.w loop.invariant S.requires.0 S.requires.1.0
+    chains.repeat_next S.args.at S.args.n S.args.sides.now loop.sides loop.w loop.invariant S.requires.0 S.requires.1.0
     c.before.loop-test.true
 
 same_length : tie.Need-same-length invariant-loop decreases-loop
@@ -59,7 +59,7 @@ returns : tie.Need-returns invariant-loop decreases-loop
 returns c =
     let S = c.before.before in
     let loop = c.before.loop in
-    chains.repeat-done S.args.at S.args.n S.args.sides.now loop.sides loop.w loop.invariant c.loop-test.false
+    chains.repeat_done S.args.at S.args.n S.args.sides.now loop.sides loop.w loop.invariant c.loop-test.false
 
 pub copy-sides-spec : {M : Type 1} → statement M
 copy-sides-spec =

@@ -38,8 +38,8 @@ mul-slots c =
 loop-holds : tie.Need-loop-init invariant-loop decreases-loop
 loop-holds c =
     let S = c.before.before.before in (
-      pass.past-start S.args.lens.now (c.before.tiles-of.result * S.args.sizes.ways),
-      handling.rank-start (plan_of S.args.sizes.route S.args.nest) S.args.b S.args.ordinals.now S.args.starts.now S.requires.1.0
+      pass.past_start S.args.lens.now (c.before.tiles-of.result * S.args.sizes.ways),
+      handling.rank_start (plan_of S.args.sizes.route S.args.nest) S.args.b S.args.ordinals.now S.args.starts.now S.requires.1.0
           S.requires.1.1,
     )
 
@@ -149,7 +149,7 @@ mul_at c =
     let half-index = c.before.before.before.half-index in
     let short = pass.short S.args.sizes.route S.args.nest S.args.lens.now _ loop.slot loop.number loop.offset loop.invariant.0 (table T)
     test half-index.result half-index.ensures in
-    let own = handling.at-most-words _ c.handled-one.result half-index.result c.handled-one.ensures in
+    let own = handling.at_most_words _ c.handled-one.result half-index.result c.handled-one.ensures in
     omega (arith, short, own)
 
 add_at : tie.Need-overflow-add-at invariant-loop decreases-loop
@@ -161,7 +161,7 @@ add_at c =
     let half-index = c.before.before.before.half-index in
     let short = pass.short S.args.sizes.route S.args.nest S.args.lens.now _ loop.slot loop.number loop.offset loop.invariant.0 (table T)
     test half-index.result half-index.ensures in
-    let own = handling.at-most-words _ c.handled-one.result half-index.result c.handled-one.ensures in
+    let own = handling.at_most_words _ c.handled-one.result half-index.result c.handled-one.ensures in
     omega (arith, short, own, loop.invariant.1.small, loop.invariant.0.small, test, (table T).sheet.few)
 
 add-offset : tie.Need-overflow-add-offset invariant-loop decreases-loop
@@ -197,7 +197,7 @@ loop-again c =
       pass.past_next S.args.sizes.route S.args.nest S.args.lens.now _ loop.slot loop.number loop.offset loop.invariant.0 (table T)
           test half-index.result half-index.ensures if1.number
           (⊎_elim (λ w. inl (w.0.taken, w.3)) (λ w. inr (w.0.left, w.1)) if1.branch),
-      handling.rank-turn (plan_of S.args.sizes.route S.args.nest) S.args.b loop.ordinals loop.starts loop.number loop.offset
+      handling.rank_turn (plan_of S.args.sizes.route S.args.nest) S.args.b loop.ordinals loop.starts loop.number loop.offset
           loop.rank loop.at loop.invariant.1
           half-index.result if1.number if1.rank if1.at (omega (arith, test, loop.invariant.0.few, (table T).sheet.few))
           (⊎_elim (λ w. inl (w.2.result, w.2.ensures, (here w.0.taken).words, w.3, w.4, w.5)) (λ w. inr (w.1, w.2, w.3)) if1.branch),

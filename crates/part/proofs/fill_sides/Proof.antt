@@ -1,11 +1,11 @@
 -- `fill_sides` meets its contract: the tiles passed.
 use native.Mathlib.Omega.{arith}
 use lib.ListN.{get_or}
-use Rattle.nest.specs.Nest.{tileCount}
+use Rattle.nest.specs.Nest.{tile_count}
 use Rattle.nest.specs.Spans.{last}
-use Rattle.plan.specs.Shaped.{boxTile}
+use Rattle.plan.specs.Shaped.{box_tile}
 use Rattle.layout.proofs.CellRows.{row_in}
-use Rattle.stages.proofs.Parts.{mid-length}
+use Rattle.stages.proofs.Parts.{mid_length}
 use Prim.Native.Nat.{◌+◌, ◌*◌, ◌-◌, ◌/◌, ◌≤◌}
 use mathlib.Core.Path.{◌≡◌, sym, ◌∙◌, subst}
 use mathlib.Core.Logic.{⊎_elim}
@@ -34,17 +34,17 @@ room c =
 sub-across : tie.Need-overflow-sub-across invariant-loop decreases-loop
 sub-across c =
     let S = c.before.before in
-    omega (arith, S.requires.0.0.accepted.dimensions-least, S.requires.0.0.accepted.dimensions-most)
+    omega (arith, S.requires.0.0.accepted.dimensions_least, S.requires.0.0.accepted.dimensions_most)
 
 mul-across : tie.Need-overflow-mul-across invariant-loop decreases-loop
 mul-across c =
     let S = c.before.before in
-    omega (arith, S.requires.0.0.accepted.dimensions-least, S.requires.0.0.accepted.dimensions-most)
+    omega (arith, S.requires.0.0.accepted.dimensions_least, S.requires.0.0.accepted.dimensions_most)
 
 element-copy-out-across : tie.Need-element-copy-out-across invariant-loop decreases-loop
 element-copy-out-across c =
     let S = c.before.before in
-    omega (arith, S.requires.0.0.accepted.dimensions-least, S.requires.0.0.accepted.dimensions-most)
+    omega (arith, S.requires.0.0.accepted.dimensions_least, S.requires.0.0.accepted.dimensions_most)
 
 tiles-of-requires : tie.Need-tiles-of-requires invariant-loop decreases-loop
 tiles-of-requires c κs = c.before.before.before.requires.0
@@ -52,7 +52,7 @@ tiles-of-requires c κs = c.before.before.before.requires.0
 loop-holds : tie.Need-loop-init invariant-loop decreases-loop
 loop-holds c =
     let S = c.before.before.before.before in
-    (omega arith, chains.sides-start S.args.t2.route S.args.nest S.args.b S.args.sides.now _ S.requires.1 S.requires.0.0.tiles)
+    (omega arith, chains.sides_start S.args.t2.route S.args.nest S.args.b S.args.sides.now _ S.requires.1 S.requires.0.0.tiles)
 
 box-tile-requires : tie.Need-box-tile-requires invariant-loop decreases-loop
 box-tile-requires c κs = ((start c).requires.0, omega (arith, c.loop-test.true, c.before.before.tiles-of.ensures.0))
@@ -60,19 +60,19 @@ box-tile-requires c κs = ((start c).requires.0, omega (arith, c.loop-test.true,
 div-chain : tie.Need-nonzero-div-chain invariant-loop decreases-loop
 div-chain c =
     let S = c.before.before.before.before.before.before.before in
-    chains.across-some S.args.nest S.args.t2 S.requires.0.0
+    chains.across_some S.args.nest S.args.t2 S.requires.0.0
 
 mul-from : tie.Need-overflow-mul-from invariant-loop decreases-loop
 mul-from c = let T = c.before in omega (arith, room T, T.before.loop.invariant.1.long)
 
 copy-sides-requires : tie.Need-copy-sides-requires invariant-loop decreases-loop
 copy-sides-requires c κs =
-    let box-tile = c.before.before in
-    let T = box-tile.before in
+    let box_tile_lem = c.before.before in
+    let T = box_tile_lem.before in
     let S = start T in
     let loop = T.before.loop in
-    let first = chains.same-chain S.args.t2.route S.args.nest S.args.t2 S.pre.0.0 S.args.b loop.sides loop.tile loop.known
-    loop.invariant.1 box-tile.box-tile.result box-tile.box-tile.ensures.0 box-tile.box-tile.ensures.1 c.before.if1.true in
+    let first = chains.same_chain S.args.t2.route S.args.nest S.args.t2 S.pre.0.0 S.args.b loop.sides loop.tile loop.known
+    loop.invariant.1 box_tile_lem.box_tile_lem.result box_tile_lem.box_tile_lem.ensures.0 box_tile_lem.box_tile_lem.ensures.1 c.before.if1.true in
     (chains.row_before S.args.t2.ways loop.tile first, (omega (arith, room T, loop.invariant.1.long), omega (arith, loop.invariant.1.long)))
 
 add-end : tie.Need-overflow-add-end invariant-loop decreases-loop
@@ -95,8 +95,8 @@ put-sides-requires c κs =
     let z = S.args.t2 in (
       S.pre.0.0,
       (
-        c.before.before.box-tile.ensures.1,
-        mid-length loop.sides (loop.tile * z.ways) z.ways (omega (arith, room T, loop.invariant.1.long)) ∙ S.pre.0.0.ways,
+        c.before.before.box_tile_lem.ensures.1,
+        mid_length loop.sides (loop.tile * z.ways) z.ways (omega (arith, room T, loop.invariant.1.long)) ∙ S.pre.0.0.ways,
       ),
     )
 
@@ -113,21 +113,21 @@ loop-again c =
     let x = S.args.nest in
     let z = S.args.t2 in
     let loop = T.before.loop in
-    let box-tile = c.before.box-tile in
+    let box_tile_lem = c.before.box_tile_lem in
     let g = loop.invariant.1 in
-    let chain = box-tile.result / get_or z.across (x.dimensions - 1) 0 in
-    let is : chain ≡ boxTile x loop.tile / tileCount x (last x) = chains.chain-is z.route x z S.pre.0.0 loop.tile box-tile.result
-    box-tile.ensures.0 in (
+    let chain = box_tile_lem.result / get_or z.across (x.dimensions - 1) 0 in
+    let is : chain ≡ box_tile x loop.tile / tile_count x (last x) = chains.chain_is z.route x z S.pre.0.0 loop.tile box_tile_lem.result
+    box_tile_lem.ensures.0 in (
       omega (arith, T.loop-test.true),
       ⊎_elim
           (λ w.
           subst (λ l. chains.SidesTo z.route x S.args.b l (loop.tile + 1) chain) (sym w.5)
-          (chains.sides-copied z.route x S.args.b S.pre.0.0.accepted loop.sides loop.tile loop.known g chain is z.ways
-          S.pre.0.0.ways (room T) _ w.0.taken (omega (arith, box-tile.ensures.0, box-tile.ensures.1)) w.2.ensures))
+          (chains.sides_copied z.route x S.args.b S.pre.0.0.accepted loop.sides loop.tile loop.known g chain is z.ways
+          S.pre.0.0.ways (room T) _ w.0.taken (omega (arith, box_tile_lem.ensures.0, box_tile_lem.ensures.1)) w.2.ensures))
           (λ w.
           subst (λ l. chains.SidesTo z.route x S.args.b l (loop.tile + 1) chain) (sym w.5)
-          (chains.sides-put z.route x S.args.b S.pre.0.0.accepted loop.sides loop.tile loop.known g chain is z.ways
-          S.pre.0.0.ways (room T) w.2.last.1.1.1.1.0 box-tile.result box-tile.ensures.0 w.2.kept.1.1.1.1.0 w.2.ensures))
+          (chains.sides_put z.route x S.args.b S.pre.0.0.accepted loop.sides loop.tile loop.known g chain is z.ways
+          S.pre.0.0.ways (room T) w.2.last.1.1.1.1.0 box_tile_lem.result box_tile_lem.ensures.0 w.2.kept.1.1.1.1.0 w.2.ensures))
           c.if1.branch,
     )
 
@@ -140,7 +140,7 @@ returns c =
     let loop = c.before.loop in
     let tiles-of = c.before.before.tiles-of in
     rw (← tiles-of.ensures.0, S.requires.0.0.ways)
-    (chains.sides-done S.args.t2.route S.args.nest S.args.b loop.sides loop.tile loop.known tiles-of.result loop.invariant.1
+    (chains.sides_done S.args.t2.route S.args.nest S.args.b loop.sides loop.tile loop.known tiles-of.result loop.invariant.1
     c.loop-test.false)
 
 pub fill-sides-spec : {M : Type 1} → statement M

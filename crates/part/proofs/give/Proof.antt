@@ -15,7 +15,7 @@ decreases-loop marks counts cells memory words₀ known₀ at₀ i₀ words know
 loop-holds : tie.Need-loop-init invariant-loop decreases-loop
 loop-holds c =
     let S = c.before.before.before.before in
-    laws.give-start S.args.marks.now S.args.cells.now S.args.memory.now S.args.words.now
+    laws.give_start S.args.marks.now S.args.cells.now S.args.memory.now S.args.words.now
 
 mul-half-index : tie.Need-overflow-mul-half-index invariant-loop decreases-loop
 mul-half-index c = omega (arith, c.loop-test.true)
@@ -32,7 +32,7 @@ rank-by-requires c κs =
     let loop = c.before.before.before.loop in
     let test = c.before.before.loop-test.true in
     let half-index = c.half-index in
-    let low = laws.cell-low S.args.marks.now S.args.counts.now S.args.cells.now S.args.memory.now S.args.words.now S.requires
+    let low = laws.cell_low S.args.marks.now S.args.counts.now S.args.cells.now S.args.memory.now S.args.words.now S.requires
     loop.i half-index.result test half-index.ensures in
     ((S.requires.counted, (omega (arith, low), S.requires.few)), loop.invariant.rank)
 
@@ -80,7 +80,7 @@ loop-again c =
     let test = c.before.before.before.before.loop-test.true in
     let half-index = c.before.before.half-index in
     let rank-by = c.before.rank-by in
-    laws.give-next S.args.marks.now S.args.counts.now S.args.cells.now S.args.memory.now S.args.words.now S.pre
+    laws.give_next S.args.marks.now S.args.counts.now S.args.cells.now S.args.memory.now S.args.words.now S.pre
     loop.words loop.known loop.at loop.i loop.invariant half-index.result rank-by.result
     test half-index.ensures rank-by.ensures
 
@@ -91,7 +91,7 @@ returns : tie.Need-returns invariant-loop decreases-loop
 returns c =
     let S = c.before.before.before.before.before.before in
     let loop = c.before.loop in
-    laws.give-done S.args.marks.now S.args.counts.now S.args.cells.now S.args.memory.now S.args.words.now S.requires
+    laws.give_done S.args.marks.now S.args.counts.now S.args.cells.now S.args.memory.now S.args.words.now S.requires
     loop.words loop.known loop.at loop.i loop.invariant c.loop-test.false
 
 pub give_spec : {M : Type 1} → statement M

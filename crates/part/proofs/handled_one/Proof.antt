@@ -15,7 +15,7 @@ returns c =
     let x = S.args.nest in
     let z = S.args.sizes in
     let ends = chains.ends x z S.requires.0.0.0.accepted S.requires.0.0.1 S.args.place.number S.args.place S.requires.0.1 in
-    let none = chains.side-none z.route x S.args.b _ _ S.args.side S.requires.1 c.if1.true in
+    let none = chains.side_none z.route x S.args.b _ _ S.args.side S.requires.1 c.if1.true in
     handling.no_end (plan_of z.route x) S.args.b S.args.place.number (ap (λ (i : ℕ). eqb i S.args.b) ends.0 ∙ none.0)
     (ap (λ (i : ℕ). eqb i S.args.b) ends.1 ∙ none.1)
 
@@ -27,7 +27,7 @@ returns-2 c =
     let ends = chains.ends x z S.requires.0.0.0.accepted S.requires.0.0.1 S.args.place.number S.args.place S.requires.0.1 in
     handling.some_end (plan_of z.route x) S.args.b S.args.place.number
     (⊎_elim (λ e. inl (ap (λ (i : ℕ). eqb i S.args.b) ends.0 ∙ e)) (λ e. inr (ap (λ (i : ℕ). eqb i S.args.b) ends.1 ∙ e))
-    (chains.side-some z.route x S.args.b _ _ S.args.side S.requires.1 c.if1.false))
+    (chains.side_some z.route x S.args.b _ _ S.args.side S.requires.1 c.if1.false))
 
 pub handled-one-spec : {M : Type 1} → statement M
 handled-one-spec = tie.close (tie.spec returns returns-2)

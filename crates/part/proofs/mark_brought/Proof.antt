@@ -38,7 +38,7 @@ returns c =
     let z = S.args.sizes in
     let is-taker = at-if.before.is-taker in
     let ends = chains.ends x z S.requires.0.0.0.accepted S.requires.0.0.1.routed S.args.place.number S.args.place S.requires.0.1 in
-    let taken = is-taker.ensures _ _ (chains.side-ends z.route x S.args.b _ _ S.args.side S.requires.1.0)
+    let taken = is-taker.ensures _ _ (chains.side_ends z.route x S.args.b _ _ S.args.side S.requires.1.0)
     ∙ ap (λ (i : ℕ). eqb i S.args.b) (sym ends.1) in
     brings.brought (plan_of z.route x) S.args.b S.args.place.number is-taker.result taken S.args.marks.now _ at-if.if1.true
     c.before.before.before.before.mark-held.ensures
@@ -50,7 +50,7 @@ returns-2 c =
     let z = S.args.sizes in
     let is-taker = c.before.is-taker in
     let ends = chains.ends x z S.requires.0.0.0.accepted S.requires.0.0.1.routed S.args.place.number S.args.place S.requires.0.1 in
-    let taken = is-taker.ensures _ _ (chains.side-ends z.route x S.args.b _ _ S.args.side S.requires.1.0)
+    let taken = is-taker.ensures _ _ (chains.side_ends z.route x S.args.b _ _ S.args.side S.requires.1.0)
     ∙ ap (λ (i : ℕ). eqb i S.args.b) (sym ends.1) in
     brings.elsewhere (plan_of z.route x) S.args.b S.args.place.number is-taker.result taken S.args.marks.now _ c.if1.false
 

@@ -14,7 +14,7 @@ abbrev decreases-loop : tie.decreases-loop
 decreases-loop marks₀ cells i₀ marks i = length cells - i
 
 loop-holds : tie.Need-loop-init invariant-loop decreases-loop
-loop-holds c = brings.list-start c.before.before.args.marks.now c.before.before.args.cells.now
+loop-holds c = brings.list_start c.before.before.args.marks.now c.before.before.args.cells.now
 
 mul-half-index : tie.Need-overflow-mul-half-index invariant-loop decreases-loop
 mul-half-index c = omega (arith, c.loop-test.true)
@@ -43,7 +43,7 @@ loop-again : tie.Need-loop-preserved invariant-loop decreases-loop
 loop-again c =
     let S = c.before.before.before.before.before.before in
     let loop = c.before.before.before.loop in
-    brings.list-next S.args.marks.now S.args.cells.now loop.marks loop.i loop.invariant c.before.before.loop-test.true
+    brings.list_next S.args.marks.now S.args.cells.now loop.marks loop.i loop.invariant c.before.before.loop-test.true
     c.half-index.result c.half-index.ensures
 
 same_length : tie.Need-same-length invariant-loop decreases-loop

@@ -2,7 +2,7 @@
 use Prim.Native.Nat.{ℕ}
 use mathlib.Core.Path.{ap, ◌∙◌}
 use mathlib.Core.List.{List}
-use Rattle.base.specs.Lists.{setAll}
+use Rattle.base.specs.Lists.{set_all}
 use Rattle.plan.specs.Shaped.{plan_of}
 use Rattle.plan.proofs.ShapedSound.{sound}
 use Rattle.part.proofs.Brought as brings
@@ -28,7 +28,7 @@ same-length-2 c = search rules
 returns : tie.Need-returns
 returns c =
     let S = c.before.before.before.before.before.before.before.before.before.before.before in
-    c.before.before.mark-cells.ensures ∙ ap (λ (cs : List ℕ). setAll S.args.marks.now cs 1)
+    c.before.before.mark-cells.ensures ∙ ap (λ (cs : List ℕ). set_all S.args.marks.now cs 1)
     c.before.before.before.before.before.before.before.Cells-of.ensures
 
 pub mark-held-spec : {M : Type 1} → statement M

@@ -23,8 +23,8 @@ mark-messages-requires : tie.Need-mark-messages-requires
 mark-messages-requires c κs =
     let S = c.before.before.before.before.before.before.before.before.before.before.before in
     let fill-sides = c.before.before.before.before.fill-sides in
-    let mark-own = c.before.before.before.before.before.before.before.before.mark-own in
-    ((S.requires.0, refl), ((fill-sides.auto.1.1.1.1.0, fill-sides.ensures), mark-own.ensures))
+    let mark_own = c.before.before.before.before.before.before.before.before.mark_own in
+    ((S.requires.0, refl), ((fill-sides.auto.1.1.1.1.0, fill-sides.ensures), mark_own.ensures))
 
 same_length : tie.Need-same-length
 same_length c = search rules

@@ -5,7 +5,7 @@ use mathlib.Core.Path.{◌≡◌, sym, ap, ◌∙◌}
 use mathlib.Core.Logic.{⊎_elim, inl, inr}
 use mathlib.Core.List.{List}
 use lib.ListN.{length}
-use Rattle.base.proofs.Tests.{length-tabulate}
+use Rattle.base.proofs.Tests.{length_tabulate}
 use Rattle.plan.specs.Shaped.{plan_of}
 use Rattle.plan.proofs.ShapedSound.{sound}
 use Rattle.part.proofs.Slotted as rows
@@ -43,8 +43,8 @@ loop-holds : tie.Need-loop-init invariant-loop decreases-loop
 loop-holds c =
     let S = c.before.before.before.before.before in (
       (
-        pass.past-start S.args.lens.now (c.before.tiles-of.result * S.args.sizes.ways),
-        brings.keep-start (plan_of S.args.sizes.route S.args.nest) S.args.b S.args.marks.now S.requires.1.1,
+        pass.past_start S.args.lens.now (c.before.tiles-of.result * S.args.sizes.ways),
+        brings.keep_start (plan_of S.args.sizes.route S.args.nest) S.args.b S.args.marks.now S.requires.1.1,
       ),
       S.requires.0.1,
     )
@@ -130,7 +130,7 @@ loop-again c =
         pass.past_next S.args.sizes.route S.args.nest S.args.lens.now _ loop.slot loop.number loop.offset loop.invariant.0.0 (table T)
             test half-index.result half-index.ensures if1.number
             (⊎_elim (λ w. inl (w.0.taken, w.11)) (λ w. inr (w.0.left, w.3)) if1.branch),
-        brings.keep-turn (plan_of S.args.sizes.route S.args.nest) S.args.b
+        brings.keep_turn (plan_of S.args.sizes.route S.args.nest) S.args.b
             (sound S.args.sizes.route S.args.nest S.pre.0.0.0.accepted) loop.marks loop.number loop.invariant.0.1 if1.marks
             if1.number
             (⊎_elim (λ w. inl ((here w.0.taken).low, w.10 ∙ w.4.ensures, w.11)) (λ w. inr (w.2, w.3)) if1.branch),
@@ -145,14 +145,14 @@ same_length c = c.before.loop.invariant.1 ∙ sym c.before.before.before.before.
 same-length-2 : tie.Need-same-length-2 invariant-loop decreases-loop
 same-length-2 c =
     let S = c.before.before.before.before.before.before.before in
-    c.before.loop.invariant.0.1.long ∙ sym (ap (λ (ws : List ℕ). length ws) S.requires.1.1 ∙ length-tabulate _ _)
+    c.before.loop.invariant.0.1.long ∙ sym (ap (λ (ws : List ℕ). length ws) S.requires.1.1 ∙ length_tabulate _ _)
 
 returns : tie.Need-returns invariant-loop decreases-loop
 returns c =
     let T = c.before.before.before in
     let S = start T in
     let loop = c.before.loop in
-    brings.keep-done (plan_of S.args.sizes.route S.args.nest) S.args.b
+    brings.keep_done (plan_of S.args.sizes.route S.args.nest) S.args.b
     (sound S.args.sizes.route S.args.nest S.pre.0.0.0.accepted) loop.marks loop.number loop.invariant.0.1
     (pass.past_all S.args.sizes.route S.args.nest S.args.lens.now _ loop.slot loop.number loop.offset loop.invariant.0.0 (table T)
     c.loop-test.false)

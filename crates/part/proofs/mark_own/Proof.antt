@@ -8,14 +8,14 @@ use Rattle.nest.specs.Nest.{cells}
 use Rattle.nest.proofs.Shapes.{framed}
 use Rattle.plan.specs.Shaped.{plan_of}
 use Rattle.layout.proofs.CellRows.{row_in}
-use Rattle.part.specs.Marking.{rowCells}
+use Rattle.part.specs.Marking.{row_cells}
 use Rattle.part.proofs.Rows as rows
 use Rattle.part.proofs.Owned as owned
 use Rattle.part.proofs.mark_own.Statement.{statement}
 use Rattle.part.proofs.mark_own.Tie as tie
 
 abbrev invariant-loop : tie.invariant-loop
-invariant-loop sizes b marks₀ nest width rows q₀ marks q = (q ≤ rows) × owned.OwnTo (plan_of sizes.route nest) b marks (q * rowCells nest)
+invariant-loop sizes b marks₀ nest width rows q₀ marks q = (q ≤ rows) × owned.OwnTo (plan_of sizes.route nest) b marks (q * row_cells nest)
 
 abbrev decreases-loop : tie.decreases-loop
 decreases-loop sizes b marks₀ nest width rows q₀ marks q = rows - q
@@ -28,28 +28,28 @@ end : (c : tie.After-rows-alike invariant-loop decreases-loop) → c.before.befo
 end c = omega (arith, c.before.loop-test.true, c.rows_alike.ensures.1)
 
 room : (c : tie.After-rows-alike invariant-loop decreases-loop)
-    → (c.before.before.loop.q + c.rows_alike.result) * rowCells (start c).args.t1 ≤ cells (start c).args.t1
-room c = omega (arith, mul-le-mul_right (rowCells (start c).args.t1) (end c), c.before.before.before.row_count.ensures)
+    → (c.before.before.loop.q + c.rows_alike.result) * row_cells (start c).args.t1 ≤ cells (start c).args.t1
+room c = omega (arith, mul-le-mul_right (row_cells (start c).args.t1) (end c), c.before.before.before.row_count.ensures)
 
 inside : (c : tie.After-rows-alike invariant-loop decreases-loop)
-    → c.before.before.loop.q * rowCells (start c).args.t1 + rowCells (start c).args.t1 ≤ cells (start c).args.t1
+    → c.before.before.loop.q * row_cells (start c).args.t1 + row_cells (start c).args.t1 ≤ cells (start c).args.t1
 inside c =
     let row_count = c.before.before.before.row_count in
-    omega (arith, row_in (rowCells (start c).args.t1) c.before.before.loop.q row_count.result c.before.loop-test.true, row_count.ensures)
+    omega (arith, row_in (row_cells (start c).args.t1) c.before.before.loop.q row_count.result c.before.loop-test.true, row_count.ensures)
 
 zero-bytes-requires : tie.Need-zero-bytes-requires invariant-loop decreases-loop
 zero-bytes-requires c κs = tt
 
 sub-width : tie.Need-overflow-sub-width invariant-loop decreases-loop
-sub-width c = omega (arith, c.before.before.before.before.before.requires.0.accepted.dimensions-least)
+sub-width c = omega (arith, c.before.before.before.before.before.requires.0.accepted.dimensions_least)
 
 mul-width : tie.Need-overflow-mul-width invariant-loop decreases-loop
-mul-width c = omega (arith, c.before.before.before.before.before.requires.0.accepted.dimensions-most)
+mul-width c = omega (arith, c.before.before.before.before.before.requires.0.accepted.dimensions_most)
 
 element-copy-out-width : tie.Need-element-copy-out-width invariant-loop decreases-loop
 element-copy-out-width c =
     let S = c.before.before.before.before.before in
-    omega (arith, S.requires.0.accepted.dimensions-least, S.requires.0.accepted.dimensions-most)
+    omega (arith, S.requires.0.accepted.dimensions_least, S.requires.0.accepted.dimensions_most)
 
 row-count-requires : tie.Need-row-count-requires invariant-loop decreases-loop
 row-count-requires c κs = framed _ c.before.before.before.before.before.before.requires.0.accepted
@@ -58,8 +58,8 @@ loop-holds : tie.Need-loop-init invariant-loop decreases-loop
 loop-holds c =
     let S = c.before.before.before.before.before.before.before in (
       omega arith,
-      owned.own-start (plan_of S.args.sizes.route S.args.t1) S.args.b _ _ S.requires.1.1.1 c.before.before.before.before.zero-bytes.ensures
-          (rowCells S.args.t1),
+      owned.own_start (plan_of S.args.sizes.route S.args.t1) S.args.b _ _ S.requires.1.1.1 c.before.before.before.before.zero-bytes.ensures
+          (row_cells S.args.t1),
     )
 
 sub-rows-alike : tie.Need-overflow-sub-rows-alike invariant-loop decreases-loop
@@ -80,12 +80,12 @@ add-end c =
     )
 
 mul-tile-of : tie.Need-overflow-mul-tile-of invariant-loop decreases-loop
-mul-tile-of c = omega (arith, inside c, (start c).requires.0.accepted.cells-most)
+mul-tile-of c = omega (arith, inside c, (start c).requires.0.accepted.cells_most)
 
 tile-of-requires : tie.Need-tile-of-requires invariant-loop decreases-loop
 tile-of-requires c κs =
     let S = start c in
-    (S.pre.0, omega (arith, inside c, rows.wide-some S.args.t1 S.pre.0.accepted))
+    (S.pre.0, omega (arith, inside c, rows.wide_some S.args.t1 S.pre.0.accepted))
 
 processor-of-requires : tie.Need-processor-of-requires invariant-loop decreases-loop
 processor-of-requires c κs = (c.before.before.before.before.before.before.before.before.before.before.before.requires.0, c.tile-of.ensures.1)
@@ -110,7 +110,7 @@ loop-again c =
     let tile-of = at-tile.tile-of in
     let processor-of = at-processor.processor-of in (
       end R,
-      owned.own-next S.args.t1 S.args.sizes S.pre.0 S.pre.1.0 S.args.b loop.q R.rows_alike.result R.rows_alike.ensures.0
+      owned.own_next S.args.t1 S.args.sizes S.pre.0 S.pre.1.0 S.args.b loop.q R.rows_alike.result R.rows_alike.ensures.0
           tile-of.result processor-of.result tile-of.ensures.0 processor-of.ensures.0 loop.marks loop.invariant.1
           (room R) _ (inl (c.before.before.before.before.if1.true, c.before.before.mark-rows.ensures)),
     )
@@ -128,7 +128,7 @@ loop-again-2 c =
     let tile-of = at-tile.tile-of in
     let processor-of = at-processor.processor-of in (
       end R,
-      owned.own-next S.args.t1 S.args.sizes S.pre.0 S.pre.1.0 S.args.b loop.q R.rows_alike.result R.rows_alike.ensures.0
+      owned.own_next S.args.t1 S.args.sizes S.pre.0 S.pre.1.0 S.args.b loop.q R.rows_alike.result R.rows_alike.ensures.0
           tile-of.result processor-of.result tile-of.ensures.0 processor-of.ensures.0 loop.marks loop.invariant.1
           (room R) _ (inr (c.if1.false, refl)),
     )
@@ -141,7 +141,7 @@ returns c =
     let S = c.before.before.before.before.before.before.before.before.before in
     let row_count = c.before.before.row_count in
     let loop = c.before.loop in
-    owned.own-done S.args.t1 S.args.sizes S.requires.0 S.requires.1.0 S.args.b row_count.result loop.q loop.marks row_count.ensures
+    owned.own_done S.args.t1 S.args.sizes S.requires.0 S.requires.1.0 S.args.b row_count.result loop.q loop.marks row_count.ensures
     loop.invariant.0 c.loop-test.false loop.invariant.1
 
 pub mark-own-spec : {M : Type 1} → statement M

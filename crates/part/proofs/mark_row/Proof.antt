@@ -10,7 +10,7 @@ row-place-requires : tie.Need-row-place-requires
 row-place-requires c κs = framed _ c.before.requires.0.0
 
 span-requires : tie.Need-span-requires
-span-requires c κs = (framed _ c.before.before.requires.0.0, c.row-place.ensures.narrow)
+span-requires c κs = (framed _ c.before.before.requires.0.0, c.row_place.ensures.narrow)
 
 sub-c : tie.Need-overflow-sub-c
 sub-c c = search rules
@@ -39,17 +39,17 @@ same_length c = search rules
 returns : tie.Need-returns
 returns c =
     let S = c.before.before.before.before.before.before.before.before.before.before.before.before in
-    let at = c.before.before.before.before.before.before.before.before.before.before.row-place in
+    let at = c.before.before.before.before.before.before.before.before.before.before.row_place in
     let span = c.before.before.before.before.before.before.before.before.before.span in
-    rows.row-shown S.args.t1 S.requires.0.0 S.args.q at.result at.ensures span.result span.ensures S.args.marks.now _
+    rows.row_shown S.args.t1 S.requires.0.0 S.args.q at.result at.ensures span.result span.ensures S.args.marks.now _
     c.before.before.mark.ensures
 
 returns-2 : tie.Need-returns-2
 returns-2 c =
     let S = c.before.before.before.before.before in
-    let at = c.before.before.before.row-place in
+    let at = c.before.before.before.row_place in
     let span = c.before.before.span in
-    rows.row-empty S.args.t1 S.requires.0.0 S.args.q at.result at.ensures span.result span.ensures S.args.marks.now
+    rows.row_empty S.args.t1 S.requires.0.0 S.args.q at.result at.ensures span.result span.ensures S.args.marks.now
     (omega (arith, c.if1.false))
 
 pub mark-row-spec : {M : Type 1} → statement M

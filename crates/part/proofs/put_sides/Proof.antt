@@ -1,6 +1,6 @@
 -- `put_sides` meets its contract: the ways passed.
 use native.Mathlib.Omega.{arith}
-use Rattle.layout.proofs.Steps.{ways-few}
+use Rattle.layout.proofs.Steps.{ways_few}
 use Rattle.part.proofs.Handling as handling
 use Prim.Native.Nat.{◌-◌}
 use lib.ListN.{length}
@@ -28,7 +28,7 @@ same-as-requires c κs = tt
 loop-holds : tie.Need-loop-init invariant-loop decreases-loop
 loop-holds c =
     let S = c.before.before.before.before in
-    stored.store-start (side_of S.args.sizes.route S.args.nest S.args.b S.args.tile) S.args.row.now
+    stored.store_start (side_of S.args.sizes.route S.args.nest S.args.b S.args.tile) S.args.row.now
 
 along-of-requires : tie.Need-along-of-requires invariant-loop decreases-loop
 along-of-requires c κs =
@@ -73,7 +73,7 @@ add-w c =
     let S = c.before.before.before.before.before.before.before.before.before in
     let loop = c.before.before.before.before.loop in
     let test = c.before.before.before.loop-test.true in
-    omega (arith, test, loop.invariant.long, S.requires.1.1, ways-few S.args.nest S.requires.0.accepted S.args.sizes.route)
+    omega (arith, test, loop.invariant.long, S.requires.1.1, ways_few S.args.nest S.requires.0.accepted S.args.sizes.route)
 
 loop-less : tie.Need-loop-smaller invariant-loop decreases-loop
 loop-less c =
@@ -89,9 +89,9 @@ loop-again c =
     let test = c.before.before.before.loop-test.true in
     let processor-of = c.before.before.before.before.before.before.processor-of in
     let ahead_of = c.before.ahead_of in
-    stored.store-next (side_of S.args.sizes.route S.args.nest S.args.b S.args.tile) S.args.row.now loop.row loop.w _ loop.invariant
+    stored.store_next (side_of S.args.sizes.route S.args.nest S.args.b S.args.tile) S.args.row.now loop.row loop.w _ loop.invariant
     (omega (arith, test, loop.invariant.long))
-    (chains.side-is S.args.sizes.route S.args.nest S.requires.0.accepted S.args.b S.args.tile loop.w
+    (chains.side_is S.args.sizes.route S.args.nest S.requires.0.accepted S.args.b S.args.tile loop.w
     c.before.before.before.before.before.before.before.place-of-tile.result c.before.before.along-of.result
     c.before.before.before.before.before.before.before.place-of-tile.ensures c.before.before.along-of.ensures
     processor-of.result c.before.before.before.before.before.same-as.result ahead_of.result c.same-as2.result
@@ -105,7 +105,7 @@ returns : tie.Need-returns invariant-loop decreases-loop
 returns c =
     let S = c.before.before.before.before.before.before in
     let loop = c.before.loop in
-    stored.stored-all (side_of S.args.sizes.route S.args.nest S.args.b S.args.tile) S.args.row.now loop.row loop.w _ loop.invariant
+    stored.stored_all (side_of S.args.sizes.route S.args.nest S.args.b S.args.tile) S.args.row.now loop.row loop.w _ loop.invariant
     S.requires.1.1 (omega (arith, c.loop-test.false, loop.invariant.long, S.requires.1.1))
 
 pub put-sides-spec : {M : Type 1} → statement M

@@ -37,35 +37,35 @@ element-copy-out-least c = search rules
 sub-least : tie.Need-overflow-sub-least
 sub-least c =
     let S = c.before.before.before in
-    let row = c.before.before.row-place in
+    let row = c.before.before.row_place in
     omega (
       arith,
       row_inside S.args.t1 (framed _ S.requires.0) S.args.q row.result row.ensures (S.args.t1.dimensions - 2)
-          (omega (arith, S.requires.0.dimensions-least)),
+          (omega (arith, S.requires.0.dimensions_least)),
     )
 
 place-along-requires : tie.Need-place-along-requires
 place-along-requires c κs =
     let S = c.before.before.before in
-    let row = c.before.before.row-place in
+    let row = c.before.before.row_place in
     let j : ℕ = S.args.t1.dimensions - 2 in
-    let low : j < S.args.t1.dimensions = omega (arith, S.requires.0.dimensions-least) in (
+    let low : j < S.args.t1.dimensions = omega (arith, S.requires.0.dimensions_least) in (
       omega (
         arith,
         row_inside S.args.t1 (framed _ S.requires.0) S.args.q row.result row.ensures j low,
         S.requires.0.length_most j,
       ),
-      (S.requires.0.tiled j low, omega (arith, S.requires.0.tile-most j)),
+      (S.requires.0.tiled j low, omega (arith, S.requires.0.tile_most j)),
     )
 
 sub-least-2 : tie.Need-overflow-sub-least-2
 sub-least-2 c =
     let S = c.before.before.before.before in
-    let some = S.requires.0.tiled (S.args.t1.dimensions - 2) (omega (arith, S.requires.0.dimensions-least)) in
+    let some = S.requires.0.tiled (S.args.t1.dimensions - 2) (omega (arith, S.requires.0.dimensions_least)) in
     omega (
       arith,
       c.place-along.ensures,
-      mod-lt (get_or c.before.before.before.row-place.result (S.args.t1.dimensions - 2) 0) some,
+      mod-lt (get_or c.before.before.before.row_place.result (S.args.t1.dimensions - 2) 0) some,
     )
 
 least-requires : tie.Need-least-requires
@@ -78,9 +78,9 @@ returns : tie.Need-returns
 returns c =
     let S = c.before.before.before.before.before.before in
     let x = S.args.t1 in
-    let at = c.before.before.before.before.before.row-place in
+    let at = c.before.before.before.before.before.row_place in
     let j : ℕ = x.dimensions - 2 in
-    let low : j < x.dimensions = omega (arith, S.requires.0.dimensions-least) in
+    let low : j < x.dimensions = omega (arith, S.requires.0.dimensions_least) in
     let inside = row_inside x (framed _ S.requires.0) S.args.q at.result at.ensures j low in
     let some = mod-lt (get_or at.result j 0) (S.requires.0.tiled j low) in
     let rest = c.before.before.place-along.ensures in

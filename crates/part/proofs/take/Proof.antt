@@ -15,7 +15,7 @@ decreases-loop marks counts cells memory₀ words known₀ at₀ i₀ memory kno
 loop-holds : tie.Need-loop-init invariant-loop decreases-loop
 loop-holds c =
     let S = c.before.before.before.before in
-    laws.take-start S.args.marks.now S.args.cells.now S.args.memory.now S.args.words.now
+    laws.take_start S.args.marks.now S.args.cells.now S.args.memory.now S.args.words.now
 
 mul-half-index : tie.Need-overflow-mul-half-index invariant-loop decreases-loop
 mul-half-index c = omega (arith, c.loop-test.true)
@@ -32,7 +32,7 @@ rank-by-requires c κs =
     let loop = c.before.before.before.loop in
     let test = c.before.before.loop-test.true in
     let half-index = c.half-index in
-    let low = laws.cell-low S.args.marks.now S.args.counts.now S.args.cells.now S.args.memory.now S.args.words.now S.requires
+    let low = laws.cell_low S.args.marks.now S.args.counts.now S.args.cells.now S.args.memory.now S.args.words.now S.requires
     loop.i half-index.result test half-index.ensures in
     ((S.requires.counted, (omega (arith, low), S.requires.few)), loop.invariant.rank)
 

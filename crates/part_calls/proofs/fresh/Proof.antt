@@ -23,7 +23,7 @@ returns c =
     let fresh = c.before.before.before.before.before.before.before.fresh in
     let if1 = c.if1 in
     let A = S.args in
-    reading.not-cleared _ _ _ _ A.progress.now fresh.result (fresh.ensures A.progress.now refl) if1.true
+    reading.not_cleared _ _ _ _ A.progress.now fresh.result (fresh.ensures A.progress.now refl) if1.true
 
 zero-words-requires : tie.Need-zero-words-requires
 zero-words-requires c κs = search rules
@@ -47,7 +47,7 @@ returns-2 c =
     let if1 = c.before.before.before.before.if1 in
     let zero-words = c.before.before.zero-words in
     let A = S.args in
-    reading.all-cleared _ _ _ _ A.progress.now fresh.result (fresh.ensures A.progress.now refl) if1.false _ zero-words.ensures
+    reading.all_cleared _ _ _ _ A.progress.now fresh.result (fresh.ensures A.progress.now refl) if1.false _ zero-words.ensures
 
 pub fresh-spec : {M : Type 1} → statement M
 fresh-spec =

@@ -4,43 +4,43 @@ use mathlib.Core.Path.{sym, ap, ◌∙◌}
 use native.Mathlib.Omega.{arith}
 use Rattle.base.specs.Tests.{not}
 use Rattle.base.specs.Numbers.{Line, line, first_of}
-use Rattle.base.proofs.Numbers.{Numbered, none-behind, first-behind}
+use Rattle.base.proofs.Numbers.{Numbered, none_behind, first_behind}
 use Rattle.machine.specs.Plan.{Plan}
 use Rattle.machine.specs.Machine.{Answered, answered}
 use Rattle.plan.specs.Shaped.{plan_of}
-use Rattle.layout.specs.RouteWords.{routeOf}
-use Rattle.recipe.specs.Routes.{linesFor}
-use Rattle.recipe.proofs.Laws.{numbered-for}
+use Rattle.layout.specs.RouteWords.{route_of}
+use Rattle.recipe.specs.Routes.{lines_for}
+use Rattle.recipe.proofs.Laws.{numbered_for}
 use Rattle.engine.specs.Calls.{answer, recipe}
-use Rattle.engine.proofs.Lines.{call-read}
-use Rattle.part_calls.specs.front.Calls.{boardLines}
+use Rattle.engine.proofs.Lines.{call_read}
+use Rattle.part_calls.specs.front.Calls.{board_lines}
 use Rattle.recipe.specs.declared.Recipe.{Recipe}
 use Rattle.part_calls.specs.front.Given.{OpensFor}
 
 -- ---- past the first lines
 
-both-numbered : (a b : List Line) → Numbered a → Numbered b → Numbered (a ++ b)
-both-numbered [] b n m = m
-both-numbered (l ∷ a) b n m = (n.0, both-numbered a b n.1 m)
+both_numbered : (a b : List Line) → Numbered a → Numbered b → Numbered (a ++ b)
+both_numbered [] b n m = m
+both_numbered (l ∷ a) b n m = (n.0, both_numbered a b n.1 m)
 
 module _ (bytes : List ℕ) (route b : ℕ) where
-  numbered-board : Numbered (boardLines bytes route b)
+  numbered-board : Numbered (board_lines bytes route b)
   numbered-board =
-      both-numbered (linesFor (routeOf route) bytes) (line 11 (not (ltb b (recipe bytes route).processors)) ∷ []) (numbered-for (routeOf route) bytes)
+      both_numbered (lines_for (route_of route) bytes) (line 11 (not (ltb b (recipe bytes route).processors)) ∷ []) (numbered_for (route_of route) bytes)
       (λ q. omega arith, tt)
 
-  pub behind-board : (more : List Line) → first_of (boardLines bytes route b ++ more) ≡ 0 → first_of more ≡ 0
-  behind-board more e = none-behind (boardLines bytes route b) more numbered-board e
+  pub behind-board : (more : List Line) → first_of (board_lines bytes route b ++ more) ≡ 0 → first_of more ≡ 0
+  behind-board more e = none_behind (board_lines bytes route b) more numbered-board e
 
 module _ (bytes : List ℕ) (route b : ℕ) (r : Recipe) (o : OpensFor bytes route b r) where
   module _ {A : Type 0} (lines : Plan → List Line) (new : Plan → A) (old : A) where
     -- a call whose lines and words are made of the plan
     abbrev called : Answered A
-    called = answered (first_of (boardLines bytes route b ++ lines (recipe bytes route))) (new (recipe bytes route)) old
+    called = answered (first_of (board_lines bytes route b ++ lines (recipe bytes route))) (new (recipe bytes route)) old
 
     pub closed : r.number ≢ 0 → answer r.number old ≡ called
     closed h =
-        call-read (boardLines bytes route b) (numbered-board bytes route b) (lines (recipe bytes route)) r.number (new (recipe bytes route)) old
+        call_read (board_lines bytes route b) (numbered-board bytes route b) (lines (recipe bytes route)) r.number (new (recipe bytes route)) old
         o.number h
 
     pub opened : r.number ≡ 0 → (a : Answered A)
@@ -48,5 +48,5 @@ module _ (bytes : List ℕ) (route b : ℕ) (r : Recipe) (o : OpensFor bytes rou
     opened z a e =
         e
         ∙ ap (λ (n : ℕ). answered n (new (plan_of r.sizes.route r.nest)) old)
-        (sym (first-behind (boardLines bytes route b) (lines (plan_of r.sizes.route r.nest)) (numbered-board bytes route b) (sym o.number ∙ z)))
-        ∙ ap (λ (q : Plan). answered (first_of (boardLines bytes route b ++ lines q)) (new q) old) (o.plan z)
+        (sym (first_behind (board_lines bytes route b) (lines (plan_of r.sizes.route r.nest)) (numbered-board bytes route b) (sym o.number ∙ z)))
+        ∙ ap (λ (q : Plan). answered (first_of (board_lines bytes route b ++ lines q)) (new q) old) (o.plan z)

@@ -3,21 +3,21 @@
 -- No sentence of document 01.
 use Rattle.core.specs.Prelude.{◌≡◌, ℕ, ◌+◌, ◌-◌, ◌<◌, ◌≤◌, true, List, length, slice_index}
 use Rattle.base.specs.Tests.{one, tabulate}
-use Rattle.base.specs.Lists.{In, storeAll}
+use Rattle.base.specs.Lists.{In, store_all}
 use Rattle.nest.specs.declared.Nest.{Nest}
-use Rattle.nest.specs.Nest.{cells, processors, boxTiles}
-use Rattle.nest.specs.Places.{cellPlace}
-use Rattle.nest.specs.Shape.{inShape}
+use Rattle.nest.specs.Nest.{cells, processors, box_tiles}
+use Rattle.nest.specs.Places.{cell_place}
+use Rattle.nest.specs.Shape.{in_shape}
 use Rattle.nest.specs.Spans.{last}
-use Rattle.plan.specs.Geometry.{readAt}
-use Rattle.plan.specs.Shaped.{readsShape, shapedCells, shapedValue, plan_of}
+use Rattle.plan.specs.Geometry.{read_at}
+use Rattle.plan.specs.Shaped.{reads_shape, shaped_cells, shaped_value, plan_of}
 use Rattle.layout.specs.declared.Sizes.{Sizes}
 use Rattle.layout.specs.Sizes.{Sized}
 use Rattle.layout.specs.CellRows.{row_of}
 use Rattle.tables.specs.Tables.{Tabled}
-use Rattle.values.specs.shaped_values.Rows.{insideOnly, Along, between, ReadsRuns, mixedAlong, Readable}
-use Rattle.network.specs.Own.{owns, keeps, ownCells, keptCells}
-use Rattle.rank_index.specs.Ranks.{markedAt, marked_cells, rank_at, spreadOut, Counted}
+use Rattle.values.specs.shaped_values.Rows.{inside_only, Along, between, ReadsRuns, mixed_along, Readable}
+use Rattle.network.specs.Own.{owns, keeps, own_cells, kept_cells}
+use Rattle.rank_index.specs.Ranks.{marked_at, marked_cells, rank_at, spread_out, Counted}
 use Rattle.part_calls.specs.declared.tile.Row.{Row}
 
 -- ---- what is kept
@@ -29,12 +29,12 @@ pub record Marks (x : Nest) (marks counts : List ℕ) : Type 0 where
 
 -- cell c is kept, and so is each cell of the shape that it reads
 pub record Worked (x : Nest) (kept : List ℕ) (c : ℕ) : Type 0 where
-  pub here : markedAt kept c ≡ true
-  pub reads : (e : ℕ) → e < x.distances → readsShape x c e ≡ true → markedAt kept (readAt x c e) ≡ true
+  pub here : marked_at kept c ≡ true
+  pub reads : (e : ℕ) → e < x.distances → reads_shape x c e ≡ true → marked_at kept (read_at x c e) ≡ true
 
 -- if it is in the shape, cell c is that, and one of the processor's own
 abbrev pub WorkedIn : Nest → List ℕ → List ℕ → ℕ → Type 0
-WorkedIn x kept owned c = inShape x c ≡ true → Worked x kept c × (markedAt owned c ≡ true)
+WorkedIn x kept owned c = in_shape x c ≡ true → Worked x kept c × (marked_at owned c ≡ true)
 
 -- ---- how far back
 
@@ -44,12 +44,12 @@ pub record KeptRow (marks counts : List ℕ) (first c a few : ℕ) : Type 0 wher
   pub counted : Counted marks counts
   pub low : c + few ≤ length marks
   pub narrow : a + few ≤ 1024
-  pub each : (y : ℕ) → y < few → markedAt marks (c + y) ≡ true
+  pub each : (y : ℕ) → y < few → marked_at marks (c + y) ≡ true
   pub place : first ≡ rank_at marks c
 
 -- where their components are from `low` on, below `high`, the cell so far back is kept; and in the part it is `near` back
 pub record KeptBehind (marks : List ℕ) (c a few low high back : ℕ) : Type 0 where
-  pub at : (y : ℕ) → y < few → between low high (a + y) ≡ true → (back ≤ c + y) × (markedAt marks (c + y - back) ≡ true)
+  pub at : (y : ℕ) → y < few → between low high (a + y) ≡ true → (back ≤ c + y) × (marked_at marks (c + y - back) ≡ true)
 
 pub record Behind (marks : List ℕ) (c a few low high back near : ℕ) : Type 0 where
   pub is : (y : ℕ) → y < few → between low high (a + y) ≡ true → near + rank_at marks (c + y - back) ≡ rank_at marks c + y
@@ -63,7 +63,7 @@ pub record Behinds (marks : List ℕ) (c a few n : ℕ) (firsts ends back near :
 pub record WorkedRow (x : Nest) (kept at : List ℕ) (c a few : ℕ) : Type 0 where
   pub low : c + few ≤ cells x
   pub narrow : a + few ≤ 1024
-  pub along : (y : ℕ) → y < few → Along x at (c + y) × (a + y ≡ cellPlace x (c + y) (last x))
+  pub along : (y : ℕ) → y < few → Along x at (c + y) × (a + y ≡ cell_place x (c + y) (last x))
   pub worked : (y : ℕ) → y < few → Worked x kept (c + y)
 
 -- in the part, their source from `from` on
@@ -81,20 +81,20 @@ pub record StoresRow (x : Nest) (kept owned : List ℕ) (c width : ℕ) (r : Row
       → Readable x.distances r.firsts r.ends r.backs x.weights x.boundary x.shift r.from r.first r.component r.few
       sources words
   pub stored : (source memory memory' : List ℕ) → length source ≡ length (marked_cells owned) → length memory ≡ length (marked_cells kept)
-      → memory' ≡ storeAll (mixedAlong x.distances r.firsts r.ends r.backs x.weights x.boundary x.shift source r.from r.first
+      → memory' ≡ store_all (mixed_along x.distances r.firsts r.ends r.backs x.weights x.boundary x.shift source r.from r.first
       r.component) memory (row_of r.first r.few)
-      → spreadOut kept memory' ≡ storeAll (insideOnly x (shapedValue x (spreadOut owned source))) (spreadOut kept memory) (row_of c width)
+      → spread_out kept memory' ≡ store_all (inside_only x (shaped_value x (spread_out owned source))) (spread_out kept memory) (row_of c width)
 
 -- ---- a tile
 
 -- tile u of the box: its cells are the processor's own, they and what they read are kept; source and part have a word for each
 pub record GivenBox (x : Nest) (kept counts owned tally : List ℕ) (sources words u : ℕ) : Type 0 where
-  pub low : u < boxTiles x
-  pub kept-marks : Marks x kept counts
-  pub own-marks : Marks x owned tally
+  pub low : u < box_tiles x
+  pub kept_marks : Marks x kept counts
+  pub own_marks : Marks x owned tally
   pub source : sources ≡ length (marked_cells owned)
   pub memory : words ≡ length (marked_cells kept)
-  pub worked : (c : ℕ) → In c (shapedCells x u) → Worked x kept c × (markedAt owned c ≡ true)
+  pub worked : (c : ℕ) → In c (shaped_cells x u) → Worked x kept c × (marked_at owned c ≡ true)
 
 -- tile t of processor b: the nest's table, b's kept cells and its own marked and counted, source and part with a word for each
 pub record GivenTile (x : Nest) (z : Sizes) (lens kept counts owned tally : List ℕ) (sources words b t : ℕ) : Type 0 where
@@ -102,10 +102,10 @@ pub record GivenTile (x : Nest) (z : Sizes) (lens kept counts owned tally : List
   pub tabled : Tabled x z lens
   pub processor : b < processors x
   pub low : t < (plan_of z.route x).tiles
-  pub mine : (plan_of z.route x).processorOf t ≡ b
-  pub kept-are : kept ≡ tabulate (λ c. one (keeps (plan_of z.route x) b c)) (cells x)
-  pub own-are : owned ≡ tabulate (λ c. one (owns (plan_of z.route x) b c)) (cells x)
+  pub mine : (plan_of z.route x).processor_of t ≡ b
+  pub kept_are : kept ≡ tabulate (λ c. one (keeps (plan_of z.route x) b c)) (cells x)
+  pub own_are : owned ≡ tabulate (λ c. one (owns (plan_of z.route x) b c)) (cells x)
   pub counted : Counted kept counts
-  pub own-counted : Counted owned tally
-  pub source : sources ≡ length (ownCells (plan_of z.route x) b)
-  pub memory : words ≡ length (keptCells (plan_of z.route x) b)
+  pub own_counted : Counted owned tally
+  pub source : sources ≡ length (own_cells (plan_of z.route x) b)
+  pub memory : words ≡ length (kept_cells (plan_of z.route x) b)

@@ -5,20 +5,20 @@ use Rattle.core.specs.Prelude.{◌≡◌, ℕ, ◌+◌, ◌<◌, ◌≤◌, true
 use Rattle.base.specs.Tests.{◌and◌, not}
 use Rattle.base.specs.Lists.{In, sublist, unpack}
 use Rattle.base.specs.Numbers.{line, first_of}
-use Rattle.machine.specs.Plan.{Plan, count, heldBy, tilesOf}
+use Rattle.machine.specs.Plan.{Plan, count, held_by, tiles_of}
 use Rattle.machine.specs.Machine.{State, fit, Answered, answered, turn_lines}
 use Rattle.nest.specs.declared.Nest.{Nest}
 use Rattle.nest.specs.Nest.{cells, processors}
 use Rattle.plan.specs.Shaped.{plan_of}
 use Rattle.layout.specs.declared.Sizes.{Sizes}
-use Rattle.network.specs.Own.{keeps, ownCells, keptCells, handled}
-use Rattle.part.specs.Part.{words_of, partFits}
-use Rattle.part_calls.specs.front.Calls.{fromPart, toPart, stepped}
+use Rattle.network.specs.Own.{keeps, own_cells, kept_cells, handled}
+use Rattle.part.specs.Part.{words_of, part_fits}
+use Rattle.part_calls.specs.front.Calls.{from_part, to_part, stepped}
 use Rattle.part_calls.specs.front.Given.{Known, Cells, PartLengths}
 
 -- each lent area of processor b has exactly its length, but for the record
 pub record Lengths (p : Plan) (b : ℕ) (words letters bytes : List ℕ) : Type 0 where
-  pub memory : length words ≡ length (keptCells p b)
+  pub memory : length words ≡ length (kept_cells p b)
   pub mail : length letters ≡ words_of p (handled p b)
   pub marks : length bytes ≡ length (handled p b)
 
@@ -34,38 +34,38 @@ pub record Ranked (p : Plan) (ordinals ms : List ℕ) (n : ℕ) : Type 0 where
 
 pub record Placed (p : Plan) (starts ms : List ℕ) (n : ℕ) : Type 0 where
   pub few : count p ≤ 7168
-  pub low : (m : ℕ) → In m ms → slice_index starts m + length (heldBy p m) ≤ n
+  pub low : (m : ℕ) → In m ms → slice_index starts m + length (held_by p m) ≤ n
 
 -- processor b keeps words of all cells of message m
 abbrev pub Keeping : Plan → ℕ → ℕ → Type 0
-Keeping p b m = (c : ℕ) → In c (heldBy p m) → keeps p b c ≡ true
+Keeping p b m = (c : ℕ) → In c (held_by p m) → keeps p b c ≡ true
 
 -- the words of these messages out of a mail, where their places are told, into a memory
-unfoldable pub unpackFrom : Plan → List ℕ → List ℕ → List ℕ → List ℕ → List ℕ
-unpackFrom p starts mail memory [] = memory
-unpackFrom p starts mail memory (m ∷ ms) =
-    unpackFrom p starts mail (unpack memory (heldBy p m) (sublist mail (slice_index starts m) (length (heldBy p m)))) ms
+unfoldable pub unpack_from : Plan → List ℕ → List ℕ → List ℕ → List ℕ → List ℕ
+unpack_from p starts mail memory [] = memory
+unpack_from p starts mail memory (m ∷ ms) =
+    unpack_from p starts mail (unpack memory (held_by p m) (sublist mail (slice_index starts m) (length (held_by p m)))) ms
 
 -- by its record, of which l are the words, processor b has tiles left and stands at tile t
 pub record Stands (p : Plan) (l : List ℕ) (b t : ℕ) : Type 0 where
-  pub left : slice_index_or l 0 0 < length (tilesOf p b)
-  pub tile : t ≡ slice_index (tilesOf p b) (slice_index l 0)
+  pub left : slice_index_or l 0 0 < length (tiles_of p b)
+  pub tile : t ≡ slice_index (tiles_of p b) (slice_index l 0)
   pub low : t < p.tiles
   pub few : slice_index_or l 0 0 < 16384
 
 -- lines 9, 10 and 11 of a turn are false
 pub record MayStep (p : Plan) (source : List ℕ) (s : State) (b : ℕ) : Type 0 where
-  pub own : length source ≡ length (ownCells p b)
+  pub own : length source ≡ length (own_cells p b)
   pub lengths : PartLengths p b s
-  pub fit : fit p (fromPart p b s) ≡ true
+  pub fit : fit p (from_part p b s) ≡ true
   pub processor : b < p.processors
 
 -- past the lines before it: the machine's number, and the part after the turn; and with line 9
-abbrev pub steppedOr : Plan → List ℕ → State → ℕ → Answered State
-steppedOr p source s b = answered (first_of (turn_lines p (fromPart p b s) b)) (toPart p b (stepped p b source s)) s
+abbrev pub stepped_or : Plan → List ℕ → State → ℕ → Answered State
+stepped_or p source s b = answered (first_of (turn_lines p (from_part p b s) b)) (to_part p b (stepped p b source s)) s
 
-abbrev pub turnedOr : Plan → List ℕ → State → ℕ → Answered State
-turnedOr p source s b =
+abbrev pub turned_or : Plan → List ℕ → State → ℕ → Answered State
+turned_or p source s b =
     answered
-    (first_of (line 9 (not (nat_eq (length source) (length (ownCells p b)) and partFits p b s)) ∷ turn_lines p (fromPart p b s) b))
-    (toPart p b (stepped p b source s)) s
+    (first_of (line 9 (not (nat_eq (length source) (length (own_cells p b)) and part_fits p b s)) ∷ turn_lines p (from_part p b s) b))
+    (to_part p b (stepped p b source s)) s

@@ -1,18 +1,18 @@
 // The stages on a part: kept cells' words by their ranks, mail and marks where the processor's two tables say. The part after is that of the machine's
 // areas after the machine's stage.
 ghost use Rattle.core.specs.Prelude.{◌≡◌, ℕ, ◌+◌, ◌<◌, ◌≤◌, List, [], length, slice_index};
-ghost use Rattle.base.specs.Lists.{sublist, put, setAll, allAt, unpack, pack, storeAll};
-ghost use Rattle.machine.specs.Plan.{heldBy, sendsOf, dues_of};
-ghost use Rattle.machine.specs.Machine.{state_of, carryOut, gather, calculate, send};
+ghost use Rattle.base.specs.Lists.{sublist, put, set_all, all_at, unpack, pack, store_all};
+ghost use Rattle.machine.specs.Plan.{held_by, sends_of, dues_of};
+ghost use Rattle.machine.specs.Machine.{state_of, carry_out, gather, calculate, send};
 ghost use Rattle.nest.specs.Nest.{processors};
 ghost use Rattle.plan.specs.Shaped.{plan_of};
 ghost use Rattle.tables.specs.Tables.{FoundIn, Planned};
-ghost use Rattle.stages.specs.Progress.{setRecord};
-ghost use Rattle.network.specs.Own.{keeps, ownCells, keptCells, source_of};
+ghost use Rattle.stages.specs.Progress.{set_record};
+ghost use Rattle.network.specs.Own.{keeps, own_cells, kept_cells, source_of};
 ghost use Rattle.part.specs.Part.{all_of};
-ghost use Rattle.part_calls.specs.front.Calls.{fromPart, toPart};
+ghost use Rattle.part_calls.specs.front.Calls.{from_part, to_part};
 ghost use Rattle.part_calls.specs.front.Given.{Cells};
-ghost use Rattle.part_calls.specs.turn.Step.{Lengths, Tables, Ranked, Keeping, unpackFrom};
+ghost use Rattle.part_calls.specs.turn.Step.{Lengths, Tables, Ranked, Keeping, unpack_from};
 
 use crate::front::own_cells;
 use base::word_index;
@@ -40,7 +40,7 @@ pub fn ready(
 ) -> bool
     requires planned { Planned nest sizes lens.now × (tile < (plan_of sizes.route nest).tiles) }
     requires ranked { Ranked (plan_of sizes.route nest) ordinals.now (dues_of (plan_of sizes.route nest) tile) (length marks.now) }
-    ensures { result ≡ allAt marks.now 2 (pack ordinals.now (dues_of (plan_of sizes.route nest) tile)) }
+    ensures { result ≡ all_at marks.now 2 (pack ordinals.now (dues_of (plan_of sizes.route nest) tile)) }
 {
     let n = count_at(nest, sizes, lens, tile, 1);
     let mut j = 0;
@@ -71,10 +71,10 @@ fn take_from(
 )
     requires planned { Planned nest sizes lens.now × FoundIn sizes.route nest place.number place }
     requires cells { Cells nest (keeps (plan_of sizes.route nest) b) kept.now counts.now × Keeping (plan_of sizes.route nest) b place.number }
-    requires memory_len { (length memory.old ≡ length (keptCells (plan_of sizes.route nest) b)) × (at + place.words ≤ length mail.now) }
+    requires memory_len { (length memory.old ≡ length (kept_cells (plan_of sizes.route nest) b)) × (at + place.words ≤ length mail.now) }
     ensures { memory.new
-        ≡ pack (unpack (all_of (plan_of sizes.route nest) b memory.old) (heldBy (plan_of sizes.route nest) place.number)
-        (sublist mail.now at place.words)) (keptCells (plan_of sizes.route nest) b) }
+        ≡ pack (unpack (all_of (plan_of sizes.route nest) b memory.old) (held_by (plan_of sizes.route nest) place.number)
+        (sublist mail.now at place.words)) (kept_cells (plan_of sizes.route nest) b) }
 {
     let words = place.words;
     let end = at + words;
@@ -100,11 +100,11 @@ fn gather(
 )
     requires tables { Tables nest sizes b lens.now kept.now counts.now ordinals.now starts.now
         × Lengths (plan_of sizes.route nest) b memory.old mail.now marks.old }
-    requires tile_bound { (tile < (plan_of sizes.route nest).tiles) × ((plan_of sizes.route nest).processorOf tile ≡ b) }
+    requires tile_bound { (tile < (plan_of sizes.route nest).tiles) × ((plan_of sizes.route nest).processor_of tile ≡ b) }
     ensures { (memory.new
-        ≡ pack (unpackFrom (plan_of sizes.route nest) starts.now mail.now
-        (all_of (plan_of sizes.route nest) b memory.old) (dues_of (plan_of sizes.route nest) tile)) (keptCells (plan_of sizes.route nest) b))
-        × (marks.new ≡ setAll marks.old (pack ordinals.now (dues_of (plan_of sizes.route nest) tile)) 3) }
+        ≡ pack (unpack_from (plan_of sizes.route nest) starts.now mail.now
+        (all_of (plan_of sizes.route nest) b memory.old) (dues_of (plan_of sizes.route nest) tile)) (kept_cells (plan_of sizes.route nest) b))
+        × (marks.new ≡ set_all marks.old (pack ordinals.now (dues_of (plan_of sizes.route nest) tile)) 3) }
 {
     let n = count_at(nest, sizes, lens, tile, 1);
     let mut j = 0;
@@ -134,10 +134,10 @@ fn put_in(
 )
     requires planned { Planned nest sizes lens.now × FoundIn sizes.route nest place.number place }
     requires cells { Cells nest (keeps (plan_of sizes.route nest) b) kept.now counts.now × Keeping (plan_of sizes.route nest) b place.number }
-    requires memory_len { (length memory.now ≡ length (keptCells (plan_of sizes.route nest) b)) × (at + place.words ≤ length mail.old) }
+    requires memory_len { (length memory.now ≡ length (kept_cells (plan_of sizes.route nest) b)) × (at + place.words ≤ length mail.old) }
     ensures { mail.new
         ≡ put mail.old at
-        (pack (all_of (plan_of sizes.route nest) b memory.now) (heldBy (plan_of sizes.route nest) place.number)) }
+        (pack (all_of (plan_of sizes.route nest) b memory.now) (held_by (plan_of sizes.route nest) place.number)) }
 {
     let words = place.words;
     let end = at + words;
@@ -166,11 +166,11 @@ pub fn gather_stage(
 ) -> Progress
     requires tables { Tables nest sizes b lens.now kept.now counts.now ordinals.now starts.now
         × Lengths (plan_of sizes.route nest) b memory.old mail.now marks.old }
-    requires tile_bound { (tile < (plan_of sizes.route nest).tiles) × ((plan_of sizes.route nest).processorOf tile ≡ b) }
+    requires tile_bound { (tile < (plan_of sizes.route nest).tiles) × ((plan_of sizes.route nest).processor_of tile ≡ b) }
     ensures { (l : List ℕ) → length l ≡ 3 → finished ≡ slice_index l 0
-        → state_of memory.new mail.now (setRecord l 0 result) marks.new
-        ≡ toPart (plan_of sizes.route nest) b (carryOut (plan_of sizes.route nest) []
-        (fromPart (plan_of sizes.route nest) b (state_of memory.old mail.now l marks.old)) b (gather tile)) }
+        → state_of memory.new mail.now (set_record l 0 result) marks.new
+        ≡ to_part (plan_of sizes.route nest) b (carry_out (plan_of sizes.route nest) []
+        (from_part (plan_of sizes.route nest) b (state_of memory.old mail.now l marks.old)) b (gather tile)) }
 {
     gather(
         nest, sizes, lens, kept, counts, ordinals, starts, memory, mail, marks, b, tile,
@@ -195,13 +195,13 @@ fn calculate_own(
     tile: usize,
 )
     requires planned { Planned nest sizes lens.now × ((b < processors nest) × ((tile < (plan_of sizes.route nest).tiles)
-        × (((plan_of sizes.route nest).processorOf tile ≡ b) × Cells nest (keeps (plan_of sizes.route nest) b) kept.now counts.now))) }
-    requires source_len { (length source.now ≡ length (ownCells (plan_of sizes.route nest) b))
-        × (length memory.old ≡ length (keptCells (plan_of sizes.route nest) b)) }
+        × (((plan_of sizes.route nest).processor_of tile ≡ b) × Cells nest (keeps (plan_of sizes.route nest) b) kept.now counts.now))) }
+    requires source_len { (length source.now ≡ length (own_cells (plan_of sizes.route nest) b))
+        × (length memory.old ≡ length (kept_cells (plan_of sizes.route nest) b)) }
     ensures { memory.new
-        ≡ pack (storeAll ((plan_of sizes.route nest).value (source_of (plan_of sizes.route nest) b source.now))
+        ≡ pack (store_all ((plan_of sizes.route nest).value (source_of (plan_of sizes.route nest) b source.now))
         (all_of (plan_of sizes.route nest) b memory.old) ((plan_of sizes.route nest).cells_of tile))
-        (keptCells (plan_of sizes.route nest) b) }
+        (kept_cells (plan_of sizes.route nest) b) }
 {
     let cells = sizes.cells;
     let mut owned = [0u8; MOST_CELLS];
@@ -238,13 +238,13 @@ pub fn calculate_stage(
     finished: u32,
 ) -> Progress
     requires tables { Tables nest sizes b lens.now kept.now counts.now ordinals.now starts.now
-        × (length memory.old ≡ length (keptCells (plan_of sizes.route nest) b)) }
-    requires tile_bound { (tile < (plan_of sizes.route nest).tiles) × (((plan_of sizes.route nest).processorOf tile ≡ b) × (finished < 16384)) }
-    requires source_len { length source.now ≡ length (ownCells (plan_of sizes.route nest) b) }
+        × (length memory.old ≡ length (kept_cells (plan_of sizes.route nest) b)) }
+    requires tile_bound { (tile < (plan_of sizes.route nest).tiles) × (((plan_of sizes.route nest).processor_of tile ≡ b) × (finished < 16384)) }
+    requires source_len { length source.now ≡ length (own_cells (plan_of sizes.route nest) b) }
     ensures { (mail l marks : List ℕ) → Lengths (plan_of sizes.route nest) b memory.old mail marks → length l ≡ 3 → finished ≡ slice_index l 0
-        → state_of memory.new mail (setRecord l 0 result) marks
-        ≡ toPart (plan_of sizes.route nest) b (carryOut (plan_of sizes.route nest) (source_of (plan_of sizes.route nest) b source.now)
-        (fromPart (plan_of sizes.route nest) b (state_of memory.old mail l marks)) b (calculate tile)) }
+        → state_of memory.new mail (set_record l 0 result) marks
+        ≡ to_part (plan_of sizes.route nest) b (carry_out (plan_of sizes.route nest) (source_of (plan_of sizes.route nest) b source.now)
+        (from_part (plan_of sizes.route nest) b (state_of memory.old mail l marks)) b (calculate tile)) }
 {
     calculate_own(nest, sizes, lens, kept, counts, source, memory, b, tile);
     let n = count_at(nest, sizes, lens, tile, 0);
@@ -270,13 +270,13 @@ pub fn send_stage(
 ) -> Progress
     requires tables { Tables nest sizes b lens.now kept.now counts.now ordinals.now starts.now
         × Lengths (plan_of sizes.route nest) b memory.now mail.old marks.old }
-    requires tile_bound { (tile < (plan_of sizes.route nest).tiles) × ((plan_of sizes.route nest).processorOf tile ≡ b) }
-    requires finished_bound { (finished < 16384) × (sent < length (sendsOf (plan_of sizes.route nest) tile)) }
+    requires tile_bound { (tile < (plan_of sizes.route nest).tiles) × ((plan_of sizes.route nest).processor_of tile ≡ b) }
+    requires finished_bound { (finished < 16384) × (sent < length (sends_of (plan_of sizes.route nest) tile)) }
     ensures { (l : List ℕ) → length l ≡ 3 → finished ≡ slice_index l 0 → sent ≡ slice_index l 2
-        → state_of memory.now mail.new (setRecord l 0 result) marks.new
-        ≡ toPart (plan_of sizes.route nest) b (carryOut (plan_of sizes.route nest) []
-        (fromPart (plan_of sizes.route nest) b (state_of memory.now mail.old l marks.old)) b
-        (send (slice_index (sendsOf (plan_of sizes.route nest) tile) sent))) }
+        → state_of memory.now mail.new (set_record l 0 result) marks.new
+        ≡ to_part (plan_of sizes.route nest) b (carry_out (plan_of sizes.route nest) []
+        (from_part (plan_of sizes.route nest) b (state_of memory.now mail.old l marks.old)) b
+        (send (slice_index (sends_of (plan_of sizes.route nest) tile) sent))) }
 {
     let place = nth_at(nest, sizes, lens, tile, 0, sent);
     let number = place.number;

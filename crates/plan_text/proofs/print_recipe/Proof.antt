@@ -1,6 +1,6 @@
 -- `plan_text::print_recipe` meets its contract: word 0 names the direct route.
 use borrow.Author.Rules.{rules}
-use Rattle.layout.specs.RouteWords.{routeOf}
+use Rattle.layout.specs.RouteWords.{route_of}
 use Rattle.plan_text.proofs.print_recipe.Statement.{statement}
 use Rattle.plan_text.proofs.print_recipe.Tie as tie
 
@@ -11,7 +11,7 @@ same_length : tie.Need-same-length
 same_length c = search rules
 
 returns : tie.Need-returns
-unfolding routeOf
+unfolding route_of
 returns c = c.before.before.print-by.ensures
 
 pub print-recipe-spec : {M : Type 1} → statement M

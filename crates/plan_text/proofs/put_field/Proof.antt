@@ -21,7 +21,7 @@ returns : tie.Need-returns
 returns c =
     let c6 = c.before.before.before.before.before.before in
     let c10 = c6.before.before.before.before in (
-      L.field-done c10.args.word.now c10.args.number c10.args.after (pen c10.args.at c10.args.space.now) _
+      L.field_done c10.args.word.now c10.args.number c10.args.after (pen c10.args.at c10.args.space.now) _
           c6.put-bytes.ensures _ c.before.before.put-number.ensures.0,
       L.field_end c10.args.word.now c10.args.number c10.args.after
           (pen c10.args.at c10.args.space.now) _ c6.put-bytes.ensures _ c.before.before.put-number.ensures.0

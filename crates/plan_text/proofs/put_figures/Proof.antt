@@ -39,7 +39,7 @@ returns c =
     let c12 = c7.before.before.before.before.before in
     let c17 = c12.before.before.before.before.before in
     let c21 = c17.before.before.before.before in (
-      L.figures-done c21.args.of.tiles c21.args.of.messages c21.args.of.words c21.args.of.steps (pen 0 c21.args.space.now) _
+      L.figures_done c21.args.of.tiles c21.args.of.messages c21.args.of.words c21.args.of.steps (pen 0 c21.args.space.now) _
           _ _ _ c17.put-field.ensures.0 c12.put-field2.ensures.0 c7.put-field3.ensures.0 c.before.before.put-field4.ensures.0,
       omega
           (arith, c17.put-field.ensures.1, c12.put-field2.ensures.1, c7.put-field3.ensures.1, c.before.before.put-field4.ensures.1),

@@ -35,7 +35,7 @@ returns c =
     let c18 = c14.before.before.before.before in
     let c22 = c18.before.before.before.before in
     let c25 = c22.before.before.before in (
-      L.line-done c25.args.number c25.args.of.sender c25.args.of.taker c25.args.of.from c25.args.of.to c25.args.of.words
+      L.line_done c25.args.number c25.args.of.sender c25.args.of.taker c25.args.of.from c25.args.of.to c25.args.of.words
           (pen c25.args.at c25.args.space.now) _ _ _ _ _ _ c22.put-number.ensures.0 c18.put-number2.ensures.0
           c14.put-number3.ensures.0 c10.put-number4.ensures.0 c6.put-number5.ensures.0 c.before.before.put-number6.ensures.0,
       omega (

@@ -54,7 +54,7 @@ same_length c = c.before.loop.invariant.1.long
 returns : tie.Need-returns invariant-loop decreases-loop
 returns c =
     let c3 = c.before.before.before in
-    L.lines-done (plan_of c3.args.sizes.route c3.args.nest) c3.args.at c3.args.space.now c.before.loop.space
+    L.lines_done (plan_of c3.args.sizes.route c3.args.nest) c3.args.at c3.args.space.now c.before.loop.space
     c.before.loop.place c.before.loop.m c.before.loop.invariant.1 c3.args.messages c.before.loop.invariant.0 c.loop-test.false
 
 pub put-lines-spec : {M : Type 1} → statement M

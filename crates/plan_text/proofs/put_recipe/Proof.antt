@@ -4,7 +4,7 @@ use Rattle.text.specs.Writing.{pen}
 use native.Mathlib.Omega.{arith}
 use mathlib.Core.Path.{refl, ap}
 use Rattle.plan.specs.Shaped.{plan_of}
-use Rattle.layout.specs.RouteWords.{routeOf}
+use Rattle.layout.specs.RouteWords.{route_of}
 use Rattle.summary.specs.declared.Figures.{Figures}
 use borrow.Author.Rules.{rules}
 use Rattle.plan_text.proofs.put_recipe.Statement.{statement}
@@ -22,7 +22,7 @@ returns c =
     let at-if1 = at-put-refused.before.before in
     let S = at-if1.before.before.before in
     let A = S.args in (
-      L.too_long (routeOf A.route) A.encoded.now _ (pen 0 A.space.now) at-if1.if1.true at-put-refused.Put-refused.ensures.0,
+      L.too_long (route_of A.route) A.encoded.now _ (pen 0 A.space.now) at-if1.if1.true at-put-refused.Put-refused.ensures.0,
       omega (arith, at-put-refused.Put-refused.ensures.1),
     )
 
@@ -44,7 +44,7 @@ returns-2 c =
     let S = at-if1.before.before.before in
     let A = S.args in
     let opens = at_open.«open» in (
-      L.refused-text (routeOf A.route) A.encoded.now _ (pen 0 A.space.now) at-if1.if1.false opens.result.number opens.ensures.number
+      L.refused_text_lem (route_of A.route) A.encoded.now _ (pen 0 A.space.now) at-if1.if1.false opens.result.number opens.ensures.number
           at-if2.if2.true at-put-refused2.put-refused2.ensures.0,
       omega (arith, at-put-refused2.put-refused2.ensures.1),
     )
@@ -70,7 +70,7 @@ put-lines-requires c κs =
       (
         omega (
           arith,
-          L.messages-most opens.result.sizes.route opens.result.nest planned.0.accepted planned.1.routed,
+          L.messages_most opens.result.sizes.route opens.result.nest planned.0.accepted planned.1.routed,
           messages,
           at-put-figures.put-figures.ensures.1,
         ),
@@ -95,13 +95,13 @@ returns-3 c =
     let opens = at_open.«open» in
     let planned = opens.ensures.planned at-if2.if2.false in
     let opened = opens.ensures.opened at-if2.if2.false in (
-      L.planned (routeOf A.route) A.encoded.now _ (pen 0 A.space.now) at-if1.if1.false
+      L.planned (route_of A.route) A.encoded.now _ (pen 0 A.space.now) at-if1.if1.false
           (plan_of opens.result.sizes.route opens.result.nest) opened.none opened.is _
           at-figures-of.figures-of.result at-figures-of.figures-of.ensures at-put-figures.put-figures.ensures.0
           at-put-lines.put-lines.ensures.0,
       omega (
         arith,
-        L.messages-most opens.result.sizes.route opens.result.nest planned.0.accepted planned.1.routed,
+        L.messages_most opens.result.sizes.route opens.result.nest planned.0.accepted planned.1.routed,
         ap (λ (x : Figures). x.messages) at-figures-of.figures-of.ensures,
         at-put-figures.put-figures.ensures.1,
         at-put-lines.put-lines.ensures.1,

@@ -18,7 +18,7 @@ same_length c = search rules
 returns : tie.Need-returns
 returns c =
     let c6 = c.before.before.before.before.before.before in (
-      L.refused-done c6.args.number _ (pen 0 c6.args.space.now) c.before.before.put-field.ensures.0,
+      L.refused_done c6.args.number _ (pen 0 c6.args.space.now) c.before.before.put-field.ensures.0,
       omega (
         arith,
         c.before.before.put-field.ensures.1,

@@ -5,10 +5,10 @@ use Rattle.program_io.proofs.word.Statement.{statement}
 use Rattle.program_io.proofs.word.Tie as tie
 
 returns : tie.Need-returns
-returns c = laws.far-word c.before.before.args.bytes.now c.before.before.args.at c.if1.true
+returns c = laws.far_word c.before.before.args.bytes.now c.before.before.args.at c.if1.true
 
 returns-2 : tie.Need-returns-2
-returns-2 c = laws.short-word c.before.before.before.args.bytes.now c.before.before.before.args.at c.if2.true
+returns-2 c = laws.short_word c.before.before.before.args.bytes.now c.before.before.before.args.at c.if2.true
 
 shared-slice-read-byte-value : tie.Need-shared-slice-read-byte-value
 shared-slice-read-byte-value c = search rules
@@ -68,7 +68,7 @@ returns-3 c =
     let at-if2 = at-byte-value.before.before in
     let at-if1 = at-if2.before in
     let start = at-if1.before.before in
-    laws.word-is start.args.bytes.now start.args.at at-byte-value.byte-value.result at-byte-value2.byte-value2.result
+    laws.word_is start.args.bytes.now start.args.at at-byte-value.byte-value.result at-byte-value2.byte-value2.result
     c.before.before.byte-value3.result c.byte-value4.result at-if1.if1.false at-if2.if2.false at-byte-value.byte-value.ensures.0
     at-byte-value2.byte-value2.ensures.0 c.before.before.byte-value3.ensures.0 c.byte-value4.ensures.0
 

@@ -42,7 +42,7 @@ marks-in-requires c κs =
     omega (
       arith,
       c.before.loop-test.true,
-      laws.some-long S.args.marks.now (q * 64) (q * 64 + 64) (omega arith) (omega (arith, c.before.loop-test.true)),
+      laws.some_long S.args.marks.now (q * 64) (q * 64 + 64) (omega arith) (omega (arith, c.before.loop-test.true)),
     )
 
 add-n : tie.Need-overflow-add-n invariant-loop decreases-loop
@@ -53,7 +53,7 @@ add-n c =
       arith,
       S.requires.0,
       (laws.count_small S.args.marks.now _ (loop.q + 1) (loop.n + c.marks-in.result)
-          (laws.fill-next S.args.marks.now loop.counts loop.q loop.n loop.invariant S.requires.0 c.marks-in.result
+          (laws.fill_next S.args.marks.now loop.counts loop.q loop.n loop.invariant S.requires.0 c.marks-in.result
           c.before.before.loop-test.true c.marks-in.ensures) S.requires.0),
     )
 
@@ -67,7 +67,7 @@ loop-again : tie.Need-loop-preserved invariant-loop decreases-loop
 loop-again c =
     let S = c.before.before.before.before.before in
     let loop = c.before.before.before.loop in
-    laws.fill-next S.args.marks.now loop.counts loop.q loop.n loop.invariant S.requires.0 c.marks-in.result
+    laws.fill_next S.args.marks.now loop.counts loop.q loop.n loop.invariant S.requires.0 c.marks-in.result
     c.before.before.loop-test.true c.marks-in.ensures
 
 mul-counts-2 : tie.Need-overflow-mul-counts-2 invariant-loop decreases-loop

@@ -14,7 +14,7 @@ abbrev decreases-loop : tie.decreases-loop
 decreases-loop marks c₀ n₀ c n = length marks - c
 
 loop-holds : tie.Need-loop-init invariant-loop decreases-loop
-loop-holds c = marked.count-start c.args.marks.now
+loop-holds c = marked.count_start c.args.marks.now
 
 shared-slice-read-if1 : tie.Need-shared-slice-read-if1 invariant-loop decreases-loop
 shared-slice-read-if1 c = omega (arith, c.before.loop-test.true)
@@ -45,7 +45,7 @@ loop-again c =
 returns : tie.Need-returns invariant-loop decreases-loop
 returns c =
     let loop = c.before.loop in
-    marked.count-done c.before.before.args.marks.now loop.c loop.n loop.invariant c.loop-test.false
+    marked.count_done c.before.before.args.marks.now loop.c loop.n loop.invariant c.loop-test.false
 
 pub marks-in-spec : {M : Type 1} → statement M
 marks-in-spec =

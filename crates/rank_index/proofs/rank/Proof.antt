@@ -32,7 +32,7 @@ add-n : tie.Need-overflow-add-n
 add-n c =
     let S = c.before.before.before.before in
     let block = blocks.count_low S.args.marks.now S.args.counts.now S.requires.0 S.requires.1.1 S.args.c S.requires.1.0 in
-    let is = blocks.rank-by-block S.args.marks.now S.args.counts.now S.requires.0 S.args.c c.marks-in.result S.requires.1.0
+    let is = blocks.rank_by_block S.args.marks.now S.args.counts.now S.requires.0 S.args.c c.marks-in.result S.requires.1.0
     c.marks-in.ensures in
     omega (arith, is, ranks.rank_most S.args.marks.now S.args.c, S.requires.1.0, S.requires.1.1)
 
@@ -43,7 +43,7 @@ returns : tie.Need-returns
 returns c =
     let S = c.before.before.before.before.before in
     c.word-index.ensures
-    ∙ blocks.rank-by-block S.args.marks.now S.args.counts.now S.requires.0 S.args.c c.before.marks-in.result S.requires.1.0
+    ∙ blocks.rank_by_block S.args.marks.now S.args.counts.now S.requires.0 S.args.c c.before.marks-in.result S.requires.1.0
     c.before.marks-in.ensures
 
 pub rank-spec : {M : Type 1} → statement M

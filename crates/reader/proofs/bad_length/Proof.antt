@@ -7,19 +7,19 @@ use borrow.Author.Rules.{rules}
 use Rattle.base.specs.Tests.{some}
 use Rattle.base.proofs.Tests.{some_one}
 use Rattle.nest.specs.Nest.{length_of}
-use Rattle.nest.specs.Reader.{noLength, badLength}
+use Rattle.nest.specs.Reader.{no_length, bad_length}
 use Rattle.nest.proofs.Laws as L
 use Rattle.reader.proofs.bad_length.Statement.{statement}
 use Rattle.reader.proofs.bad_length.Tie as tie
 
 abbrev invariant-loop : tie.invariant-loop
-invariant-loop nest n j₀ j = (j ≤ n) × (some (λ i. noLength (length_of nest i)) j ≡ false)
+invariant-loop nest n j₀ j = (j ≤ n) × (some (λ i. no_length (length_of nest i)) j ≡ false)
 
 abbrev decreases-loop : tie.decreases-loop
 decreases-loop nest n j₀ j = n - j
 
 loop-holds : tie.Need-loop-init invariant-loop decreases-loop
-loop-holds c = (omega arith, L.some-start _)
+loop-holds c = (omega arith, L.some_start _)
 
 mul-no-length : tie.Need-overflow-mul-no-length invariant-loop decreases-loop
 mul-no-length c = search rules
@@ -31,7 +31,7 @@ no-length-requires : tie.Need-no-length-requires invariant-loop decreases-loop
 no-length-requires c κs = search rules
 
 returns : tie.Need-returns invariant-loop decreases-loop
-unfolding badLength
+unfolding bad_length
 returns c =
     let at-loop-test = c.before.before.before in
     let at-loop = at-loop-test.before in
@@ -44,10 +44,10 @@ loop-less : tie.Need-loop-smaller invariant-loop decreases-loop
 loop-less c = search rules
 
 loop-again : tie.Need-loop-preserved invariant-loop decreases-loop
-loop-again c = (omega arith, L.some-step _ _ c.before.before.before.before.loop.invariant.1 (sym c.before.no_length.ensures ∙ c.if1.false))
+loop-again c = (omega arith, L.some_step _ _ c.before.before.before.before.loop.invariant.1 (sym c.before.no_length.ensures ∙ c.if1.false))
 
 returns-2 : tie.Need-returns-2 invariant-loop decreases-loop
-unfolding badLength
+unfolding bad_length
 returns-2 c = sym (L.some_end _ _ c.before.loop.j c.before.loop.invariant.0 c.loop-test.false c.before.loop.invariant.1)
 
 pub bad-length-spec : {M : Type 1} → statement M

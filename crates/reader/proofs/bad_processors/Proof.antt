@@ -8,7 +8,7 @@ product-of-requires : tie.Need-product-of-requires
 product-of-requires c κs = search rules
 
 returns : tie.Need-returns
-returns c = L.more-than-64 c.before.before.args.nest _ c.product-of.ensures
+returns c = L.more_than_64 c.before.before.args.nest _ c.product-of.ensures
 
 pub bad-processors-spec : {M : Type 1} → statement M
 bad-processors-spec = tie.close (tie.spec product-of-requires returns)

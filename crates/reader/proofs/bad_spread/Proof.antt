@@ -20,13 +20,13 @@ element-copy-out-if1 : tie.Need-element-copy-out-if1 invariant-loop decreases-lo
 element-copy-out-if1 c = search rules
 
 returns : tie.Need-returns invariant-loop decreases-loop
-returns c = sym (L.first-unspread c.before.before.args.t1 c.if1.true)
+returns c = sym (L.first_unspread c.before.before.args.t1 c.if1.true)
 
 sub-last : tie.Need-overflow-sub-last invariant-loop decreases-loop
 sub-last c = search rules
 
 loop-holds : tie.Need-loop-init invariant-loop decreases-loop
-loop-holds c = (omega arith, L.some-start _)
+loop-holds c = (omega arith, L.some_start _)
 
 mul-if2 : tie.Need-overflow-mul-if2 invariant-loop decreases-loop
 mul-if2 c = search rules
@@ -48,7 +48,7 @@ returns-2 c =
     let at-loop-test = c.before.before.before.before in
     let at-loop = at-loop-test.before in
     let start = at-loop.before.before.before in
-    sym (L.later-spread start.args.t1 at-loop.loop.j at-loop-test.loop-test.true c.before.before.if2.true c.if3.true)
+    sym (L.later_spread start.args.t1 at-loop.loop.j at-loop-test.loop-test.true c.before.before.if2.true c.if3.true)
 
 add-j : tie.Need-overflow-add-j invariant-loop decreases-loop
 add-j c = search rules
@@ -61,13 +61,13 @@ loop-again c =
     let at-loop = c.before.before.before in
     let start = at-loop.before.before.before in (
       omega arith,
-      L.some-step _ _ at-loop.loop.invariant.1 (⊎_elim (λ w. L.after-no start.args.t1 at-loop.loop.j w.2.left)
-          (λ w. L.after-spread start.args.t1 at-loop.loop.j w.left) c.if2.branch),
+      L.some_step _ _ at-loop.loop.invariant.1 (⊎_elim (λ w. L.after_no start.args.t1 at-loop.loop.j w.2.left)
+          (λ w. L.after_spread start.args.t1 at-loop.loop.j w.left) c.if2.branch),
     )
 
 returns-3 : tie.Need-returns-3 invariant-loop decreases-loop
 returns-3 c =
-    sym (L.spread-well c.before.before.before.before.args.t1 c.before.before.if1.false
+    sym (L.spread_well c.before.before.before.before.args.t1 c.before.before.if1.false
     (L.some_end _ _ c.before.loop.j c.before.loop.invariant.0 c.loop-test.false c.before.loop.invariant.1))
 
 pub bad-spread-spec : {M : Type 1} → statement M

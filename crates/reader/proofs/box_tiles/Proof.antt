@@ -4,19 +4,19 @@ use mathlib.Core.Path.{◌≡◌, ap, ◌∙◌}
 use native.Mathlib.Omega.{arith}
 use borrow.Author.Rules.{rules}
 use Rattle.base.specs.Tests.{product}
-use Rattle.nest.specs.Nest.{tileCount, boxTiles}
+use Rattle.nest.specs.Nest.{tile_count, box_tiles}
 use Rattle.nest.proofs.Laws as L
 use Rattle.reader.proofs.box_tiles.Statement.{statement}
 use Rattle.reader.proofs.box_tiles.Tie as tie
 
 abbrev invariant-loop : tie.invariant-loop
-invariant-loop nest n total₀ j₀ total j = (j ≤ n) × (total ≡ product (tileCount nest) j)
+invariant-loop nest n total₀ j₀ total j = (j ≤ n) × (total ≡ product (tile_count nest) j)
 
 abbrev decreases-loop : tie.decreases-loop
 decreases-loop nest n total₀ j₀ total j = n - j
 
 loop-holds : tie.Need-loop-init invariant-loop decreases-loop
-loop-holds c = (omega arith, L.product-start _)
+loop-holds c = (omega arith, L.product_start _)
 
 mul-tiles-along : tie.Need-overflow-mul-tiles-along invariant-loop decreases-loop
 mul-tiles-along c = search rules
@@ -36,7 +36,7 @@ tiles-along-requires c κs =
     let start = at-loop.before in
     let low = c.before.before.loop-test.true in (
       (start.requires.0.long at-loop.loop.j low, start.requires.0.length_most at-loop.loop.j low),
-      (start.requires.1 at-loop.loop.j low, start.requires.0.tile-wide at-loop.loop.j),
+      (start.requires.1 at-loop.loop.j low, start.requires.0.tile_wide at-loop.loop.j),
     )
 
 mul-total : tie.Need-overflow-mul-total invariant-loop decreases-loop
@@ -44,8 +44,8 @@ mul-total c =
     let at-loop = c.before.before.before.before in
     let start = at-loop.before in
     record {
-      fits = rw c.tiles-along.ensures.0 (L.tile-next start.args.t1 at-loop.loop.j at-loop.loop.total start.requires.0.dimensions-most
-          c.before.before.before.loop-test.true start.requires.0.length-wide start.requires.0.long at-loop.loop.invariant.1);
+      fits = rw c.tiles-along.ensures.0 (L.tile_next start.args.t1 at-loop.loop.j at-loop.loop.total start.requires.0.dimensions_most
+          c.before.before.before.loop-test.true start.requires.0.length_wide start.requires.0.long at-loop.loop.invariant.1);
     }
 
 add-j : tie.Need-overflow-add-j invariant-loop decreases-loop
@@ -55,14 +55,14 @@ loop-less : tie.Need-loop-smaller invariant-loop decreases-loop
 loop-less c = search rules
 
 loop-again : tie.Need-loop-preserved invariant-loop decreases-loop
-unfolding tileCount
+unfolding tile_count
 loop-again c =
     let at-loop = c.before.before.before.before in
-    (omega arith, ap (λ (a : ℕ). at-loop.loop.total * a) c.tiles-along.ensures.0 ∙ L.product-step _ _ _ at-loop.loop.invariant.1)
+    (omega arith, ap (λ (a : ℕ). at-loop.loop.total * a) c.tiles-along.ensures.0 ∙ L.product_step _ _ _ at-loop.loop.invariant.1)
 
 returns : tie.Need-returns invariant-loop decreases-loop
-unfolding boxTiles
-returns c = L.product-end _ _ c.before.loop.j _ c.before.loop.invariant.0 c.loop-test.false c.before.loop.invariant.1
+unfolding box_tiles
+returns c = L.product_end _ _ c.before.loop.j _ c.before.loop.invariant.0 c.loop-test.false c.before.loop.invariant.1
 
 pub box-tiles-spec : {M : Type 1} → statement M
 box-tiles-spec =

@@ -5,21 +5,21 @@ use mathlib.Core.Bool.{false}
 use native.Mathlib.Omega.{arith}
 use Rattle.base.specs.Tests.{some}
 use Rattle.nest.specs.Nest.{length_of}
-use Rattle.nest.specs.Shape.{inShape}
+use Rattle.nest.specs.Shape.{in_shape}
 use Rattle.nest.specs.Spans.{last}
-use Rattle.nest.proofs.Boxes.{unbounded-some}
+use Rattle.nest.proofs.Boxes.{unbounded_some}
 use Rattle.nest.proofs.Shapes as S
 use Rattle.reader.proofs.has_cell.Statement.{statement}
 use Rattle.reader.proofs.has_cell.Tie as tie
 
 abbrev invariant-loop : tie.invariant-loop
-invariant-loop nest rows q₀ q = (q ≤ rows) × (some (inShape nest) (q * length_of nest (last nest)) ≡ false)
+invariant-loop nest rows q₀ q = (q ≤ rows) × (some (in_shape nest) (q * length_of nest (last nest)) ≡ false)
 
 abbrev decreases-loop : tie.decreases-loop
 decreases-loop nest rows q₀ q = rows - q
 
 returns : tie.Need-returns invariant-loop decreases-loop
-returns c = sym (unbounded-some c.before.before.args.nest c.before.before.requires.long c.if1.true)
+returns c = sym (unbounded_some c.before.before.args.nest c.before.before.requires.long c.if1.true)
 
 row-count-requires : tie.Need-row-count-requires invariant-loop decreases-loop
 row-count-requires c κs = c.before.before.requires
@@ -31,7 +31,7 @@ row-place-requires : tie.Need-row-place-requires invariant-loop decreases-loop
 row-place-requires c κs = c.before.before.before.before.before.requires
 
 span-requires : tie.Need-span-requires invariant-loop decreases-loop
-span-requires c κs = (c.before.before.before.before.before.before.requires, c.row-place.ensures.narrow)
+span-requires c κs = (c.before.before.before.before.before.before.requires, c.row_place.ensures.narrow)
 
 returns-2 : tie.Need-returns-2 invariant-loop decreases-loop
 returns-2 c =
@@ -40,7 +40,7 @@ returns-2 c =
     let at-loop = at-loop-test.before in
     let at-row-count = at-loop.before in
     let start = at-row-count.before.before.before in
-    sym (S.rows-some _ start.requires at-loop.loop.q _ _ _ at-row-place.row-place.ensures c.before.before.span.ensures c.if2.true
+    sym (S.rows_some _ start.requires at-loop.loop.q _ _ _ at-row-place.row_place.ensures c.before.before.span.ensures c.if2.true
     at-loop-test.loop-test.true at-row-count.row_count.ensures)
 
 add-q : tie.Need-overflow-add-q invariant-loop decreases-loop
@@ -56,7 +56,7 @@ loop-again c =
     let at-loop = at-loop-test.before in
     let start = at-loop.before.before.before.before in (
       omega (arith, at-loop-test.loop-test.true),
-      S.rows_none _ start.requires _ _ _ at-row-place.row-place.ensures c.before.before.span.ensures
+      S.rows_none _ start.requires _ _ _ at-row-place.row_place.ensures c.before.before.span.ensures
           c.if2.false at-loop.loop.invariant.1,
     )
 

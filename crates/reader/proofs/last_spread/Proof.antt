@@ -1,7 +1,7 @@
 -- `reader::last_spread` meets its contract: it is the definition, computed.
 use mathlib.Core.Path.{refl}
 use borrow.Author.Rules.{rules}
-use Rattle.nest.specs.Reader.{lastSpread}
+use Rattle.nest.specs.Reader.{last_spread}
 use Rattle.reader.proofs.last_spread.Statement.{statement}
 use Rattle.reader.proofs.last_spread.Tie as tie
 
@@ -15,7 +15,7 @@ element-copy-out-result : tie.Need-element-copy-out-result
 element-copy-out-result c = search rules
 
 returns : tie.Need-returns
-unfolding lastSpread
+unfolding last_spread
 returns c = refl
 
 pub last-spread-spec : {M : Type 1} → statement M

@@ -94,7 +94,7 @@ returns c =
     L.made A.encoded.now A.n A.b A.e _ _ _ _ _ _ _ _ _ _ _ _ _ at-spread-of.spread-of.ensures at-halves.halves.ensures
     at-halves2.halves2.ensures at-halves3.halves3.ensures at-components-of.components-of.ensures at-weights-of.weights-of.ensures
     at-bytes-of.bytes_of.ensures at-bytes-of2.bytes-of2.ensures at-bytes-of3.bytes-of3.ensures at-slopes-of.slopes-of.ensures
-    at-offsets-of.offsets-of.ensures c.before.before.byte-wide.ensures (c.word_wide.ensures ∙ c.before.word-at.ensures)
+    at-offsets-of.offsets-of.ensures c.before.before.byte-wide.ensures (c.word_wide.ensures ∙ c.before.word_at.ensures)
 
 pub nest-by-spec : {M : Type 1} → statement M
 nest-by-spec =

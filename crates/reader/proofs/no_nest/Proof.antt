@@ -1,12 +1,12 @@
 -- `reader::no_nest` meets its contract: the nest of no bytes computes.
 use mathlib.Core.Path.{refl}
 use Rattle.base.specs.Tests.{keep, tabulate, pick}
-use Rattle.nest.specs.Reader.{nestBy, filled}
+use Rattle.nest.specs.Reader.{nest_by, filled}
 use Rattle.reader.proofs.no_nest.Statement.{statement}
 use Rattle.reader.proofs.no_nest.Tie as tie
 
 returns : tie.Need-returns
-unfolding nestBy keep filled tabulate pick
+unfolding nest_by keep filled tabulate pick
 returns c = refl
 
 pub no-nest-spec : {M : Type 1} → statement M

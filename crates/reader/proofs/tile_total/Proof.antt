@@ -17,7 +17,7 @@ row-count-requires : tie.Need-row-count-requires invariant-loop decreases-loop
 row-count-requires c κs = c.requires.0.0
 
 loop-holds : tie.Need-loop-init invariant-loop decreases-loop
-loop-holds c = (omega arith, S.counting-start _ c.before.requires.0.0 c.before.requires.0.1)
+loop-holds c = (omega arith, S.counting_start _ c.before.requires.0.0 c.before.requires.0.1)
 
 slice-aggregate-mark-row : tie.Need-slice-aggregate-mark-row invariant-loop decreases-loop
 slice-aggregate-mark-row c = sym c.before.before.loop.invariant.1.long
@@ -45,7 +45,7 @@ loop-again c =
     let at-loop = at-loop-test.before in
     let start = at-loop.before.before in (
       omega (arith, at-loop-test.loop-test.true),
-      S.counting-next _ start.requires.0.0 start.requires.0.1 _ _ _ at-loop.loop.invariant.1
+      S.counting_next _ start.requires.0.0 start.requires.0.1 _ _ _ at-loop.loop.invariant.1
           c.before.mark-row.ensures,
     )
 
@@ -60,7 +60,7 @@ returns c =
     let at-loop = c.before.before.before in
     let at-row-count = at-loop.before in
     let start = at-row-count.before in
-    c.marked.ensures ∙ S.counting-end _ start.requires.0.0 start.requires.0.1 _ _ _ _ at-loop.loop.invariant.1 at-loop.loop.invariant.0
+    c.marked.ensures ∙ S.counting_end _ start.requires.0.0 start.requires.0.1 _ _ _ _ at-loop.loop.invariant.1 at-loop.loop.invariant.0
     c.before.before.loop-test.false at-row-count.row_count.ensures start.requires.1.0
 
 pub tile-total-spec : {M : Type 1} → statement M

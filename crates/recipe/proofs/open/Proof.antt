@@ -17,12 +17,12 @@ fill-requires c κs =
 returns : tie.Need-returns
 returns c =
     let with-sizes = c.before.before.before.before.before.before.with-sizes in
-    laws.opens-with _ _ _ with-sizes.ensures _ (λ _. c.fill.ensures)
+    laws.opens_with _ _ _ with-sizes.ensures _ (λ _. c.fill.ensures)
 
 returns-2 : tie.Need-returns-2
 returns-2 c =
     let with-sizes = c.before.before.before.before.with-sizes in
-    laws.opens-with _ _ _ with-sizes.ensures _ (λ z. absurd (c.if1.false z))
+    laws.opens_with _ _ _ with-sizes.ensures _ (λ z. absurd (c.if1.false z))
 
 pub open_spec : {M : Type 1} → statement M
 open_spec = tie.close (tie.spec with-sizes-requires fill-requires returns returns-2)

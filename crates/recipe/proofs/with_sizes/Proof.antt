@@ -14,7 +14,7 @@ closed-requires c κs = search rules
 returns : tie.Need-returns
 returns c =
     let at-read-for = c.before.before.before in
-    laws.closed-sizes _ _ _ at-read-for.read-for.ensures c.before.if1.true _ c.closed.ensures
+    laws.closed_sizes _ _ _ at-read-for.read-for.ensures c.before.if1.true _ c.closed.ensures
 
 route-of-requires : tie.Need-route-of-requires
 route-of-requires c κs = search rules
@@ -22,7 +22,7 @@ route-of-requires c κs = search rules
 sizes-of-requires : tie.Need-sizes-of-requires
 sizes-of-requires c κs =
     let at-if1 = c.before in
-    laws.accepted-for _ _ _ at-if1.before.before.read-for.ensures at-if1.if1.false
+    laws.accepted_for _ _ _ at-if1.before.before.read-for.ensures at-if1.if1.false
 
 returns-2 : tie.Need-returns-2
 returns-2 c =
@@ -30,7 +30,7 @@ returns-2 c =
     let sizes-of = c.sizes-of in
     let at-if1 = c.before.before in
     let read-for = at-if1.before.before.read-for in
-    laws.read-sizes _ _ read-for.result read-for.ensures at-if1.if1.false sizes-of.result sizes-of.ensures.0
+    laws.read_sizes _ _ read-for.result read-for.ensures at-if1.if1.false sizes-of.result sizes-of.ensures.0
     (sizes-of.ensures.1 ∙ at-route-of.route-of.ensures)
 
 pub with-sizes-spec : {M : Type 1} → statement M

@@ -54,9 +54,9 @@ use denote.Triple.Table.{entered, cited}
 use denote.Triple.Walked.{says, Stays, stay_slice, stay_none, walk_of, Goes-slice, Goes-none, Walks, ends_at, walked, walk_Meets}
 use denote.Exit.{yes}
 use Rattle.base.specs.Tests.{pick as choose}
-use Rattle.records.specs.Records.{zeros, clearAll}
+use Rattle.records.specs.Records.{zeros, clear_all}
 use Rattle.records.specs.declared.Progress.{Progress}
-use Rattle.records.proofs.Laws.{offset-fits, nearer, zeroRecords, length-zeros, zeros-none, zeros-more, clears-few, clears-all}
+use Rattle.records.proofs.Laws.{offset_fits, nearer, zero_records, length_zeros, zeros_none, zeros_more, clears_few, clears_all}
 use Rattle.records.proofs.Locals.{rooms, holds, free_all}
 use Rattle.records.specs.contracts.Progress as T
 use Rattle.records.proofs.Progress.TheLaws as T'
@@ -127,7 +127,7 @@ module _ {M : Type 1} {𝓤 : Ura M} (𝓛 : Logic 𝓤) (mem : Memory → SProp
   abbrev Post : Val → SProp 𝓤
   Post = (walk_of 𝓛 clears.ended stayed (clears.clauses 𝓛 mem run)).post (((κ, tt), (q, tt), tt, a, at), tt)
 
-  exits : (zs : List Progress) → length zs ≡ n → zs ≡ clearAll k ys
+  exits : (zs : List Progress) → length zs ≡ n → zs ≡ clear_all k ys
       → ent 𝓤 (⋆ 𝓛 (‵ (fobs γ ((coded_holeys R).code (heres R zs))) ∷ ‵ (fbor κ (Held R (length zs) b o γ)) ∷ ‵ (flft κ q) ∷ [])) (Post vunit)
   exits zs l e =
       qed 𝓛 (‵ (fobs γ ((coded_holeys R).code (heres R zs))) ∷ ‵ (fbor κ (Held R (length zs) b o γ)) ∷ ‵ (flft κ q) ∷ []) ∵
@@ -155,14 +155,14 @@ module _ {M : Type 1} {𝓤 : Ura M} (𝓛 : Logic 𝓤) (mem : Memory → SProp
   -- the loop, which stores c records
   module _ (c : ℕ) (gc : c < 2 ^ 64) (counts : c ≡ choose (eqb k 0) n 0) where
     pre : c ≤ n
-    pre = clears-few k c ys counts
+    pre = clears_few k c ys counts
 
     -- how far a turn is: i records are stored
     record Upto : Type 0 where
       i : ℕ
       rs : List Progress
       within : i ≤ c
-      is : rs ≡ zeroRecords i ys
+      is : rs ≡ zero_records i ys
 
     abbrev Nearer : Upto → Upto → Type 0
     Nearer t s = c - t.i < c - s.i
@@ -171,26 +171,26 @@ module _ {M : Type 1} {𝓤 : Ura M} (𝓛 : Logic 𝓤) (mem : Memory → SProp
     Nearer-wf = InvImage.wf (λ (s : Upto). c - s.i) lt-wf_rel.wf
 
     abbrev begun : Upto
-    begun = record { i = 0; rs = ys; within = zero-le; is = zeros-none ys }
+    begun = record { i = 0; rs = ys; within = zero-le; is = zeros_none ys }
 
     same : (s : Upto) → length s.rs ≡ n
-    same s = ap (λ (l : List Progress). length l) s.is ∙ length-zeros s.i ys (omega (arith, s.within, pre))
+    same s = ap (λ (l : List Progress). length l) s.is ∙ length_zeros s.i ys (omega (arith, s.within, pre))
 
-    stored_at : (s : Upto) (k : ℕ) → s.i ≡ k → s.rs ≡ zeroRecords k ys
-    stored_at s k e = s.is ∙ ap (λ (j : ℕ). zeroRecords j ys) e
+    stored_at : (s : Upto) (k : ℕ) → s.i ≡ k → s.rs ≡ zero_records k ys
+    stored_at s k e = s.is ∙ ap (λ (j : ℕ). zero_records j ys) e
 
-    all : (s : Upto) → c ≤ s.i → s.rs ≡ clearAll k ys
-    all s over = stored_at s c (omega (arith, over, s.within)) ∙ clears-all k c ys counts
+    all : (s : Upto) → c ≤ s.i → s.rs ≡ clear_all k ys
+    all s over = stored_at s c (omega (arith, over, s.within)) ∙ clears_all k c ys counts
 
-    next-is : (s : Upto) → s.i < c → (r : Progress) → r ≡ zeros → set s.rs s.i r ≡ zeroRecords (s.i + 1) ys
-    next-is s less r e =
-        ap (λ (p : Progress). set s.rs s.i p) e ∙ ap (λ (l : List Progress). set l s.i zeros) s.is ∙ zeros-more s.i ys (omega (arith, less, pre))
+    next_is : (s : Upto) → s.i < c → (r : Progress) → r ≡ zeros → set s.rs s.i r ≡ zero_records (s.i + 1) ys
+    next_is s less r e =
+        ap (λ (p : Progress). set s.rs s.i p) e ∙ ap (λ (l : List Progress). set l s.i zeros) s.is ∙ zeros_more s.i ys (omega (arith, less, pre))
 
     next-within : (s : Upto) → s.i < c → s.i + 1 ≤ c
     next-within s less = omega (arith, less)
 
     abbrev after : (s : Upto) → s.i < c → (r : Progress) → r ≡ zeros → Upto
-    after s less r e = record { i = s.i + 1; rs = set s.rs s.i r; within = next-within s less; is = next-is s less r e }
+    after s less r e = record { i = s.i + 1; rs = set s.rs s.i r; within = next-within s less; is = next_is s less r e }
 
     module _ (𝓣 : Tables 𝓤 H) (known : Triple 𝓤 (𝓣.C #records·zero) (Of 𝓛 mem run)) (l₀ l₁ l₂ l₃ l₄ l₅ l₆ l₇ l₈ l₉ : ℕ) where
       abbrev C : Calls 𝓤 H
@@ -261,8 +261,8 @@ module _ {M : Type 1} {𝓤 : Ura M} (𝓛 : Logic 𝓤) (mem : Memory → SProp
           move ! (1 ∷ []) $
           peeks ! R (Is R) (shows 𝓛 R) r (w ∷ []) (λ is.
           land ! (from ! (stop !)) (init ! 6 refl ((LL.lawful T.the_type T'.the_laws 𝓛).typed r _ is).0) $
-          assigns ! (bin ! (load ! (from ! (stop !)) (look ! 12 refl)) (lit ! tt) (record { fits = offset-fits n s.i gn.1 inside })) (from ! (stop !))
-          (init ! 4 refl (tt, record { fits = offset-fits n s.i gn.1 inside })) $
+          assigns ! (bin ! (load ! (from ! (stop !)) (look ! 12 refl)) (lit ! tt) (record { fits = offset_fits n s.i gn.1 inside })) (from ! (stop !))
+          (init ! 4 refl (tt, record { fits = offset_fits n s.i gn.1 inside })) $
           assigns ! (bin ! (load ! (from ! (fld ! refl (stop !))) (look_in ! 18 (sub ! 0 refl (whole !)))) (load ! (from ! (stop !)) (look ! 4 refl)) tt)
           (from ! (stop !)) (init ! 2 refl (tt, tt)) $
           rewrite ! 2 (λ (p' : ℕ). ‵ (fat full_share ty_ptr l₉ 0 (vptr b p'))) (sym (place_is 12 o s.i)) refl $

@@ -16,7 +16,7 @@ empty-requires : tie.Need-empty-requires invariant-loop decreases-loop
 empty-requires c κs = search rules
 
 returns : tie.Need-returns invariant-loop decreases-loop
-returns c = laws.carries-many _ _ c.empty.ensures c.before.if1.true
+returns c = laws.carries_many _ _ c.empty.ensures c.before.if1.true
 
 loop-holds : tie.Need-loop-init invariant-loop decreases-loop
 loop-holds c = laws.copied_none _

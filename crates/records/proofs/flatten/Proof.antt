@@ -52,11 +52,11 @@ use denote.Triple.Clauses.{ensured, lasts}
 use denote.Triple.Table.{entered, cited}
 use denote.Triple.Walked.{says, Stays, stay_none_slice, walk_of, Goes-none_slice, Walks, ends_at, walked, walk_Meets}
 use denote.Exit.{yes}
-use Rattle.records.specs.Records.{flatWords, Flattens, zeros, blank, withRecord}
+use Rattle.records.specs.Records.{flat_words, Flattens, zeros, blank, with_record}
 use Rattle.records.specs.declared.Progress.{Progress}
 use Rattle.records.specs.declared.Flat.{Flat}
-use Rattle.records.proofs.Laws.{flatFrom, flatOf, offset-fits, words-fit, nearer, more_of, none_of}
-use Rattle.records.proofs.Words.{carries-flat}
+use Rattle.records.proofs.Laws.{flat_from, flat_of, offset_fits, words_fit, nearer, more_of, none_of}
+use Rattle.records.proofs.Words.{carries_flat}
 use Rattle.records.proofs.Locals.{rooms, holds, free_all}
 use Rattle.records.specs.contracts.Progress as T
 use Rattle.records.proofs.Progress.TheLaws as T'
@@ -107,8 +107,8 @@ module _ {M : Type 1} {𝓤 : Ura M} (𝓛 : Logic 𝓤) (mem : Memory → SProp
   empty_of n r = ex_e 𝓤 _ (λ ws. snd∗ 𝓤 (sem 𝓛 (lasts empty.ended tt (n, tt) ws)) (fact 𝓤 (r ≡ blank n)))
 
   with-of : (f : Flat) (i : ℕ) (p : Progress) (r : Flat)
-      → ent 𝓤 (ensured 𝓛 with-record.ended (with-record.clauses 𝓛 mem run) tt (f, (i, (p, tt))) tt r) (fact 𝓤 (r ≡ withRecord f i p))
-  with-of f i p r = ex_e 𝓤 _ (λ ws. snd∗ 𝓤 (sem 𝓛 (lasts with-record.ended tt (f, (i, (p, tt))) ws)) (fact 𝓤 (r ≡ withRecord f i p)))
+      → ent 𝓤 (ensured 𝓛 with-record.ended (with-record.clauses 𝓛 mem run) tt (f, (i, (p, tt))) tt r) (fact 𝓤 (r ≡ with_record f i p))
+  with-of f i p r = ex_e 𝓤 _ (λ ws. snd∗ 𝓤 (sem 𝓛 (lasts with-record.ended tt (f, (i, (p, tt))) ws)) (fact 𝓤 (r ≡ with_record f i p)))
 
 module _ {M : Type 1} {𝓤 : Ura M} (𝓛 : Logic 𝓤) (mem : Memory → SProp 𝓤) (run : Routine → Fun 𝓤) (κ : Lft) (q : Share)
     (b o : ℕ) (γ : GName) (ys : List Progress) (gn : Room R (length ys)) where
@@ -129,7 +129,7 @@ module _ {M : Type 1} {𝓤 : Ura M} (𝓛 : Logic 𝓤) (mem : Memory → SProp
   abbrev Post : Val → SProp 𝓤
   Post = (walk_of 𝓛 flatten.ended stayed (flatten.clauses 𝓛 mem run)).post (((κ, tt), (q, tt), tt, (x, tt), at), tt)
 
-  exits : (f : Flat) → Is F f (low f ∷ []) → Flattens f (flatWords ys) → ent 𝓤 (⋆ 𝓛 (‵ ((ShrSlice (named 0) κ R).own_val x at.0) ∷ ‵ (flft κ q) ∷ []))
+  exits : (f : Flat) → Is F f (low f ∷ []) → Flattens f (flat_words ys) → ent 𝓤 (⋆ 𝓛 (‵ ((ShrSlice (named 0) κ R).own_val x at.0) ∷ ‵ (flft κ q) ∷ []))
       (Post (low f))
   exits f is e =
       qed 𝓛 (‵ ((ShrSlice (named 0) κ R).own_val x at.0) ∷ ‵ (flft κ q) ∷ []) ∵
@@ -143,7 +143,7 @@ module _ {M : Type 1} {𝓤 : Ura M} (𝓛 : Logic 𝓤) (mem : Memory → SProp
 
   begins : ent 𝓤 (sem 𝓛 ftrue) ((Empty 𝓛 mem run).pre to-empty)
   begins =
-      qed 𝓛 (‵ ftrue ∷ []) ∵ nothing ! $ owned ! usize (Is usize) (uint_Makes 𝓛 w64) (3 * n) _ (refl, words-fit n gn.1) $ fjoin ! $ nothing ! $
+      qed 𝓛 (‵ ftrue ∷ []) ∵ nothing ! $ owned ! usize (Is usize) (uint_Makes 𝓛 w64) (3 * n) _ (refl, words_fit n gn.1) $ fjoin ! $ nothing ! $
       join ! $ frame ! $ done !
 
   -- how far a turn is: i records are done
@@ -152,7 +152,7 @@ module _ {M : Type 1} {𝓤 : Ura M} (𝓛 : Logic 𝓤) (mem : Memory → SProp
     flat : Flat
     is : Is F flat (low flat ∷ [])
     within : i ≤ n
-    left : flatFrom i (drop i ys) flat ≡ flatOf ys
+    left : flat_from i (drop i ys) flat ≡ flat_of ys
 
   abbrev Nearer : Upto → Upto → Type 0
   Nearer t s = n - t.i < n - s.i
@@ -161,19 +161,19 @@ module _ {M : Type 1} {𝓤 : Ura M} (𝓛 : Logic 𝓤) (mem : Memory → SProp
   Nearer-wf = InvImage.wf (λ (s : Upto). n - s.i) lt-wf_rel.wf
 
   abbrev begun : (r : Flat) → Is F r (low r ∷ []) → r ≡ blank (3 * n) → Upto
-  begun r is e = record { i = 0; flat = r; is = is; within = zero-le; left = ap (λ (f : Flat). flatFrom 0 ys f) e }
+  begun r is e = record { i = 0; flat = r; is = is; within = zero-le; left = ap (λ (f : Flat). flat_from 0 ys f) e }
 
   abbrev elem : Upto → Progress
   elem s = get_or ys s.i zeros
 
-  abbrev after : (s : Upto) → s.i < n → (r : Flat) → Is F r (low r ∷ []) → r ≡ withRecord s.flat s.i (elem s) → Upto
+  abbrev after : (s : Upto) → s.i < n → (r : Flat) → Is F r (low r ∷ []) → r ≡ with_record s.flat s.i (elem s) → Upto
   after s less r is e =
       record {
         i = s.i + 1;
         flat = r;
         is = is;
         within = omega (arith, less);
-        left = ap (λ (f : Flat). flatFrom (s.i + 1) (drop (s.i + 1) ys) f) e ∙ sym (more_of ys s.flat s.i less) ∙ s.left;
+        left = ap (λ (f : Flat). flat_from (s.i + 1) (drop (s.i + 1) ys) f) e ∙ sym (more_of ys s.flat s.i less) ∙ s.left;
       }
 
   abbrev to-with : Upto → (With 𝓛 mem run).Ghost
@@ -233,7 +233,7 @@ module _ {M : Type 1} {𝓤 : Ura M} (𝓛 : Logic 𝓤) (mem : Memory → SProp
         move ! (2 ∷ 0 ∷ []) $
         fjoin ! $
         keep ! (0 ∷ 1 ∷ []) $
-        by ! (exits s.flat s.is (carries-flat ys s.flat (sym (none_of ys s.flat s.i over) ∙ s.left)))
+        by ! (exits s.flat s.is (carries_flat ys s.flat (sym (none_of ys s.flat s.i over) ∙ s.left)))
 
     -- a turn that writes one record's words
     more : (s : Upto) → s.i < n → Sq 𝓛 (At s) (runs C Λ En mir'.turn-1 (any_q (Turned s)))
@@ -246,8 +246,8 @@ module _ {M : Type 1} {𝓤 : Ura M} (𝓛 : Logic 𝓤) (mem : Memory → SProp
         assigns ! (bin ! (load ! (from ! (stop !)) (look ! 12 refl)) (load ! (from ! (stop !)) (look ! 6 refl)) tt) (from ! (stop !)) (init ! 4 refl (tt, tt)) $
         rewrite ! 4 (λ (t : Bool). ‵ (fat full_share ty_bool l₇ 0 (vbool t))) (lt-ltb _ _ less) refl $
         stays ! (load ! (from ! (stop !)) (look ! 4 refl)) $
-        assigns ! (bin ! (load ! (from ! (stop !)) (look ! 12 refl)) (lit ! tt) (record { fits = offset-fits n s.i gn.1 less })) (from ! (stop !))
-        (store ! 6 refl (tt, record { fits = offset-fits n s.i gn.1 less })) $
+        assigns ! (bin ! (load ! (from ! (stop !)) (look ! 12 refl)) (lit ! tt) (record { fits = offset_fits n s.i gn.1 less })) (from ! (stop !))
+        (store ! 6 refl (tt, record { fits = offset_fits n s.i gn.1 less })) $
         assigns ! (bin ! (load ! (from ! (fld ! refl (stop !))) (look_in ! 16 (sub ! 0 refl (whole !)))) (load ! (from ! (stop !)) (look ! 6 refl)) tt)
         (from ! (stop !)) (init ! 2 refl (tt, tt)) $
         rewrite ! 2 (λ (p' : ℕ). ‵ (fat full_share ty_ptr l₈ 0 (vptr b p'))) (sym (place_is 12 o s.i)) refl $
@@ -266,8 +266,8 @@ module _ {M : Type 1} {𝓤 : Ura M} (𝓛 : Logic 𝓤) (mem : Memory → SProp
         pick ! (λ r.
         split ! $
         move ! (1 ∷ []) $
-        use1 𝓛 (raw (fact 𝓤 (r ≡ withRecord s.flat s.i (elem s)))) (with-of 𝓛 mem run s.flat s.i (elem s) r) $
-        heard ! (r ≡ withRecord s.flat s.i (elem s)) (λ e.
+        use1 𝓛 (raw (fact 𝓤 (r ≡ with_record s.flat s.i (elem s)))) (with-of 𝓛 mem run s.flat s.i (elem s) r) $
+        heard ! (r ≡ with_record s.flat s.i (elem s)) (λ e.
         split ! $
         move ! (1 ∷ []) $
         peeks ! F (Is F) (shows 𝓛 F) r (w ∷ []) (λ is.
@@ -323,8 +323,8 @@ module _ {M : Type 1} {𝓤 : Ura M} (𝓛 : Logic 𝓤) (mem : Memory → SProp
       pass0 ! $
       assigns ! (of_opd ! (load ! (from ! (fld ! refl (stop !))) (look_in ! 16 (sub ! 1 refl (whole !))))) (from ! (stop !))
       (init ! 10 refl (tt, record { fits = gn.0 })) $
-      assigns ! (bin ! (lit ! tt) (load ! (from ! (stop !)) (look ! 10 refl)) (record { fits = words-fit n gn.1 })) (from ! (stop !))
-      (init ! 8 refl (tt, record { fits = words-fit n gn.1 })) $
+      assigns ! (bin ! (lit ! tt) (load ! (from ! (stop !)) (look ! 10 refl)) (record { fits = words_fit n gn.1 })) (from ! (stop !))
+      (init ! 8 refl (tt, record { fits = words_fit n gn.1 })) $
       nothing ! $
       use1 𝓛 (raw ((Empty 𝓛 mem run).pre to-empty)) begins $
       calls_at ! (fm_of 𝓤 H 𝓛.laws 𝓣) (Empty 𝓛 mem run) known₀ to-empty (and_then ! (load ! (from ! (stop !)) (look ! 9 refl)) (no_more !)) (λ w.

@@ -45,10 +45,10 @@ use denote.Triple.Spec.{Meets, triple_of}
 use denote.Triple.Table.{entered}
 use denote.Triple.Walked.{says, needs, Stays, stay_slice, stay_none, walk_of, Goes-slice, Goes-none, Walks, ends_at, walked, walk_Meets}
 use denote.Exit.{yes as plainly}
-use Rattle.base.proofs.Tests.{pick_true, pick-false}
+use Rattle.base.proofs.Tests.{pick_true, pick_false}
 use Rattle.records.specs.Records.{zeros, put_at}
 use Rattle.records.specs.declared.Progress.{Progress}
-use Rattle.records.proofs.Laws.{offset-fits}
+use Rattle.records.proofs.Laws.{offset_fits}
 use Rattle.records.proofs.Locals.{rooms, holds, free_all}
 use Rattle.records.specs.contracts.Progress as T
 use Rattle.records.proofs.Progress.TheLaws as T'
@@ -82,7 +82,7 @@ put-there k i p rs e = sym (pick_true _ _ _ (eq-eqb k 0 e))
 
 put-nowhere : (k i : ℕ) (p : Progress) (rs : List Progress) → k ≢ 0 → rs ≡ put_at k i p rs
 unfolding put_at
-put-nowhere k i p rs h = sym (pick-false _ _ _ (ne_eqb k 0 h))
+put-nowhere k i p rs h = sym (pick_false _ _ _ (ne_eqb k 0 h))
 
 module _ {M : Type 1} {𝓤 : Ura M} (𝓛 : Logic 𝓤) (mem : Memory → SProp 𝓤) (run : Routine → Fun 𝓤) (κ : Lft) (q : Share)
     (b o : ℕ) (γ : GName) (ys : List Progress) (k i : ℕ) (p : Progress)
@@ -167,8 +167,8 @@ module _ {M : Type 1} {𝓤 : Ura M} (𝓛 : Logic 𝓤) (mem : Memory → SProp
         rewrite ! 6 (λ (t : Bool). ‵ (fat full_share ty_bool l₅ 0 (vbool t))) (eq-eqb k 0 z) refl $
         first ! $ branches ! (load ! (from ! (stop !)) (look ! 6 refl)) (λ _.
         assigns ! (un ! (load ! (from ! (stop !)) (look ! 10 refl)) (record { fits = wide })) (from ! (stop !)) (init ! 4 refl (tt, record { fits = wide })) $
-        assigns ! (bin ! (load ! (from ! (stop !)) (look ! 4 refl)) (lit ! tt) (record { fits = offset-fits n i gn.1 inside })) (from ! (stop !))
-        (init ! 2 refl (tt, record { fits = offset-fits n i gn.1 inside })) $
+        assigns ! (bin ! (load ! (from ! (stop !)) (look ! 4 refl)) (lit ! tt) (record { fits = offset_fits n i gn.1 inside })) (from ! (stop !))
+        (init ! 2 refl (tt, record { fits = offset_fits n i gn.1 inside })) $
         assigns ! (bin ! (load ! (from ! (fld ! refl (stop !))) (look_in ! 14 (sub ! 0 refl (whole !)))) (load ! (from ! (stop !)) (look ! 2 refl)) tt)
         (from ! (stop !)) (init ! 0 refl (tt, tt)) $
         rewrite ! 0 (λ (p' : ℕ). ‵ (fat full_share ty_ptr l₈ 0 (vptr b p'))) (sym (place_is 12 o i)) refl $

@@ -54,11 +54,11 @@ use denote.Triple.Table.{entered, cited}
 use denote.Triple.Walked.{says, Stays, stay_slice, stay_none, walk_of, Goes-slice, Goes-none, Walks, ends_at, walked, walk_Meets}
 use denote.Exit.{yes}
 use Rattle.base.specs.Tests.{pick as choose}
-use Rattle.records.specs.Records.{zeros, recordIn, put_all}
+use Rattle.records.specs.Records.{zeros, record_in, put_all}
 use Rattle.records.specs.declared.Progress.{Progress}
 use Rattle.records.specs.declared.Flat.{Flat}
-use Rattle.records.proofs.Laws.{offset-fits, nearer, clears-few}
-use Rattle.records.proofs.Stores.{storedTo, length-stored, stored-none, stored_more, stores-all}
+use Rattle.records.proofs.Laws.{offset_fits, nearer, clears_few}
+use Rattle.records.proofs.Stores.{stored_to, length_stored, stored_none, stored_more, stores_all}
 use Rattle.records.proofs.Locals.{rooms, holds, free_all}
 use Rattle.records.specs.contracts.Progress as T
 use Rattle.records.proofs.Progress.TheLaws as T'
@@ -109,8 +109,8 @@ module _ {M : Type 1} {𝓤 : Ura M} (𝓛 : Logic 𝓤) (mem : Memory → SProp
   Count = triple_of 𝓛 cleared.signature (cleared.spec 𝓛 mem run)
 
   of-of : (f : Flat) (i : ℕ) (r : Progress)
-      → ent 𝓤 (ensured 𝓛 record-in.ended (record-in.clauses 𝓛 mem run) tt (f, (i, tt)) tt r) (fact 𝓤 (r ≡ recordIn f i))
-  of-of f i r = ex_e 𝓤 _ (λ ws. snd∗ 𝓤 (sem 𝓛 (lasts record-in.ended tt (f, (i, tt)) ws)) (fact 𝓤 (r ≡ recordIn f i)))
+      → ent 𝓤 (ensured 𝓛 record-in.ended (record-in.clauses 𝓛 mem run) tt (f, (i, tt)) tt r) (fact 𝓤 (r ≡ record_in f i))
+  of-of f i r = ex_e 𝓤 _ (λ ws. snd∗ 𝓤 (sem 𝓛 (lasts record-in.ended tt (f, (i, tt)) ws)) (fact 𝓤 (r ≡ record_in f i)))
 
   count_of : (k n r : ℕ) → ent 𝓤 (ensured 𝓛 cleared.ended (cleared.clauses 𝓛 mem run) tt (k, (n, tt)) tt r) (fact 𝓤 (r ≡ choose (eqb k 0) n 0))
   count_of k n r = ex_e 𝓤 _ (λ ws. snd∗ 𝓤 (sem 𝓛 (lasts cleared.ended tt (k, (n, tt)) ws)) (fact 𝓤 (r ≡ choose (eqb k 0) n 0)))
@@ -169,14 +169,14 @@ module _ {M : Type 1} {𝓤 : Ura M} (𝓛 : Logic 𝓤) (mem : Memory → SProp
   -- the loop, which stores c records
   module _ (c : ℕ) (gc : c < 2 ^ 64) (counts : c ≡ choose (eqb k 0) n 0) where
     pre : c ≤ n
-    pre = clears-few k c ys counts
+    pre = clears_few k c ys counts
 
     -- how far a turn is: i records are stored
     record Upto : Type 0 where
       i : ℕ
       rs : List Progress
       within : i ≤ c
-      is : rs ≡ storedTo f i ys
+      is : rs ≡ stored_to f i ys
 
     abbrev Nearer : Upto → Upto → Type 0
     Nearer t s = c - t.i < c - s.i
@@ -185,26 +185,26 @@ module _ {M : Type 1} {𝓤 : Ura M} (𝓛 : Logic 𝓤) (mem : Memory → SProp
     Nearer-wf = InvImage.wf (λ (s : Upto). c - s.i) lt-wf_rel.wf
 
     abbrev begun : Upto
-    begun = record { i = 0; rs = ys; within = zero-le; is = stored-none f ys }
+    begun = record { i = 0; rs = ys; within = zero-le; is = stored_none f ys }
 
     same : (s : Upto) → length s.rs ≡ n
-    same s = ap (λ (l : List Progress). length l) s.is ∙ length-stored f s.i ys (omega (arith, s.within, pre))
+    same s = ap (λ (l : List Progress). length l) s.is ∙ length_stored f s.i ys (omega (arith, s.within, pre))
 
-    stored_at : (s : Upto) (k : ℕ) → s.i ≡ k → s.rs ≡ storedTo f k ys
-    stored_at s k e = s.is ∙ ap (λ (j : ℕ). storedTo f j ys) e
+    stored_at : (s : Upto) (k : ℕ) → s.i ≡ k → s.rs ≡ stored_to f k ys
+    stored_at s k e = s.is ∙ ap (λ (j : ℕ). stored_to f j ys) e
 
     all : (s : Upto) → c ≤ s.i → s.rs ≡ put_all k f ys
-    all s over = stored_at s c (omega (arith, over, s.within)) ∙ stores-all f k c ys counts
+    all s over = stored_at s c (omega (arith, over, s.within)) ∙ stores_all f k c ys counts
 
-    next-is : (s : Upto) → s.i < c → (r : Progress) → r ≡ recordIn f s.i → set s.rs s.i r ≡ storedTo f (s.i + 1) ys
-    next-is s less r e = ap (λ (p : Progress). set s.rs s.i p) e ∙ ap (λ (l : List Progress). set l s.i (recordIn f s.i)) s.is ∙
+    next_is : (s : Upto) → s.i < c → (r : Progress) → r ≡ record_in f s.i → set s.rs s.i r ≡ stored_to f (s.i + 1) ys
+    next_is s less r e = ap (λ (p : Progress). set s.rs s.i p) e ∙ ap (λ (l : List Progress). set l s.i (record_in f s.i)) s.is ∙
         stored_more f s.i ys (omega (arith, less, pre))
 
     next-within : (s : Upto) → s.i < c → s.i + 1 ≤ c
     next-within s less = omega (arith, less)
 
-    abbrev after : (s : Upto) → s.i < c → (r : Progress) → r ≡ recordIn f s.i → Upto
-    after s less r e = record { i = s.i + 1; rs = set s.rs s.i r; within = next-within s less; is = next-is s less r e }
+    abbrev after : (s : Upto) → s.i < c → (r : Progress) → r ≡ record_in f s.i → Upto
+    after s less r e = record { i = s.i + 1; rs = set s.rs s.i r; within = next-within s less; is = next_is s less r e }
 
     module _ (𝓣 : Tables 𝓤 H) (known : Triple 𝓤 (𝓣.C #records·record-in) (Of 𝓛 mem run)) (l₀ l₁ l₂ l₃ l₄ l₅ l₆ l₇ l₈ l₉ l₁₀ : ℕ) where
       abbrev C : Calls 𝓤 H
@@ -271,14 +271,14 @@ module _ {M : Type 1} {𝓤 : Ura M} (𝓛 : Logic 𝓤) (mem : Memory → SProp
           pick ! (λ r.
           split ! $
           move ! (1 ∷ []) $
-          use1 𝓛 (raw (fact 𝓤 (r ≡ recordIn f s.i))) (of-of 𝓛 mem run f s.i r) $
-          heard ! (r ≡ recordIn f s.i) (λ e.
+          use1 𝓛 (raw (fact 𝓤 (r ≡ record_in f s.i))) (of-of 𝓛 mem run f s.i r) $
+          heard ! (r ≡ record_in f s.i) (λ e.
           split ! $
           move ! (1 ∷ []) $
           peeks ! R (Is R) (shows 𝓛 R) r (w ∷ []) (λ is.
           land ! (from ! (stop !)) (init ! 6 refl ((LL.lawful T.the_type T'.the_laws 𝓛).typed r _ is).0) $
-          assigns ! (bin ! (load ! (from ! (stop !)) (look ! 12 refl)) (lit ! tt) (record { fits = offset-fits n s.i gn.1 inside }))
-          (from ! (stop !)) (init ! 4 refl (tt, record { fits = offset-fits n s.i gn.1 inside })) $
+          assigns ! (bin ! (load ! (from ! (stop !)) (look ! 12 refl)) (lit ! tt) (record { fits = offset_fits n s.i gn.1 inside }))
+          (from ! (stop !)) (init ! 4 refl (tt, record { fits = offset_fits n s.i gn.1 inside })) $
           assigns ! (bin ! (load ! (from ! (fld ! refl (stop !))) (look_in ! 20 (sub ! 0 refl (whole !)))) (load ! (from ! (stop !)) (look ! 4 refl))
           tt) (from ! (stop !)) (init ! 2 refl (tt, tt)) $
           rewrite ! 2 (λ (p' : ℕ). ‵ (fat full_share ty_ptr l₁₀ 0 (vptr b p'))) (sym (place_is 12 o s.i)) refl $

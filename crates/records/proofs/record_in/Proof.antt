@@ -1,6 +1,6 @@
 use native.Mathlib.Omega.{arith}
 use borrow.Author.Rules.{rules}
-use Rattle.records.proofs.Stores.{in-words, beyond-words}
+use Rattle.records.proofs.Stores.{in_words_lem, beyond_words}
 use Rattle.records.proofs.record_in.Statement.{statement}
 use Rattle.records.proofs.record_in.Tie as tie
 
@@ -8,7 +8,7 @@ zero-requires : tie.Need-zero-requires
 zero-requires c κs = search rules
 
 returns : tie.Need-returns
-returns c = beyond-words _ _ _ c.zero.ensures (omega (arith, c.before.if1.true))
+returns c = beyond_words _ _ _ c.zero.ensures (omega (arith, c.before.if1.true))
 
 mul-t5 : tie.Need-overflow-mul-t5
 mul-t5 c = search rules
@@ -44,7 +44,7 @@ array-read-t21 : tie.Need-array-read-t21
 array-read-t21 c = search rules
 
 returns-2 : tie.Need-returns-2
-returns-2 c = in-words _ _ (omega (arith, c.before.if1.false))
+returns-2 c = in_words_lem _ _ (omega (arith, c.before.if1.false))
 
 pub record-in-spec : {M : Type 1} → statement M
 record-in-spec =

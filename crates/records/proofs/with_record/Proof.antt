@@ -1,6 +1,6 @@
 use native.Mathlib.Omega.{arith}
 use borrow.Author.Rules.{rules}
-use Rattle.records.proofs.Laws.{written, unwritten, with-written}
+use Rattle.records.proofs.Laws.{written, unwritten, with_written}
 use Rattle.records.proofs.with_record.Statement.{statement}
 use Rattle.records.proofs.with_record.Tie as tie
 
@@ -38,10 +38,10 @@ array-write-words-3 : tie.Need-array-write-words-3
 array-write-words-3 c = search rules
 
 returns : tie.Need-returns
-returns c = with-written _ _ _ _ (written _ _ _ (omega (arith, c.if1.true)))
+returns c = with_written _ _ _ _ (written _ _ _ (omega (arith, c.if1.true)))
 
 returns-2 : tie.Need-returns-2
-returns-2 c = with-written _ _ _ _ (unwritten _ _ _ (omega (arith, c.if1.false)))
+returns-2 c = with_written _ _ _ _ (unwritten _ _ _ (omega (arith, c.if1.false)))
 
 pub with-record-spec : {M : Type 1} → statement M
 with-record-spec =

@@ -69,7 +69,7 @@ loop-again c =
 returns : tie.Need-returns invariant-loop decreases-loop
 returns c =
     let loop = c.before.loop in
-    L.ahead-end _ _ _ _ _ _ _ loop.invariant.1 _ loop.invariant.0 c.loop-test.false
+    L.ahead_end _ _ _ _ _ _ _ loop.invariant.1 _ loop.invariant.0 c.loop-test.false
 
 pub ahead-of-spec : {M : Type 1} → statement M
 ahead-of-spec =

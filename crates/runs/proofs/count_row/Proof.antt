@@ -15,7 +15,7 @@ add-to : tie.Need-overflow-add-to invariant-loop decreases-loop
 add-to c = omega (arith, c.requires.1)
 
 loop-holds : tie.Need-loop-init invariant-loop decreases-loop
-loop-holds c = L.counts-none _ _ _ _ _
+loop-holds c = L.counts_none _ _ _ _ _
 
 piece-of-requires : tie.Need-piece-of-requires invariant-loop decreases-loop
 piece-of-requires c κs = (c.before.before.requires.0, c.loop-test.true)
@@ -24,7 +24,7 @@ add-count : tie.Need-overflow-add-count invariant-loop decreases-loop
 add-count c =
     let at-loop = c.before.before.before in
     let start = at-loop.before in
-    omega (arith, start.requires.1, L.counts-few _ _ _ _ _ _ _ at-loop.loop.invariant _ _ c.before.piece_of.ensures)
+    omega (arith, start.requires.1, L.counts_few _ _ _ _ _ _ _ at-loop.loop.invariant _ _ c.before.piece_of.ensures)
 
 loop-less : tie.Need-loop-smaller invariant-loop decreases-loop
 loop-less c =
@@ -32,7 +32,7 @@ loop-less c =
     omega (arith, piece_of.ensures.some, piece_of.ensures.cut)
 
 loop-again : tie.Need-loop-preserved invariant-loop decreases-loop
-loop-again c = L.counts-more _ _ _ _ _ _ _ c.before.before.before.loop.invariant _ _ c.before.piece_of.ensures
+loop-again c = L.counts_more _ _ _ _ _ _ _ c.before.before.before.loop.invariant _ _ c.before.piece_of.ensures
 
 returns : tie.Need-returns invariant-loop decreases-loop
 returns c = L.counts_end _ _ _ _ _ _ _ c.before.loop.invariant c.loop-test.false

@@ -8,7 +8,7 @@ ahead-of-requires : tie.Need-ahead-of-requires
 ahead-of-requires c κs = c.requires
 
 returns : tie.Need-returns
-returns c = L.piece-none _ _ _ _ _ _ _ c.before.before.ahead_of.ensures c.if1.true
+returns c = L.piece_none _ _ _ _ _ _ _ c.before.before.ahead_of.ensures c.if1.true
 
 sub-t8 : tie.Need-overflow-sub-t8
 sub-t8 c =
@@ -30,7 +30,7 @@ returns-3 : tie.Need-returns-3
 returns-3 c =
     let at-if1 = c.before.before.before in
     let at-ahead-of = at-if1.before.before in
-    L.piece-all _ _ _ _ _ _ _ at-ahead-of.ahead_of.ensures at-if1.if1.false c.before.if2.false
+    L.piece_all _ _ _ _ _ _ _ at-ahead-of.ahead_of.ensures at-if1.if1.false c.before.if2.false
 
 pub piece-of-spec : {M : Type 1} → statement M
 piece-of-spec =

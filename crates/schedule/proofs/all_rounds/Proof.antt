@@ -33,8 +33,8 @@ rounds-by-requires c κs =
         record {
           planned = S.requires.0.0;
           listed = list.ensures.1;
-          bySender = chain-ends.ensures;
-          byTaker = chain-ends2.ensures;
+          by_sender = chain-ends.ensures;
+          by_taker = chain-ends2.ensures;
           few =
               list.ensures.1.few;
         },

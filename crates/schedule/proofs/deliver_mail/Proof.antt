@@ -16,7 +16,7 @@ decreases-loop status₀ m₀ status m = length status₀ - m
 
 loop-holds : tie.Need-loop-init invariant-loop decreases-loop
 loop-holds c =
-    laws.mail-start c.before.args.status.now
+    laws.mail_start c.before.args.status.now
 
 slice-read-mark-then : tie.Need-slice-read-mark-then invariant-loop decreases-loop
 slice-read-mark-then c =
@@ -43,7 +43,7 @@ loop-again c =
     let at-loop = c.before.before.before in
     let start = at-loop.before.before in
     let loop = at-loop.loop in
-    laws.mail-next start.args.status.now loop.status loop.m loop.invariant (omega (arith, c.before.before.loop-test.true, loop.invariant.long)) _
+    laws.mail_next start.args.status.now loop.status loop.m loop.invariant (omega (arith, c.before.before.loop-test.true, loop.invariant.long)) _
     (ap (set loop.status loop.m) c.mark-then.ensures)
 
 same_length : tie.Need-same-length invariant-loop decreases-loop
@@ -53,7 +53,7 @@ same_length c =
 returns : tie.Need-returns invariant-loop decreases-loop
 returns c =
     let loop = c.before.loop in
-    laws.mail-done c.before.before.before.args.status.now loop.status loop.m loop.invariant c.loop-test.false
+    laws.mail_done c.before.before.before.args.status.now loop.status loop.m loop.invariant c.loop-test.false
 
 pub deliver-mail-spec : {M : Type 1} → statement M
 deliver-mail-spec =

@@ -3,7 +3,7 @@ use native.Mathlib.Omega.{arith}
 use mathlib.Core.Path.{◌∙◌}
 use Rattle.core.specs.Prelude.{◌-◌, length}
 use Rattle.plan.specs.Shaped.{plan_of}
-use Rattle.machine.specs.Plan.{count, takerOf}
+use Rattle.machine.specs.Plan.{count, taker_of}
 use Rattle.schedule.proofs.Telling as telling
 use Rattle.schedule.proofs.Chains as chains
 use Rattle.schedule.proofs.Laws as laws
@@ -25,17 +25,17 @@ first-requires c κs =
 loop-holds : tie.Need-loop-init invariant-loop decreases-loop
 loop-holds c =
     let S = c.before.before.before.before in
-    laws.gather-start S.args.sizes.route S.args.nest S.args.t _ _ _ _ c.first.ensures
+    laws.gather_start S.args.sizes.route S.args.nest S.args.t _ _ _ _ c.first.ensures
 
 spot-requires : tie.Need-spot-requires invariant-loop decreases-loop
 spot-requires c κs =
     let S = c.before.before.before.before.before.before in
-    (S.requires.0.0, (S.requires.0.1, omega (arith, c.loop-test.true, c.before.loop.invariant.gathering.longStatus, S.requires.1.0.0.marks)))
+    (S.requires.0.0, (S.requires.0.1, omega (arith, c.loop-test.true, c.before.loop.invariant.gathering.long_status, S.requires.1.0.0.marks)))
 
 take-message-requires : tie.Need-take-message-requires invariant-loop decreases-loop
 take-message-requires c κs =
     let S = c.before.before.before.before.before.before.before.before in (
-      (S.requires.0.0.0, (S.requires.0.0.1, telling.found-self _ _ _ _ c.before.spot.ensures)),
+      (S.requires.0.0.0, (S.requires.0.0.1, telling.found_self _ _ _ _ c.before.spot.ensures)),
       (c.before.before.before.loop.invariant.gathering.long ∙ S.requires.1.1.0, S.requires.1.1.1),
     )
 
@@ -52,11 +52,11 @@ next-requires c κs =
     let loop = at-loop.loop in (
       S.requires.1.0.0.chained,
       (
-        omega (arith, loop-test.true, loop.invariant.gathering.longStatus, S.requires.1.0.0.marks),
+        omega (arith, loop-test.true, loop.invariant.gathering.long_status, S.requires.1.0.0.marks),
         (
-          omega (arith, loop-test.true, loop.invariant.gathering.longStatus, S.requires.1.0.0.marks, S.requires.1.0.0.few),
-          chains.walk-tile (takerOf (plan_of S.args.sizes.route S.args.nest)) (count (plan_of S.args.sizes.route S.args.nest)) S.args.t
-              loop.invariant.j loop.m loop.invariant.spot (omega (arith, loop-test.true, loop.invariant.gathering.longStatus, S.requires.1.0.0.marks)),
+          omega (arith, loop-test.true, loop.invariant.gathering.long_status, S.requires.1.0.0.marks, S.requires.1.0.0.few),
+          chains.walk_tile (taker_of (plan_of S.args.sizes.route S.args.nest)) (count (plan_of S.args.sizes.route S.args.nest)) S.args.t
+              loop.invariant.j loop.m loop.invariant.spot (omega (arith, loop-test.true, loop.invariant.gathering.long_status, S.requires.1.0.0.marks)),
         ),
       ),
     )
@@ -71,10 +71,10 @@ loop-less c =
     omega (
       arith,
       loop-test.true,
-      loop.invariant.gathering.longStatus,
-      chains.walk_more (takerOf (plan_of S.args.sizes.route S.args.nest))
+      loop.invariant.gathering.long_status,
+      chains.walk_more (taker_of (plan_of S.args.sizes.route S.args.nest))
           (count (plan_of S.args.sizes.route S.args.nest)) S.args.t loop.invariant.j loop.m loop.invariant.spot
-          (omega (arith, loop-test.true, loop.invariant.gathering.longStatus, S.requires.1.0.0.marks)) _ c.next.ensures,
+          (omega (arith, loop-test.true, loop.invariant.gathering.long_status, S.requires.1.0.0.marks)) _ c.next.ensures,
     )
 
 loop-again : tie.Need-loop-preserved invariant-loop decreases-loop
@@ -87,8 +87,8 @@ loop-again c =
     let loop = at-loop.loop in
     let spot = at-spot.spot in
     let take-message = at-take-message.take-message in
-    laws.gather-next S.args.sizes.route S.args.nest S.args.t _ _ _ _ _ _ loop.invariant
-    (omega (arith, at-loop-test.loop-test.true, loop.invariant.gathering.longStatus, S.requires.1.0.0.marks)) spot.result spot.ensures _
+    laws.gather_next S.args.sizes.route S.args.nest S.args.t _ _ _ _ _ _ loop.invariant
+    (omega (arith, at-loop-test.loop-test.true, loop.invariant.gathering.long_status, S.requires.1.0.0.marks)) spot.result spot.ensures _
     take-message.auto.1.1.1.0 take-message.ensures _ c.next.ensures
 
 same_length : tie.Need-same-length invariant-loop decreases-loop
@@ -97,14 +97,14 @@ same_length c =
 
 same-length-2 : tie.Need-same-length-2 invariant-loop decreases-loop
 same-length-2 c =
-    c.before.loop.invariant.gathering.longStatus
+    c.before.loop.invariant.gathering.long_status
 
 returns : tie.Need-returns invariant-loop decreases-loop
 returns c =
     let S = c.before.before.before.before.before.before in
     let loop = c.before.loop in
-    laws.gather-done S.args.sizes.route S.args.nest S.args.t _ _ _ _ _ _ loop.invariant
-    (omega (arith, c.loop-test.false, loop.invariant.gathering.longStatus, S.requires.1.0.0.marks))
+    laws.gather_done S.args.sizes.route S.args.nest S.args.t _ _ _ _ _ _ loop.invariant
+    (omega (arith, c.loop-test.false, loop.invariant.gathering.long_status, S.requires.1.0.0.marks))
 
 pub gather-spec : {M : Type 1} → statement M
 gather-spec =

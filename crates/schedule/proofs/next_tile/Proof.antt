@@ -3,7 +3,7 @@ use native.Mathlib.Omega.{arith}
 use mathlib.Core.Path.{refl, sym, ap, ◌∙◌}
 use Rattle.core.specs.Prelude.{ℕ, ◌*◌, get_or}
 use borrow.Author.Tests.{not-true, not-false}
-use Rattle.machine.specs.Plan.{tilesOf}
+use Rattle.machine.specs.Plan.{tiles_of}
 use Rattle.machine.specs.Machine.{state_of}
 use Rattle.nest.specs.Nest.{cells, processors}
 use Rattle.plan.specs.Shaped.{plan_of}
@@ -40,7 +40,7 @@ tile-count-requires c κs =
 returns : tie.Need-returns
 returns c =
     let S = c.before.before.before.before.before.before.before.before.before in
-    laws.tile-over (plan_of S.args.sizes.route S.args.nest) S.args.source.now
+    laws.tile_over (plan_of S.args.sizes.route S.args.nest) S.args.source.now
     (state_of S.args.memories.now S.args.buffer.now S.args.progress.now S.args.status.now) S.args.b
     (omega (arith, c.before.tile-count.ensures.0, c.before.before.word-index.ensures, c.if1.true))
 
@@ -52,9 +52,9 @@ tile-at-requires c κs =
 ready-requires : tie.Need-ready-requires
 ready-requires c κs =
     let S = c.before.before.before.before.before.before.before.before.before.before.before in (
-      record { chained = S.requires.0.0.byTaker; marks = S.requires.1.status; few = S.requires.0.0.few },
+      record { chained = S.requires.0.0.by_taker; marks = S.requires.1.status; few = S.requires.0.0.few },
       omega
-          (arith, c.before.tile-at.ensures.1, L.tiles-few _ _ _ S.requires.0.0.planned.0 S.requires.0.0.planned.1),
+          (arith, c.before.tile-at.ensures.1, L.tiles_few _ _ _ S.requires.0.0.planned.0 S.requires.0.0.planned.1),
     )
 
 same_length : tie.Need-same-length
@@ -68,25 +68,25 @@ returns-2 c =
     let S = at-word-index.before.before.before.before.before.before.before in
     let tile-at = at-tile-at.tile-at in
     let word-index = at-word-index.word-index in
-    laws.tile-waits (plan_of S.args.sizes.route S.args.nest) S.args.source.now (state_of S.args.memories.now S.args.buffer.now
+    laws.tile_waits (plan_of S.args.sizes.route S.args.nest) S.args.source.now (state_of S.args.memories.now S.args.buffer.now
     S.args.progress.now S.args.status.now) S.args.b tile-at.result
-    (tile-at.ensures.0 ∙ ap (λ (k : ℕ). get_or (tilesOf (plan_of S.args.sizes.route S.args.nest) S.args.b) k 0) word-index.ensures)
+    (tile-at.ensures.0 ∙ ap (λ (k : ℕ). get_or (tiles_of (plan_of S.args.sizes.route S.args.nest) S.args.b) k 0) word-index.ensures)
     (sym c.before.ready.ensures ∙ not-true _ c.if2.true)
 
 mul-base : tie.Need-overflow-mul-base
 mul-base c =
     let S = c.before.before.before.before.before.before.before.before.before.before.before.before.before in
-    omega (arith, laws.part-few _ _ S.requires.0.0.planned.0 _ S.requires.0.1.1)
+    omega (arith, laws.part_few _ _ S.requires.0.0.planned.0 _ S.requires.0.1.1)
 
 add-end : tie.Need-overflow-add-end
 add-end c =
     let S = c.before.before.before.before.before.before.before.before.before.before.before.before.before in
-    omega (arith, laws.part-few _ _ S.requires.0.0.planned.0 _ S.requires.0.1.1)
+    omega (arith, laws.part_few _ _ S.requires.0.0.planned.0 _ S.requires.0.1.1)
 
 mul-whole-tile : tie.Need-overflow-mul-whole-tile
 mul-whole-tile c =
     let S = c.before.before.before.before.before.before.before.before.before.before.before.before.before in
-    omega (arith, laws.part-few _ _ S.requires.0.0.planned.0 _ S.requires.0.1.1)
+    omega (arith, laws.part_few _ _ S.requires.0.0.planned.0 _ S.requires.0.1.1)
 
 sub-whole-tile : tie.Need-overflow-sub-whole-tile
 sub-whole-tile c =
@@ -109,7 +109,7 @@ whole-tile-requires c κs =
       (
         (
           S.requires.0.1.0,
-          parts.mid-length S.args.memories.now (S.args.b * S.args.sizes.cells) S.args.sizes.cells
+          parts.mid_length S.args.memories.now (S.args.b * S.args.sizes.cells) S.args.sizes.cells
               (parts.room (processors S.args.nest) S.args.b S.args.sizes.cells (cells S.args.nest) _ S.requires.0.1.1
               S.requires.0.0.planned.0.cells S.requires.1.memories) ∙ S.requires.0.0.planned.0.cells,
         ),
@@ -165,11 +165,11 @@ returns-3 c =
     let ready = at_ready.ready in
     let if2 = at-if2.if2 in
     let whole-tile = at-whole-tile.whole-tile in
-    laws.tile-does (plan_of S.args.sizes.route S.args.nest) S.args.source.now (state_of S.args.memories.now S.args.buffer.now
+    laws.tile_does (plan_of S.args.sizes.route S.args.nest) S.args.source.now (state_of S.args.memories.now S.args.buffer.now
     S.args.progress.now S.args.status.now) S.args.b tile-at.result
-    (tile-at.ensures.0 ∙ ap (λ (k : ℕ). get_or (tilesOf (plan_of S.args.sizes.route S.args.nest) S.args.b) k 0) word-index.ensures)
+    (tile-at.ensures.0 ∙ ap (λ (k : ℕ). get_or (tiles_of (plan_of S.args.sizes.route S.args.nest) S.args.b) k 0) word-index.ensures)
     (omega (arith, tile-count.ensures.0, word-index.ensures, if1.false)) (sym ready.ensures ∙ not-false _ if2.false) _
-    (laws.tile-now S.args.sizes.route S.args.nest S.args.source.now (state_of S.args.memories.now S.args.buffer.now
+    (laws.tile_now S.args.sizes.route S.args.nest S.args.source.now (state_of S.args.memories.now S.args.buffer.now
     S.args.progress.now S.args.status.now) S.args.b tile-at.result _ S.args.sizes.cells S.requires.0.0.planned.0.cells S.requires.1
     S.requires.0.1.1 refl _ _ _ _ (parts.room (processors S.args.nest) S.args.b S.args.sizes.cells (cells S.args.nest) _ S.requires.0.1.1
     S.requires.0.0.planned.0.cells S.requires.1.memories) whole-tile.auto.1.1.1.1.1.1.1.0 whole-tile.ensures.0 whole-tile.ensures.1.0

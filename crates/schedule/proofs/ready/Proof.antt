@@ -2,7 +2,7 @@
 use native.Mathlib.Omega.{arith}
 use Rattle.core.specs.Prelude.{◌-◌, length}
 use Rattle.plan.specs.Shaped.{plan_of}
-use Rattle.machine.specs.Plan.{count, takerOf}
+use Rattle.machine.specs.Plan.{count, taker_of}
 use Rattle.schedule.proofs.Chains as chains
 use Rattle.schedule.proofs.Laws as laws
 use Rattle.schedule.proofs.ready.Statement.{statement}
@@ -23,7 +23,7 @@ first-requires c κs =
 loop-holds : tie.Need-loop-init invariant-loop decreases-loop
 loop-holds c =
     let S = c.before.before in
-    laws.ready-start (plan_of S.args.sizes.route S.args.nest) S.args.t _ _ c.first.ensures
+    laws.ready_start (plan_of S.args.sizes.route S.args.nest) S.args.t _ _ c.first.ensures
 
 shared-slice-read-if1 : tie.Need-shared-slice-read-if1 invariant-loop decreases-loop
 shared-slice-read-if1 c =
@@ -33,7 +33,7 @@ returns : tie.Need-returns invariant-loop decreases-loop
 returns c =
     let S = c.before.before.before.before.before.before in
     let loop = c.before.before.before.loop in
-    laws.ready-no (plan_of S.args.sizes.route S.args.nest) S.args.t _ _ loop.invariant
+    laws.ready_no (plan_of S.args.sizes.route S.args.nest) S.args.t _ _ loop.invariant
     (omega (arith, c.before.before.loop-test.true, S.requires.0.marks)) c.if1.true
 
 next-requires : tie.Need-next-requires invariant-loop decreases-loop
@@ -46,7 +46,7 @@ next-requires c κs =
         omega (arith, loop-test.true, S.requires.0.marks),
         (
           omega (arith, loop-test.true, S.requires.0.marks, S.requires.0.few),
-          chains.walk-tile (takerOf (plan_of S.args.sizes.route S.args.nest))
+          chains.walk_tile (taker_of (plan_of S.args.sizes.route S.args.nest))
               (count (plan_of S.args.sizes.route S.args.nest)) S.args.t loop.invariant.j loop.m loop.invariant.spot
               (omega (arith, loop-test.true, S.requires.0.marks)),
         ),
@@ -63,7 +63,7 @@ loop-less c =
     omega (
       arith,
       loop-test.true,
-      chains.walk_more (takerOf (plan_of S.args.sizes.route S.args.nest))
+      chains.walk_more (taker_of (plan_of S.args.sizes.route S.args.nest))
           (count (plan_of S.args.sizes.route S.args.nest)) S.args.t loop.invariant.j loop.m loop.invariant.spot
           (omega (arith, loop-test.true, S.requires.0.marks)) _ c.next.ensures,
     )
@@ -74,14 +74,14 @@ loop-again c =
     let at-loop = at-loop-test.before in
     let S = at-loop.before.before.before in
     let loop = at-loop.loop in
-    laws.ready-next (plan_of S.args.sizes.route S.args.nest) S.args.t _ _ loop.invariant
+    laws.ready_next (plan_of S.args.sizes.route S.args.nest) S.args.t _ _ loop.invariant
     (omega (arith, at-loop-test.loop-test.true, S.requires.0.marks)) c.before.if1.false _ c.next.ensures
 
 returns-2 : tie.Need-returns-2 invariant-loop decreases-loop
 returns-2 c =
     let S = c.before.before.before.before in
     let loop = c.before.loop in
-    laws.ready-done (plan_of S.args.sizes.route S.args.nest) S.args.t _ _ loop.invariant (omega (arith, c.loop-test.false, S.requires.0.marks))
+    laws.ready_done (plan_of S.args.sizes.route S.args.nest) S.args.t _ _ loop.invariant (omega (arith, c.loop-test.false, S.requires.0.marks))
 
 pub ready-spec : {M : Type 1} → statement M
 ready-spec =

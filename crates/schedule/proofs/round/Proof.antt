@@ -20,7 +20,7 @@ decreases-loop nest sizes lens spots sends dues source memories₀ buffer₀ pro
 loop-holds : tie.Need-loop-init invariant-loop decreases-loop
 loop-holds c =
     let S = c.before.before.before.before.before in
-    laws.tiles-start (plan_of S.args.sizes.route S.args.nest) S.args.source.now
+    laws.tiles_start (plan_of S.args.sizes.route S.args.nest) S.args.source.now
     (state_of S.args.memories.now S.args.buffer.now S.args.progress.now S.args.status.now) S.args.sizes.processors
 
 next-tile-requires : tie.Need-next-tile-requires invariant-loop decreases-loop
@@ -30,7 +30,7 @@ next-tile-requires c κs =
     let S = at-loop.before.before.before.before.before.before in
     let loop = at-loop.loop in (
       (S.requires.0.0, (S.requires.0.1, omega (arith, at-loop-test.loop-test.true, S.requires.0.0.planned.0.processors))),
-      laws.tiles-lent (plan_of S.args.sizes.route S.args.nest) S.args.source.now (state_of S.args.memories.now S.args.buffer.now
+      laws.tiles_lent (plan_of S.args.sizes.route S.args.nest) S.args.source.now (state_of S.args.memories.now S.args.buffer.now
           S.args.progress.now S.args.status.now) (state_of loop.memories loop.buffer loop.progress loop.status)
           S.args.sizes.processors
           loop.b loop.invariant S.requires.1,
@@ -41,7 +41,7 @@ add-b c =
     let at-loop-test = c.before.before.before.before.before.before.before.before.before.before.before.before.before in
     let S = at-loop-test.before.before.before.before.before.before.before in
     let loop-test = at-loop-test.loop-test in
-    omega (arith, loop-test.true, S.requires.0.0.planned.0.processors, S.requires.0.0.planned.0.accepted.processors-most)
+    omega (arith, loop-test.true, S.requires.0.0.planned.0.processors, S.requires.0.0.planned.0.accepted.processors_most)
 
 loop-less : tie.Need-loop-smaller invariant-loop decreases-loop
 loop-less c =
@@ -55,11 +55,11 @@ loop-again c =
     let S = at-loop.before.before.before.before.before.before in
     let loop = at-loop.loop in
     let loop-test = at-loop-test.loop-test in
-    let next-tile = at-next-tile.next-tile in
-    laws.tiles-next (plan_of S.args.sizes.route S.args.nest) S.args.source.now (state_of S.args.memories.now S.args.buffer.now
+    let next_tile = at-next-tile.next_tile in
+    laws.tiles_next (plan_of S.args.sizes.route S.args.nest) S.args.source.now (state_of S.args.memories.now S.args.buffer.now
     S.args.progress.now S.args.status.now) (state_of loop.memories loop.buffer loop.progress loop.status) S.args.sizes.processors
-    loop.b loop.invariant loop-test.true _ next-tile.auto.1.1.1.1.1.1.1.0 next-tile.auto.1.1.1.1.1.1.1.1.0
-    next-tile.auto.1.1.1.1.1.1.1.1.1.0 next-tile.auto.1.1.1.1.1.1.1.1.1.1.0 next-tile.ensures
+    loop.b loop.invariant loop-test.true _ next_tile.auto.1.1.1.1.1.1.1.0 next_tile.auto.1.1.1.1.1.1.1.1.0
+    next_tile.auto.1.1.1.1.1.1.1.1.1.0 next_tile.auto.1.1.1.1.1.1.1.1.1.1.0 next_tile.ensures
 
 deliver-mail-requires : tie.Need-deliver-mail-requires invariant-loop decreases-loop
 deliver-mail-requires c κs =
@@ -84,14 +84,14 @@ same-length-4 c =
 returns : tie.Need-returns invariant-loop decreases-loop
 returns c =
     let deliver-mail = c.before.before.deliver-mail in
-    let at-end = c.before.before.before.before in
-    let loop = at-end.before.loop in
-    let S = at-end.before.before.before.before.before.before.before in
+    let at_end_lem = c.before.before.before.before in
+    let loop = at_end_lem.before.loop in
+    let S = at_end_lem.before.before.before.before.before.before.before in
     let p = plan_of S.args.sizes.route S.args.nest in
     let s = state_of S.args.memories.now S.args.buffer.now S.args.progress.now S.args.status.now in
     let x = state_of loop.memories loop.buffer loop.progress loop.status in
-    laws.round-done p S.args.source.now s x deliver-mail.new.0
-    (laws.tiles-done p S.args.source.now s x S.args.sizes.processors loop.b loop.invariant at-end.loop-test.false (processors S.args.nest)
+    laws.round_done p S.args.source.now s x deliver-mail.new.0
+    (laws.tiles_done p S.args.source.now s x S.args.sizes.processors loop.b loop.invariant at_end_lem.loop-test.false (processors S.args.nest)
     S.requires.0.0.planned.0.processors) deliver-mail.ensures
 
 pub round-spec : {M : Type 1} → statement M

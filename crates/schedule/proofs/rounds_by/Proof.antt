@@ -21,7 +21,7 @@ decreases-loop nest sizes lens spots sends dues source memories₀ buffer₀ pro
 loop-holds : tie.Need-loop-init invariant-loop decreases-loop
 loop-holds c =
     let S = c.before.before.before.before.before in
-    laws.rounds-start (plan_of S.args.sizes.route S.args.nest)
+    laws.rounds_start (plan_of S.args.sizes.route S.args.nest)
     (sound S.args.sizes.route S.args.nest S.requires.0.0.planned.0.accepted) S.args.source.now
     (state_of S.args.memories.now S.args.buffer.now S.args.progress.now S.args.status.now) S.requires.1
 
@@ -32,7 +32,7 @@ tiles-left-requires c κs =
       S.requires.0.0.planned.0,
       (
         S.requires.0.0.planned.1,
-        (laws.rounds-lent (plan_of S.args.sizes.route S.args.nest)
+        (laws.rounds_lent (plan_of S.args.sizes.route S.args.nest)
             (sound S.args.sizes.route S.args.nest S.requires.0.0.planned.0.accepted) S.args.source.now
             (state_of S.args.memories.now S.args.buffer.now S.args.progress.now S.args.status.now)
             (state_of loop.memories loop.buffer loop.progress loop.status) loop.done loop.invariant).progress,
@@ -44,7 +44,7 @@ round-requires c κs =
     let S = c.before.before.before.before.before.before.before.before.before.before.before.before.before in
     let loop = c.before.before.before.before.before.before.before.loop in (
       S.requires.0,
-      laws.rounds-lent (plan_of S.args.sizes.route S.args.nest)
+      laws.rounds_lent (plan_of S.args.sizes.route S.args.nest)
           (sound S.args.sizes.route S.args.nest S.requires.0.0.planned.0.accepted) S.args.source.now
           (state_of S.args.memories.now S.args.buffer.now S.args.progress.now S.args.status.now)
           (state_of loop.memories loop.buffer loop.progress loop.status) loop.done loop.invariant,
@@ -57,18 +57,18 @@ add_done c =
     let at-loop = at-tiles-left.before.before in
     let S = at-loop.before.before.before.before.before.before in
     let loop = at-loop.loop in
-    let tiles-left = at-tiles-left.tiles-left in
+    let tiles_left = at-tiles-left.tiles_left in
     let if1 = at-if1.if1 in
     omega (
       arith,
-      laws.rounds-more (plan_of S.args.sizes.route S.args.nest) (sound S.args.sizes.route S.args.nest
+      laws.rounds_more (plan_of S.args.sizes.route S.args.nest) (sound S.args.sizes.route S.args.nest
           S.requires.0.0.planned.0.accepted) S.args.source.now (state_of S.args.memories.now S.args.buffer.now S.args.progress.now
           S.args.status.now) (state_of loop.memories loop.buffer loop.progress loop.status) loop.done loop.invariant
-          (sym tiles-left.ensures ∙ if1.true),
-      laws.rounds-few (plan_of S.args.sizes.route S.args.nest) (sound S.args.sizes.route S.args.nest
+          (sym tiles_left.ensures ∙ if1.true),
+      laws.rounds_few (plan_of S.args.sizes.route S.args.nest) (sound S.args.sizes.route S.args.nest
           S.requires.0.0.planned.0.accepted) S.args.source.now (state_of S.args.memories.now S.args.buffer.now S.args.progress.now
           S.args.status.now),
-      laws.tiles-low S.args.sizes.route S.args.nest S.requires.0.0.planned.0.accepted,
+      laws.tiles_low S.args.sizes.route S.args.nest S.requires.0.0.planned.0.accepted,
     )
 
 loop-less : tie.Need-loop-smaller invariant-loop decreases-loop
@@ -78,14 +78,14 @@ loop-less c =
     let at-loop = at-tiles-left.before.before in
     let S = at-loop.before.before.before.before.before.before in
     let loop = at-loop.loop in
-    let tiles-left = at-tiles-left.tiles-left in
+    let tiles_left = at-tiles-left.tiles_left in
     let if1 = at-if1.if1 in
     omega (
       arith,
-      laws.rounds-more (plan_of S.args.sizes.route S.args.nest) (sound S.args.sizes.route S.args.nest
+      laws.rounds_more (plan_of S.args.sizes.route S.args.nest) (sound S.args.sizes.route S.args.nest
           S.requires.0.0.planned.0.accepted) S.args.source.now (state_of S.args.memories.now S.args.buffer.now S.args.progress.now
           S.args.status.now) (state_of loop.memories loop.buffer loop.progress loop.status) loop.done loop.invariant
-          (sym tiles-left.ensures ∙ if1.true),
+          (sym tiles_left.ensures ∙ if1.true),
     )
 
 loop-again : tie.Need-loop-preserved invariant-loop decreases-loop
@@ -96,15 +96,15 @@ loop-again c =
     let at-loop = at-tiles-left.before.before in
     let S = at-loop.before.before.before.before.before.before in
     let loop = at-loop.loop in
-    let tiles-left = at-tiles-left.tiles-left in
+    let tiles_left = at-tiles-left.tiles_left in
     let if1 = at-if1.if1 in
     let round = at-round.round in
-    laws.rounds-next (plan_of S.args.sizes.route S.args.nest) (sound S.args.sizes.route S.args.nest S.requires.0.0.planned.0.accepted)
+    laws.rounds_next (plan_of S.args.sizes.route S.args.nest) (sound S.args.sizes.route S.args.nest S.requires.0.0.planned.0.accepted)
     S.args.source.now (state_of S.args.memories.now S.args.buffer.now S.args.progress.now S.args.status.now)
     (state_of loop.memories loop.buffer loop.progress loop.status) loop.done loop.invariant
-    (laws.rounds-more (plan_of S.args.sizes.route S.args.nest) (sound S.args.sizes.route S.args.nest S.requires.0.0.planned.0.accepted)
+    (laws.rounds_more (plan_of S.args.sizes.route S.args.nest) (sound S.args.sizes.route S.args.nest S.requires.0.0.planned.0.accepted)
     S.args.source.now (state_of S.args.memories.now S.args.buffer.now S.args.progress.now S.args.status.now)
-    (state_of loop.memories loop.buffer loop.progress loop.status) loop.done loop.invariant (sym tiles-left.ensures ∙ if1.true)) _
+    (state_of loop.memories loop.buffer loop.progress loop.status) loop.done loop.invariant (sym tiles_left.ensures ∙ if1.true)) _
     round.auto.1.1.1.1.1.1.1.0 round.auto.1.1.1.1.1.1.1.1.0 round.auto.1.1.1.1.1.1.1.1.1.0
     round.auto.1.1.1.1.1.1.1.1.1.1.0 round.ensures
 
@@ -128,10 +128,10 @@ returns : tie.Need-returns invariant-loop decreases-loop
 returns c =
     let S = c.before.before.before.before.before.before.before.before.before in
     let loop = c.before.before.before.loop in
-    laws.rounds-over (plan_of S.args.sizes.route S.args.nest) (sound S.args.sizes.route S.args.nest
+    laws.rounds_over (plan_of S.args.sizes.route S.args.nest) (sound S.args.sizes.route S.args.nest
     S.requires.0.0.planned.0.accepted) S.args.source.now (state_of S.args.memories.now S.args.buffer.now S.args.progress.now
     S.args.status.now) (state_of loop.memories loop.buffer loop.progress loop.status) loop.done loop.invariant
-    (sym c.before.tiles-left.ensures ∙ c.if1.false)
+    (sym c.before.tiles_left.ensures ∙ c.if1.false)
 
 pub rounds-by-spec : {M : Type 1} → statement M
 rounds-by-spec =

@@ -1,7 +1,7 @@
 -- Each return is the call by the line that counts.
 use mathlib.Core.Path.{refl, sym, ◌∙◌}
 use Rattle.plan.specs.Shaped.{plan_of}
-use Rattle.recipe.proofs.Laws.{direct-lines}
+use Rattle.recipe.proofs.Laws.{direct_lines}
 use Rattle.schedule.proofs.Telling as telling
 use borrow.Author.Rules.{rules}
 use Rattle.schedule.proofs.rounds_of.Statement.{statement}
@@ -16,7 +16,7 @@ returns c =
     let S = at_open.before.before.before.before in
     let A = S.args in
     let opens = at_open.«open» in
-    telling.told-read A.encoded.now A.rounds.now opens.result.number (opens.ensures.number ∙ direct-lines A.encoded.now) c.if1.true
+    telling.told_read A.encoded.now A.rounds.now opens.result.number (opens.ensures.number ∙ direct_lines A.encoded.now) c.if1.true
 
 tiles-of-requires : tie.Need-tiles-of-requires
 tiles-of-requires c κs =
@@ -32,7 +32,7 @@ returns-2 c =
     let S = at_open.before.before.before.before in
     let A = S.args in
     let opens = at_open.«open» in
-    telling.told-area A.encoded.now A.rounds.now (plan_of opens.result.sizes.route opens.result.nest) (opens.ensures.opened
+    telling.told_area A.encoded.now A.rounds.now (plan_of opens.result.sizes.route opens.result.nest) (opens.ensures.opened
     at-if1.if1.false)
     (λ q. c.if2.true (q ∙ sym at-tiles-of.tiles-of.ensures.0))
 
@@ -57,7 +57,7 @@ returns-3 c =
     let S = at_open.before.before.before.before in
     let A = S.args in
     let opens = at_open.«open» in
-    telling.told-done A.encoded.now A.rounds.now (plan_of opens.result.sizes.route opens.result.nest) (opens.ensures.opened
+    telling.told_done A.encoded.now A.rounds.now (plan_of opens.result.sizes.route opens.result.nest) (opens.ensures.opened
     at-if1.if1.false)
     (at-if2.if2.false ∙ at-tiles-of.tiles-of.ensures.0) _ at-tell-rounds.tell-rounds.ensures
 

@@ -25,9 +25,9 @@ returns c =
     let A = S.args in
     let opens = at_open.«open» in
     let s = state_of A.memories.now A.buffer.now A.progress.now A.status.now in
-    called.refused-by A.encoded.now A.source.now s c.refused.result.number c.refused.result.rounds opens.result.number
+    called.refused_by A.encoded.now A.source.now s c.refused.result.number c.refused.result.rounds opens.result.number
     c.refused.ensures.0 c.refused.ensures.1
-    at-if1.if1.true (lines.fresh-read A.encoded.now 0 A.source.now s opens.result.number opens.ensures.number
+    at-if1.if1.true (lines.fresh_read A.encoded.now 0 A.source.now s opens.result.number opens.ensures.number
     at-if1.if1.true)
 
 areas-fit-requires : tie.Need-areas-fit-requires
@@ -60,9 +60,9 @@ returns-2 c =
     let s = state_of A.memories.now A.buffer.now A.progress.now A.status.now in
     let p = plan_of opens.result.sizes.route opens.result.nest in
     let o = opens.ensures.opened at-if1.if1.false in
-    called.refused-by A.encoded.now A.source.now s c.refused2.result.number c.refused2.result.rounds 9 c.refused2.ensures.0
-    c.refused2.ensures.1 (λ q. omega arith) (lines.fresh-area A.encoded.now 0 A.source.now s p o
-    (sym (at-areas-fit.areas-fit.ensures.0 A.progress.now refl) ∙ not-true _ at-if2.if2.true))
+    called.refused_by A.encoded.now A.source.now s c.refused2.result.number c.refused2.result.rounds 9 c.refused2.ensures.0
+    c.refused2.ensures.1 (λ q. omega arith) (lines.fresh_area A.encoded.now 0 A.source.now s p o
+    (sym (at-areas-fit.areas_fit.ensures.0 A.progress.now refl) ∙ not-true _ at-if2.if2.true))
 
 zero-words-requires : tie.Need-zero-words-requires
 zero-words-requires c κs = search rules
@@ -95,15 +95,15 @@ all-rounds-requires c κs =
     let o = opens.ensures.opened at-if1.if1.false in (
       (
         opens.ensures.planned if1.false,
-        (lines.areas-are p A.source.now s
-            (sym (at-areas-fit.areas-fit.ensures.0 A.progress.now refl)
+        (lines.areas_are p A.source.now s
+            (sym (at-areas-fit.areas_fit.ensures.0 A.progress.now refl)
             ∙ not-false _ at-if2.if2.false)).source,
       ),
-      called.fresh-now A.encoded.now
+      called.fresh_now A.encoded.now
           A.source.now s p o (state_of at-zero-words.zero-words.new.0
           at-zero-words2.zero-words2.new.0 at-zero-words3.zero-words3.new.0 at-zero-bytes.zero-bytes.new.0)
-          (lines.fresh-done A.encoded.now 0 A.source.now s p o
-          (sym (at-areas-fit.areas-fit.ensures.0 A.progress.now refl)
+          (lines.fresh_done A.encoded.now 0 A.source.now s p o
+          (sym (at-areas-fit.areas_fit.ensures.0 A.progress.now refl)
           ∙ not-false _ at-if2.if2.false) _ _ _ _
           at-zero-words.zero-words.ensures at-zero-words2.zero-words2.ensures
           at-zero-words3.zero-words3.ensures at-zero-bytes.zero-bytes.ensures),
@@ -138,13 +138,13 @@ returns-3 c =
     let s = state_of A.memories.now A.buffer.now A.progress.now A.status.now in
     let p = plan_of opens.result.sizes.route opens.result.nest in
     let o = opens.ensures.opened at-if1.if1.false in
-    called.done-too A.encoded.now A.source.now s p o (sound opens.result.sizes.route opens.result.nest (opens.ensures.planned
+    called.done_too A.encoded.now A.source.now s p o (sound opens.result.sizes.route opens.result.nest (opens.ensures.planned
     at-if1.if1.false).0.accepted)
-    (lines.areas-are p A.source.now s (sym (at-areas-fit.areas-fit.ensures.0 A.progress.now refl)
+    (lines.areas_are p A.source.now s (sym (at-areas-fit.areas_fit.ensures.0 A.progress.now refl)
     ∙ not-false _ at-if2.if2.false)).source
     (state_of at-zero-words.zero-words.new.0 at-zero-words2.zero-words2.new.0
     at-zero-words3.zero-words3.new.0 at-zero-bytes.zero-bytes.new.0)
-    (lines.fresh-done A.encoded.now 0 A.source.now s p o (sym (at-areas-fit.areas-fit.ensures.0
+    (lines.fresh_done A.encoded.now 0 A.source.now s p o (sym (at-areas-fit.areas_fit.ensures.0
     A.progress.now refl) ∙ not-false _ at-if2.if2.false) _ _ _ _
     at-zero-words.zero-words.ensures at-zero-words2.zero-words2.ensures
     at-zero-words3.zero-words3.ensures at-zero-bytes.zero-bytes.ensures)

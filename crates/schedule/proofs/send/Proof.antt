@@ -3,7 +3,7 @@ use native.Mathlib.Omega.{arith}
 use mathlib.Core.Path.{◌∙◌}
 use Rattle.core.specs.Prelude.{◌-◌, length}
 use Rattle.plan.specs.Shaped.{plan_of}
-use Rattle.machine.specs.Plan.{count, senderOf}
+use Rattle.machine.specs.Plan.{count, sender_of}
 use Rattle.schedule.proofs.Telling as telling
 use Rattle.schedule.proofs.Chains as chains
 use Rattle.schedule.proofs.Laws as laws
@@ -25,7 +25,7 @@ first-requires c κs =
 loop-holds : tie.Need-loop-init invariant-loop decreases-loop
 loop-holds c =
     let S = c.before.before.before.before in
-    laws.send-start (plan_of S.args.sizes.route S.args.nest) S.args.t _ _ _ _ c.first.ensures
+    laws.send_start (plan_of S.args.sizes.route S.args.nest) S.args.t _ _ _ _ c.first.ensures
 
 spot-requires : tie.Need-spot-requires invariant-loop decreases-loop
 spot-requires c κs =
@@ -35,7 +35,7 @@ spot-requires c κs =
 put-message-requires : tie.Need-put-message-requires invariant-loop decreases-loop
 put-message-requires c κs =
     let S = c.before.before.before.before.before.before.before.before in (
-      (S.requires.0.0.0, (S.requires.0.0.1, telling.found-self _ _ _ _ c.before.spot.ensures)),
+      (S.requires.0.0.0, (S.requires.0.0.1, telling.found_self _ _ _ _ c.before.spot.ensures)),
       (S.requires.1.1.0, c.before.before.before.loop.invariant.long ∙ S.requires.1.1.1),
     )
 
@@ -55,7 +55,7 @@ next-requires c κs =
         omega (arith, loop-test.true, loop.invariant.marks, S.requires.1.0.0.marks),
         (
           omega (arith, loop-test.true, loop.invariant.marks, S.requires.1.0.0.marks, S.requires.1.0.0.few),
-          chains.walk-tile (senderOf (plan_of S.args.sizes.route S.args.nest)) (count (plan_of S.args.sizes.route S.args.nest)) S.args.t
+          chains.walk_tile (sender_of (plan_of S.args.sizes.route S.args.nest)) (count (plan_of S.args.sizes.route S.args.nest)) S.args.t
               loop.invariant.j loop.m loop.invariant.spot (omega (arith, loop-test.true, loop.invariant.marks, S.requires.1.0.0.marks)),
         ),
       ),
@@ -72,7 +72,7 @@ loop-less c =
       arith,
       loop-test.true,
       loop.invariant.marks,
-      chains.walk_more (senderOf (plan_of S.args.sizes.route S.args.nest))
+      chains.walk_more (sender_of (plan_of S.args.sizes.route S.args.nest))
           (count (plan_of S.args.sizes.route S.args.nest)) S.args.t loop.invariant.j loop.m loop.invariant.spot
           (omega (arith, loop-test.true, loop.invariant.marks, S.requires.1.0.0.marks)) _ c.next.ensures,
     )
@@ -86,7 +86,7 @@ loop-again c =
     let S = at-loop.before.before.before.before.before in
     let loop = at-loop.loop in
     let put-message = at-put-message.put-message in
-    laws.send-next (plan_of S.args.sizes.route S.args.nest) S.args.t _ _ _ _ _ _ loop.invariant
+    laws.send_next (plan_of S.args.sizes.route S.args.nest) S.args.t _ _ _ _ _ _ loop.invariant
     (omega (arith, at-loop-test.loop-test.true, loop.invariant.marks, S.requires.1.0.0.marks)) _ at-spot.spot.ensures.number _
     put-message.auto.1.1.1.1.0 put-message.ensures _ c.next.ensures
 
@@ -102,7 +102,7 @@ returns : tie.Need-returns invariant-loop decreases-loop
 returns c =
     let S = c.before.before.before.before.before.before in
     let loop = c.before.loop in
-    laws.send-done (plan_of S.args.sizes.route S.args.nest) S.args.t _ _ _ _ _ _ loop.invariant
+    laws.send_done (plan_of S.args.sizes.route S.args.nest) S.args.t _ _ _ _ _ _ loop.invariant
     (omega (arith, c.loop-test.false, loop.invariant.marks, S.requires.1.0.0.marks))
 
 pub send-spec : {M : Type 1} → statement M

@@ -8,11 +8,11 @@ use Rattle.schedule.proofs.sender_at.Statement.{statement}
 use Rattle.schedule.proofs.sender_at.Tie as tie
 
 div-result : tie.Need-nonzero-div-result
-div-result c = let S = c.before.before in let A = S.args in let w = telling.ways-some A.nest A.sizes.route A.place S.requires.1
+div-result c = let S = c.before.before in let A = S.args in let w = telling.ways_some A.nest A.sizes.route A.place S.requires.1
     A.sizes.ways S.requires.0.0.ways S.requires.0.1.routed in w
 
 returns : tie.Need-returns
-returns c = let S = c.before.before in let A = S.args in telling.sender-is A.nest A.sizes.route A.place S.requires.1 A.sizes.ways
+returns c = let S = c.before.before in let A = S.args in telling.sender_is A.nest A.sizes.route A.place S.requires.1 A.sizes.ways
     S.requires.0.0.ways S.requires.0.1.routed
 
 pub sender-at-spec : {M : Type 1} → statement M

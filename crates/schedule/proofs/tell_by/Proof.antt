@@ -2,7 +2,7 @@
 use native.Mathlib.Omega.{arith}
 use Rattle.core.specs.Prelude.{◌-◌, length}
 use Rattle.plan.specs.Shaped.{plan_of}
-use Rattle.schedule.proofs.Laws.{tiles-low}
+use Rattle.schedule.proofs.Laws.{tiles_low}
 use Rattle.schedule.proofs.Telling as telling
 use Rattle.schedule.proofs.tell_by.Statement.{statement}
 use Rattle.schedule.proofs.tell_by.Tie as tie
@@ -17,7 +17,7 @@ decreases-loop nest sizes lens spots dues messages rounds₀ lasts₀ tile₀ ro
 loop-holds : tie.Need-loop-init invariant-loop decreases-loop
 loop-holds c =
     let S = c.before in
-    telling.table-start (plan_of S.args.sizes.route S.args.nest) S.args.rounds.now S.requires.1 S.requires.0.planned.0.accepted.processors-most
+    telling.table_start (plan_of S.args.sizes.route S.args.nest) S.args.rounds.now S.requires.1 S.requires.0.planned.0.accepted.processors_most
 
 processor-at-requires : tie.Need-processor-at-requires invariant-loop decreases-loop
 processor-at-requires c κs =
@@ -25,11 +25,11 @@ processor-at-requires c κs =
 
 mul-round-at : tie.Need-overflow-mul-round-at invariant-loop decreases-loop
 mul-round-at c =
-    omega (arith, c.before.processor-at.ensures.1, c.before.before.before.before.before.requires.0.planned.0.accepted.processors-most)
+    omega (arith, c.before.processor-at.ensures.1, c.before.before.before.before.before.requires.0.planned.0.accepted.processors_most)
 
 array-read-round-at : tie.Need-array-read-round-at invariant-loop decreases-loop
 array-read-round-at c =
-    omega (arith, c.before.processor-at.ensures.1, c.before.before.before.before.before.requires.0.planned.0.accepted.processors-most)
+    omega (arith, c.before.processor-at.ensures.1, c.before.before.before.before.before.requires.0.planned.0.accepted.processors_most)
 
 round-at-requires : tie.Need-round-at-requires invariant-loop decreases-loop
 round-at-requires c κs =
@@ -39,7 +39,7 @@ round-at-requires c κs =
       (S.requires.0, omega (arith, c.before.before.loop-test.true, loop.invariant.tells.long)),
       (
         loop.invariant.tells,
-        telling.last-is (plan_of S.args.sizes.route S.args.nest) loop.lasts loop.tile processor-at.result
+        telling.last_is (plan_of S.args.sizes.route S.args.nest) loop.lasts loop.tile processor-at.result
             loop.invariant.last processor-at.ensures.0 processor-at.ensures.1,
       ),
     )
@@ -53,7 +53,7 @@ mul-rounds c =
       arith,
       at-loop-test.loop-test.true,
       at-loop.loop.invariant.tells.long,
-      tiles-low S.args.sizes.route S.args.nest
+      tiles_low S.args.sizes.route S.args.nest
           S.requires.0.planned.0.accepted,
     )
 
@@ -63,11 +63,11 @@ slice-write-rounds c =
 
 mul-lasts : tie.Need-overflow-mul-lasts invariant-loop decreases-loop
 mul-lasts c =
-    omega (arith, c.before.before.processor-at.ensures.1, c.before.before.before.before.before.before.requires.0.planned.0.accepted.processors-most)
+    omega (arith, c.before.before.processor-at.ensures.1, c.before.before.before.before.before.before.requires.0.planned.0.accepted.processors_most)
 
 array-write-lasts : tie.Need-array-write-lasts invariant-loop decreases-loop
 array-write-lasts c =
-    omega (arith, c.before.before.processor-at.ensures.1, c.before.before.before.before.before.before.requires.0.planned.0.accepted.processors-most)
+    omega (arith, c.before.before.processor-at.ensures.1, c.before.before.before.before.before.before.requires.0.planned.0.accepted.processors_most)
 
 add-tile : tie.Need-overflow-add-tile invariant-loop decreases-loop
 add-tile c =
@@ -78,7 +78,7 @@ add-tile c =
       arith,
       at-loop-test.loop-test.true,
       at-loop.loop.invariant.tells.long,
-      tiles-low S.args.sizes.route S.args.nest
+      tiles_low S.args.sizes.route S.args.nest
           S.requires.0.planned.0.accepted,
     )
 
@@ -96,8 +96,8 @@ loop-again c =
     let loop = at-loop.loop in
     let processor-at = c.before.before.processor-at in
     let round-at = c.round-at in
-    telling.table-next (plan_of S.args.sizes.route S.args.nest) S.args.rounds.now loop.rounds loop.lasts loop.tile loop.invariant
-    S.requires.0.planned.0.accepted.processors-most (omega (arith, at-loop-test.loop-test.true, loop.invariant.tells.long)) processor-at.result
+    telling.table_next (plan_of S.args.sizes.route S.args.nest) S.args.rounds.now loop.rounds loop.lasts loop.tile loop.invariant
+    S.requires.0.planned.0.accepted.processors_most (omega (arith, at-loop-test.loop-test.true, loop.invariant.tells.long)) processor-at.result
     processor-at.ensures.0 processor-at.ensures.1 round-at.result round-at.ensures
 
 same_length : tie.Need-same-length invariant-loop decreases-loop
@@ -108,7 +108,7 @@ returns : tie.Need-returns invariant-loop decreases-loop
 returns c =
     let S = c.before.before.before in
     let loop = c.before.loop in
-    telling.tells-done (plan_of S.args.sizes.route S.args.nest) loop.rounds loop.tile c.loop-test.false loop.invariant.tells
+    telling.tells_done (plan_of S.args.sizes.route S.args.nest) loop.rounds loop.tile c.loop-test.false loop.invariant.tells
 
 pub tell-by-spec : {M : Type 1} → statement M
 tell-by-spec =

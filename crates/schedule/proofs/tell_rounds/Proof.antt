@@ -19,7 +19,7 @@ tell-by-requires c κs =
     let at-list = at-chain-ends.before.before.before in
     let S = at-list.before.before.before in
     let list = at-list.list in
-    (record { planned = S.requires.0; listed = list.ensures.1; byTaker = at-chain-ends.chain-ends.ensures; all = list.ensures.0 }, S.requires.1)
+    (record { planned = S.requires.0; listed = list.ensures.1; by_taker = at-chain-ends.chain-ends.ensures; all = list.ensures.0 }, S.requires.1)
 
 same_length : tie.Need-same-length
 same_length c =

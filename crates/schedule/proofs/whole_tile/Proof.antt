@@ -2,9 +2,9 @@
 use native.Mathlib.Omega.{arith}
 use mathlib.Core.Path.{ap, ◌∙◌}
 use Rattle.core.specs.Prelude.{ℕ, List}
-use Rattle.base.specs.Lists.{setAll, storeAll}
+use Rattle.base.specs.Lists.{set_all, store_all}
 use Rattle.plan.specs.Shaped.{plan_of}
-use Rattle.machine.specs.Plan.{sendsOf}
+use Rattle.machine.specs.Plan.{sends_of}
 use Rattle.schedule.proofs.Listing as L
 use borrow.Author.Rules.{rules}
 use Rattle.schedule.proofs.whole_tile.Statement.{statement}
@@ -16,8 +16,8 @@ gather-requires c κs =
       (S.requires.0.0.planned, S.requires.0.0.listed),
       (
         (
-          record { chained = S.requires.0.0.byTaker; marks = S.requires.1.1.1; few = S.requires.0.0.few },
-          omega (arith, S.requires.0.1, L.tiles-few _ _ _ S.requires.0.0.planned.0 S.requires.0.0.planned.1),
+          record { chained = S.requires.0.0.by_taker; marks = S.requires.1.1.1; few = S.requires.0.0.few },
+          omega (arith, S.requires.0.1, L.tiles_few _ _ _ S.requires.0.0.planned.0 S.requires.0.0.planned.1),
         ),
         (S.requires.1.0.1, S.requires.1.1.0),
       ),
@@ -39,8 +39,8 @@ send-requires c κs =
       (S.requires.0.0.planned, S.requires.0.0.listed),
       (
         (
-          record { chained = S.requires.0.0.bySender; marks = gather.auto.1.1.1.1.1.1.1.0 ∙ S.requires.1.1.1; few = S.requires.0.0.few },
-          omega (arith, S.requires.0.1, L.tiles-few _ _ _ S.requires.0.0.planned.0 S.requires.0.0.planned.1),
+          record { chained = S.requires.0.0.by_sender; marks = gather.auto.1.1.1.1.1.1.1.0 ∙ S.requires.1.1.1; few = S.requires.0.0.few },
+          omega (arith, S.requires.0.1, L.tiles_few _ _ _ S.requires.0.0.planned.0 S.requires.0.0.planned.1),
         ),
         (at-calculate.calculate.auto.1.1.1.1.0 ∙ (gather.auto.1.1.1.1.1.0 ∙ S.requires.1.0.1), S.requires.1.1.0),
       ),
@@ -67,11 +67,11 @@ returns c =
     let calculate = at-calculate.calculate in
     let gather = at-gather.gather in
     let send = at-send.send in (
-      calculate.ensures ∙ ap (λ (m : List ℕ). storeAll ((plan_of S.args.sizes.route S.args.nest).value S.args.source.now) m
+      calculate.ensures ∙ ap (λ (m : List ℕ). store_all ((plan_of S.args.sizes.route S.args.nest).value S.args.source.now) m
           ((plan_of S.args.sizes.route S.args.nest).cells_of S.args.t)) gather.ensures.0,
       (
         send.ensures.0,
-        send.ensures.1 ∙ ap (λ (l : List ℕ). setAll l (sendsOf (plan_of S.args.sizes.route S.args.nest) S.args.t) 1)
+        send.ensures.1 ∙ ap (λ (l : List ℕ). set_all l (sends_of (plan_of S.args.sizes.route S.args.nest) S.args.t) 1)
             gather.ensures.1,
       ),
     )

@@ -15,51 +15,51 @@ clear-records-requires-2 c κs = tt
 
 same_length : tie.Need-same-length
 same_length c =
-    let at-fresh = c.before.before.before.before.before.before.before.before.before.before.before.before.before.before.before.before.before.before.before.before.before.before in
-    at-fresh.fresh.kept.1.1.1.0
+    let at_fresh = c.before.before.before.before.before.before.before.before.before.before.before.before.before.before.before.before.before.before.before.before.before.before in
+    at_fresh.fresh.kept.1.1.1.0
 
 same-length-2 : tie.Need-same-length-2
 same-length-2 c =
-    let at-fresh = c.before.before.before.before.before.before.before.before.before.before.before.before.before.before.before.before.before.before.before.before.before.before in
-    at-fresh.fresh.kept.1.1.1.1.0
+    let at_fresh = c.before.before.before.before.before.before.before.before.before.before.before.before.before.before.before.before.before.before.before.before.before.before in
+    at_fresh.fresh.kept.1.1.1.1.0
 
 same-length-3 : tie.Need-same-length-3
 same-length-3 c = c.before.before.before.before.before.before.clear-records.auto.0
 
 same-length-4 : tie.Need-same-length-4
 same-length-4 c =
-    let at-fresh = c.before.before.before.before.before.before.before.before.before.before.before.before.before.before.before.before.before.before.before.before.before.before in
-    at-fresh.fresh.kept.1.1.1.1.1.1.0
+    let at_fresh = c.before.before.before.before.before.before.before.before.before.before.before.before.before.before.before.before.before.before.before.before.before.before in
+    at_fresh.fresh.kept.1.1.1.1.1.1.0
 
 same-length-5 : tie.Need-same-length-5
 same-length-5 c =
-    let at-fresh = c.before.before.before.before.before.before.before.before.before.before.before.before.before.before.before.before.before.before.before.before.before.before in
-    at-fresh.fresh.kept.1.1.1.1.1.1.1.1.0
+    let at_fresh = c.before.before.before.before.before.before.before.before.before.before.before.before.before.before.before.before.before.before.before.before.before.before in
+    at_fresh.fresh.kept.1.1.1.1.1.1.1.1.0
 
 same-length-6 : tie.Need-same-length-6
 same-length-6 c =
-    let at-fresh = c.before.before.before.before.before.before.before.before.before.before.before.before.before.before.before.before.before.before.before.before.before.before in
-    at-fresh.fresh.kept.1.1.1.1.1.1.1.1.1.0
+    let at_fresh = c.before.before.before.before.before.before.before.before.before.before.before.before.before.before.before.before.before.before.before.before.before.before in
+    at_fresh.fresh.kept.1.1.1.1.1.1.1.1.1.0
 
 same-length-7 : tie.Need-same-length-7
 same-length-7 c = c.before.before.clear-records2.auto.0
 
 same-length-8 : tie.Need-same-length-8
 same-length-8 c =
-    let at-fresh = c.before.before.before.before.before.before.before.before.before.before.before.before.before.before.before.before.before.before.before.before.before.before in
-    at-fresh.fresh.kept.1.1.1.1.1.1.1.1.1.1.1.0
+    let at_fresh = c.before.before.before.before.before.before.before.before.before.before.before.before.before.before.before.before.before.before.before.before.before.before in
+    at_fresh.fresh.kept.1.1.1.1.1.1.1.1.1.1.1.0
 
 same-length-9 : tie.Need-same-length-9
 same-length-9 c =
-    let at-fresh = c.before.before.before.before.before.before.before.before.before.before.before.before.before.before.before.before.before.before.before.before.before.before in
-    at-fresh.fresh.kept.1.1.1.1.1.1.1.1.1.1.1.1.0
+    let at_fresh = c.before.before.before.before.before.before.before.before.before.before.before.before.before.before.before.before.before.before.before.before.before.before in
+    at_fresh.fresh.kept.1.1.1.1.1.1.1.1.1.1.1.1.0
 
 returns : tie.Need-returns
 returns c =
     let at-clear-records = c.before.before.before.before.before.before in
-    let at-fresh = at-clear-records.before.before.before.before.before.before.before.before.before.before.before.before.before.before.before.before in
-    let A = at-fresh.before.before.before.before.before.before.before.before.before.before.before.before.before.before.before.before.before.before.before.before.args in
-    let fresh = at-fresh.fresh in
+    let at_fresh = at-clear-records.before.before.before.before.before.before.before.before.before.before.before.before.before.before.before.before in
+    let A = at_fresh.before.before.before.before.before.before.before.before.before.before.before.before.before.before.before.before.before.before.before.before.args in
+    let fresh = at_fresh.fresh in
     starts.both_stored fresh.result _ _ _ _ _ _ A.progress0.now A.progress1.now _ _ _ _ at-clear-records.clear-records.ensures
     c.before.before.clear-records2.ensures (fresh.ensures A.progress0.now A.progress1.now refl refl)
 

@@ -1,7 +1,7 @@
 -- The call without the record's store, and the records as it says.
 use mathlib.Core.Path.{sym, ap, ◌∙◌}
 use Rattle.machine.specs.Machine.{state_of, Answered}
-use Rattle.tenants.specs.Tenants.{TenantAreas, tenantAreas}
+use Rattle.tenants.specs.Tenants.{TenantAreas, tenant_areas}
 use Rattle.sharing.proofs.Starts as starts
 use borrow.Author.Rules.{rules}
 use Rattle.sharing.proofs.turn.Statement.{statement}
@@ -24,7 +24,7 @@ store-after-requires c κs =
     let A = at-flat-of.before.before.before.before.before.before.before.before.before.before.before.before.args in
     let done = at_turn.turn.ensures A.progress.now A.theirs.now at-flat-of.flat-of.ensures at-flat-of2.flat-of2.ensures in
     λ z. starts.turn_inside A.encoded.now A.route A.source.now A.tenant
-    (tenantAreas (state_of A.memories.now A.buffer.now A.progress.now A.status.now) A.engaged.now) A.theirs.now A.processor
+    (tenant_areas (state_of A.memories.now A.buffer.now A.progress.now A.status.now) A.engaged.now) A.theirs.now A.processor
     (ap (λ (x : Answered TenantAreas). x.number) (sym done) ∙ z)
 
 same_length : tie.Need-same-length
@@ -57,7 +57,7 @@ returns c =
     let at-flat-of = at-flat-of2.before.before.before in
     let A = at-flat-of.before.before.before.before.before.before.before.before.before.before.before.before.args in
     let done = at_turn.turn.ensures A.progress.now A.theirs.now at-flat-of.flat-of.ensures at-flat-of2.flat-of2.ensures in
-    starts.turn-stored at_turn.turn.result _ _ A.progress.now _ _ A.processor _ done _ c.before.before.store-after.ensures
+    starts.turn_stored at_turn.turn.result _ _ A.progress.now _ _ A.processor _ done _ c.before.before.store-after.ensures
 
 pub turn_spec : {M : Type 1} → statement M
 turn_spec =

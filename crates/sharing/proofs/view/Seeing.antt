@@ -7,95 +7,95 @@ use borrow.Author.Tests.{eq-eqb, ne_eqb, lt-ltb, le-ltb, le-leb}
 use Rattle.base.specs.Tests.{◌and◌, not}
 use Rattle.base.specs.Lists.{sublist}
 use Rattle.base.specs.Numbers.{Line, line, first_of}
-use Rattle.base.proofs.Tests.{and-true, and-false, and_no, not-true, not-false, pick_true, pick-false}
-use Rattle.base.proofs.Numbers.{first-true, first-false, first_some, first-behind}
+use Rattle.base.proofs.Tests.{and_true, and_false, and_no, not-true, not-false, pick_true, pick_false}
+use Rattle.base.proofs.Numbers.{first_true, first_false, first_some, first_behind}
 use Rattle.machine.specs.Plan.{Plan}
-use Rattle.tenants.specs.Tenants.{ofTenant}
-use Rattle.nest.specs.Reader.{readLines}
+use Rattle.tenants.specs.Tenants.{of_tenant}
+use Rattle.nest.specs.Reader.{read_lines}
 use Rattle.nest.proofs.Numbered.{numbered}
-use Rattle.layout.specs.RouteWords.{routeOf}
-use Rattle.recipe.proofs.Laws.{reads-for}
+use Rattle.layout.specs.RouteWords.{route_of}
+use Rattle.recipe.proofs.Laws.{reads_for}
 use Rattle.engine.specs.Calls.{recipe}
 use Rattle.engine.proofs.Lines.{Opened}
-use Rattle.sharing.specs.Calls.{memoriesLong, viewNumber, viewPart}
+use Rattle.sharing.specs.Calls.{memories_long, view_number, view_part}
 use Rattle.sharing.specs.view.Given.{SeenAt}
 use Rattle.sharing.specs.declared.view.core.Seen.{Seen}
 
 module _ (bytes a c : List ℕ) (o b : ℕ) where
-  pub look-read : (n : ℕ) → n ≡ first_of (readLines bytes) → n ≢ 0 → n ≡ viewNumber bytes a c o b
-  look-read n e h = e ∙ sym (first_some (readLines bytes) _ (λ q. h (e ∙ q)))
+  pub look_read : (n : ℕ) → n ≡ first_of (read_lines bytes) → n ≢ 0 → n ≡ view_number bytes a c o b
+  look_read n e h = e ∙ sym (first_some (read_lines bytes) _ (λ q. h (e ∙ q)))
 
   module _ (p : Plan) (op : Opened bytes 0 p) where
     lines : Plan → List Line
-    lines q = line 9 (not (memoriesLong q a and memoriesLong q c)) ∷ line 11 (not (leb o 1 and ltb b q.processors)) ∷ []
+    lines q = line 9 (not (memories_long q a and memories_long q c)) ∷ line 11 (not (leb o 1 and ltb b q.processors)) ∷ []
 
-    view-at : first_of (lines p) ≡ viewNumber bytes a c o b
+    view_at : first_of (lines p) ≡ view_number bytes a c o b
     unfolding lines
-    view-at =
+    view_at =
         ap (λ (q : Plan). first_of (lines q)) op.is
-        ∙ sym (first-behind (readLines bytes) (lines (recipe bytes 0)) (numbered bytes) (reads-for (routeOf 0) bytes op.none))
+        ∙ sym (first_behind (read_lines bytes) (lines (recipe bytes 0)) (numbered bytes) (reads_for (route_of 0) bytes op.none))
 
-    pub look-first : length a ≢ p.processors * p.cells → 9 ≡ viewNumber bytes a c o b
+    pub look_first : length a ≢ p.processors * p.cells → 9 ≡ view_number bytes a c o b
     unfolding lines
-    look-first n = sym (first-true 9 _ _ (not-false (and-false _ _ (ne_eqb _ _ n)))) ∙ view-at
+    look_first n = sym (first_true 9 _ _ (not-false (and_false _ _ (ne_eqb _ _ n)))) ∙ view_at
 
-    pub look-second : length c ≢ p.processors * p.cells → 9 ≡ viewNumber bytes a c o b
+    pub look_second : length c ≢ p.processors * p.cells → 9 ≡ view_number bytes a c o b
     unfolding lines
-    look-second n = sym (first-true 9 _ _ (not-false (and_no _ _ (ne_eqb _ _ n)))) ∙ view-at
+    look_second n = sym (first_true 9 _ _ (not-false (and_no _ _ (ne_eqb _ _ n)))) ∙ view_at
 
     module _ (first : length a ≡ p.processors * p.cells) (second : length c ≡ p.processors * p.cells) where
       behind : first_of (lines p) ≡ first_of (line 11 (not (leb o 1 and ltb b p.processors)) ∷ [])
       unfolding lines
-      behind = first-false 9 _ _ (not-true (and-true (eq-eqb _ _ first) (eq-eqb _ _ second)))
+      behind = first_false 9 _ _ (not-true (and_true (eq-eqb _ _ first) (eq-eqb _ _ second)))
 
-      pub look-tenant : leb o 1 ≡ false → 11 ≡ viewNumber bytes a c o b
-      look-tenant e = sym (behind ∙ first-true 11 _ _ (not-false (and-false _ _ e))) ∙ view-at
+      pub look_tenant : leb o 1 ≡ false → 11 ≡ view_number bytes a c o b
+      look_tenant e = sym (behind ∙ first_true 11 _ _ (not-false (and_false _ _ e))) ∙ view_at
 
-      pub look-beyond : p.processors ≤ b → 11 ≡ viewNumber bytes a c o b
-      look-beyond h = sym (behind ∙ first-true 11 _ _ (not-false (and_no _ _ (le-ltb b p.processors h)))) ∙ view-at
+      pub look_beyond : p.processors ≤ b → 11 ≡ view_number bytes a c o b
+      look_beyond h = sym (behind ∙ first_true 11 _ _ (not-false (and_no _ _ (le-ltb b p.processors h)))) ∙ view_at
 
       found : o ≤ 1 → b < p.processors → first_of (line 11 (not (leb o 1 and ltb b p.processors)) ∷ []) ≡ 0
       unfolding first_of
-      found h k = first-false 11 (not (leb o 1 and ltb b p.processors)) [] (not-true (and-true (le-leb o 1 h) (lt-ltb b p.processors k)))
+      found h k = first_false 11 (not (leb o 1 and ltb b p.processors)) [] (not-true (and_true (le-leb o 1 h) (lt-ltb b p.processors k)))
 
-      pub look-found : o ≤ 1 → b < p.processors → 0 ≡ viewNumber bytes a c o b
-      look-found h k = sym (behind ∙ found h k) ∙ view-at
+      pub look_found : o ≤ 1 → b < p.processors → 0 ≡ view_number bytes a c o b
+      look_found h k = sym (behind ∙ found h k) ∙ view_at
 
   -- ---- the part
 
-  module _ (n : ℕ) (e : n ≡ viewNumber bytes a c o b) where
-    pub part_none : n ≢ 0 → [] ≡ viewPart bytes a c o b
-    unfolding viewPart
-    part_none h = sym (pick-false _ _ _ (ne_eqb _ 0 (λ q. h (e ∙ q))))
+  module _ (n : ℕ) (e : n ≡ view_number bytes a c o b) where
+    pub part_none : n ≢ 0 → [] ≡ view_part bytes a c o b
+    unfolding view_part
+    part_none h = sym (pick_false _ _ _ (ne_eqb _ 0 (λ q. h (e ∙ q))))
 
     module _ (z : n ≡ 0) (start words : ℕ) (s : start ≡ b * (recipe bytes 0).cells) (w : words ≡ (recipe bytes 0).cells) where
-      part_of : take (start + words - start) (drop start (ofTenant o a c)) ≡ viewPart bytes a c o b
-      unfolding viewPart sublist
+      part_of : take (start + words - start) (drop start (of_tenant o a c)) ≡ view_part bytes a c o b
+      unfolding view_part sublist
       part_of =
-          ap (λ (k : ℕ). take k (drop start (ofTenant o a c))) (size start words ∙ w)
-          ∙ ap (λ (k : ℕ). take (recipe bytes 0).cells (drop k (ofTenant o a c))) s
+          ap (λ (k : ℕ). take k (drop start (of_tenant o a c))) (size start words ∙ w)
+          ∙ ap (λ (k : ℕ). take (recipe bytes 0).cells (drop k (of_tenant o a c))) s
           ∙ sym (pick_true _ _ _ (eq-eqb _ 0 (sym e ∙ z)))
         where
           size : (i k : ℕ) → i + k - i ≡ k
           size i k = omega arith
 
-      pub part-first : o ≡ 0 → take (start + words - start) (drop start a) ≡ viewPart bytes a c o b
-      unfolding ofTenant
-      part-first h = ap (λ (l : List ℕ). take (start + words - start) (drop start l)) (sym (pick_true _ a c (eq-eqb o 0 h))) ∙ part_of
+      pub part_first : o ≡ 0 → take (start + words - start) (drop start a) ≡ view_part bytes a c o b
+      unfolding of_tenant
+      part_first h = ap (λ (l : List ℕ). take (start + words - start) (drop start l)) (sym (pick_true _ a c (eq-eqb o 0 h))) ∙ part_of
 
-      pub part-second : o ≢ 0 → take (start + words - start) (drop start c) ≡ viewPart bytes a c o b
-      unfolding ofTenant
-      part-second h = ap (λ (l : List ℕ). take (start + words - start) (drop start l)) (sym (pick-false _ a c (ne_eqb o 0 h))) ∙ part_of
+      pub part_second : o ≢ 0 → take (start + words - start) (drop start c) ≡ view_part bytes a c o b
+      unfolding of_tenant
+      part_second h = ap (λ (l : List ℕ). take (start + words - start) (drop start l)) (sym (pick_false _ a c (ne_eqb o 0 h))) ∙ part_of
 
 -- a processor's part ends within the memories
-pub part-inside : (n b c : ℕ) → b < n → b * c + c ≤ n * c
-part-inside n b c h = omega (arith, suc-mul b c, mul-le-mul_right c h)
+pub part_inside : (n b c : ℕ) → b < n → b * c + c ≤ n * c
+part_inside n b c h = omega (arith, suc-mul b c, mul-le-mul_right c h)
 
 -- ---- what `view_at` gives, for memories of these lengths
 
 pub not_seen : (bytes : List ℕ) (o b first second : ℕ) (r : Seen) (n : ℕ) → r.number ≡ n → n ≢ 0
-    → ((a c : List ℕ) → first ≡ length a → second ≡ length c → n ≡ viewNumber bytes a c o b)
-    → ((a c : List ℕ) → first ≡ length a → second ≡ length c → r.number ≡ viewNumber bytes a c o b)
+    → ((a c : List ℕ) → first ≡ length a → second ≡ length c → n ≡ view_number bytes a c o b)
+    → ((a c : List ℕ) → first ≡ length a → second ≡ length c → r.number ≡ view_number bytes a c o b)
     × (r.number ≡ 0 → SeenAt (recipe bytes 0) first second b r)
 not_seen bytes o b first second r n e h g = (λ a c i k. e ∙ g a c i k, λ z. absurd (h (sym e ∙ z)))
 
@@ -106,7 +106,7 @@ seen_at p q e first second b n cells r f s c h low x y =
     (record {
       start = x ∙ ap (λ (k : ℕ). b * k) c;
       words = y ∙ c;
-      in-first = omega (arith, x, y, f, part-inside n b cells h);
-      in-second = omega (arith, x, y, s, part-inside n b cells h);
-      word = omega (arith, x, y, low, part-inside n b cells h);
+      in_first = omega (arith, x, y, f, part_inside n b cells h);
+      in_second = omega (arith, x, y, s, part_inside n b cells h);
+      word = omega (arith, x, y, low, part_inside n b cells h);
     })

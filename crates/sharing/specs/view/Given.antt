@@ -9,6 +9,6 @@ use Rattle.sharing.specs.declared.view.core.Seen.{Seen}
 pub record SeenAt (p : Plan) (first second b : ℕ) (r : Seen) : Type 0 where
   pub start : r.start ≡ b * p.cells
   pub words : r.words ≡ p.cells
-  pub in-first : r.start + r.words ≤ first
-  pub in-second : r.start + r.words ≤ second
+  pub in_first : r.start + r.words ≤ first
+  pub in_second : r.start + r.words ≤ second
   pub word : r.start + r.words < 4294967296

@@ -1,7 +1,7 @@
 // Where a view finds its part, by the lengths of the memories alone.
 ghost use Rattle.core.specs.Prelude.{◌≡◌, ℕ, List, length};
 ghost use Rattle.engine.specs.Calls.{recipe};
-ghost use Rattle.sharing.specs.Calls.{viewNumber};
+ghost use Rattle.sharing.specs.Calls.{view_number};
 ghost use Rattle.sharing.specs.view.Given.{SeenAt};
 
 use layout::sizes_of;
@@ -29,7 +29,7 @@ fn unseen(number: u32) -> Seen
 // A view at a processor's memory, by the lengths of both tenants' memories.
 pub fn view_at(encoded: &[u8], first: usize, second: usize, tenant: u32, processor: u32) -> Seen
     ensures { ((a b : List ℕ) → first ≡ length a → second ≡ length b
-        → result.number ≡ viewNumber encoded.now a b tenant processor)
+        → result.number ≡ view_number encoded.now a b tenant processor)
         × (result.number ≡ 0 → SeenAt (recipe encoded.now 0) first second processor result) }
 {
     let reading = read(encoded);

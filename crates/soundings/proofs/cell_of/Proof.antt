@@ -14,7 +14,7 @@ word-index-requires : tie.Need-word-index-requires
 word-index-requires c κs = search rules
 
 returns : tie.Need-returns
-returns c = S.cell-is _ _ _ _ c.before.word-at.ensures c.word-index.ensures
+returns c = S.cell_is _ _ _ _ c.before.word_at.ensures c.word-index.ensures
 
 pub cell-of-spec : {M : Type 1} → statement M
 cell-of-spec = tie.close (tie.spec mul-word-at word-at-requires word-index-requires returns)

@@ -13,7 +13,7 @@ abbrev decreases-loop : tie.decreases-loop
 decreases-loop best source₀ c₀ c-end source c = length source₀ - c
 
 loop-holds : tie.Need-loop-init invariant-loop decreases-loop
-loop-holds c = S.copy-none _ _
+loop-holds c = S.copy_none _ _
 
 mul-source : tie.Need-overflow-mul-source invariant-loop decreases-loop
 mul-source c = search rules
@@ -46,7 +46,7 @@ same_length : tie.Need-same-length invariant-loop decreases-loop
 same_length c = c.before.loop.invariant.long
 
 returns : tie.Need-returns invariant-loop decreases-loop
-returns c = S.copy-end _ _ _ _ c.before.loop.invariant c.loop-test.false
+returns c = S.copy_end _ _ _ _ c.before.loop.invariant c.loop-test.false
 
 pub copy_spec : {M : Type 1} → statement M
 copy_spec =

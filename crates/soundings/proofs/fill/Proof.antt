@@ -1,7 +1,7 @@
 -- `soundings::fill` meets its contract: one law for each return.
 use mathlib.Core.Path.{sym, ◌∙◌}
 use Rattle.nest.proofs.Answers.{number_read, accepted-read}
-use Rattle.layout.proofs.Cells.{lengths-countable}
+use Rattle.layout.proofs.Cells.{lengths_countable}
 use Rattle.soundings.proofs.Returns as R
 use borrow.Author.Rules.{rules}
 use Rattle.soundings.proofs.fill.Statement.{statement}
@@ -11,7 +11,7 @@ ragged-requires : tie.Need-ragged-requires
 ragged-requires c κs = search rules
 
 returns : tie.Need-returns
-returns c = R.ragged-1 _ _ _ _ (sym c.before.ragged.ensures ∙ c.if1.true)
+returns c = R.ragged_1 _ _ _ _ (sym c.before.ragged.ensures ∙ c.if1.true)
 
 read-requires : tie.Need-read-requires
 read-requires c κs = search rules
@@ -26,7 +26,7 @@ product-requires : tie.Need-product-requires
 product-requires c κs =
     let read = c.before.before.before.read in
     let left = c.before.before.if2.false in
-    lengths-countable _ (accepted-read _ _ read.ensures.0 left (read.ensures.1 left))
+    lengths_countable _ (accepted-read _ _ read.ensures.0 left (read.ensures.1 left))
 
 returns-3 : tie.Need-returns-3
 returns-3 c =
@@ -38,7 +38,7 @@ returns-3 c =
     let A = start.args in
     let read = at_read.read in
     let left = at-if2.if2.false in
-    R.length-9 A.encoded.now A.file.now A.value A.source.now (sym at-ragged.ragged.ensures ∙ at-if1.if1.false)
+    R.length_9 A.encoded.now A.file.now A.value A.source.now (sym at-ragged.ragged.ensures ∙ at-if1.if1.false)
     (sym (number_read A.encoded.now read.result read.ensures.0) ∙ left) (λ q. c.if3.true (q ∙ sym (R.size_is A.encoded.now read.result
     read.ensures.0 left _ c.before.product.ensures)))
 
@@ -48,7 +48,7 @@ fill-source-requires c κs =
     let at_read = at-if2.before in
     let read = at_read.read in
     let left = at-if2.if2.false in
-    R.size-most _ _ read.ensures.0 left _ c.before.before.product.ensures (read.ensures.1 left) _ c.before.if3.false
+    R.size_most _ _ read.ensures.0 left _ c.before.before.product.ensures (read.ensures.1 left) _ c.before.if3.false
 
 same_length : tie.Need-same-length
 same_length c = search rules

@@ -13,10 +13,10 @@ set-out-requires c κs =
     (c.before.before.before.requires, record { long = length-replicate {A = ℕ} 49152 0; each = λ i h. get_or-replicate {A = ℕ} 49152 i 0 0 h })
 
 sift-requires : tie.Need-sift-requires
-sift-requires c κs = (c.before.before.before.before.before.requires, S.sifted-none _ _ _ _ c.before.set_out.ensures)
+sift-requires c κs = (c.before.before.before.before.before.requires, S.sifted_none _ _ _ _ c.before.set_out.ensures)
 
 returns : tie.Need-returns
-returns c = R.off-22 _ _ _ (sym c.before.sift.ensures.0 ∙ c.if1.true)
+returns c = R.off_22 _ _ _ (sym c.before.sift.ensures.0 ∙ c.if1.true)
 
 copy-requires : tie.Need-copy-requires
 copy-requires c κs =
@@ -36,7 +36,7 @@ returns-2 c =
     let A = start.args in
     let off = at-sift.sift.ensures in
     let left = at-if1.if1.false in
-    R.filled-0 A.file.now A.value A.source.now (sym off.0 ∙ left) _ (c.before.before.copy.ensures ∙ S.words_are _ _ _ _ _
+    R.filled_0 A.file.now A.value A.source.now (sym off.0 ∙ left) _ (c.before.before.copy.ensures ∙ S.words_are _ _ _ _ _
     at-set-out.set_out.ensures (off.1 left))
 
 pub fill-source-spec : {M : Type 1} → statement M

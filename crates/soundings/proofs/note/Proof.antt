@@ -81,7 +81,7 @@ returns c =
     let at-counts = c.before.before in
     let at-word-at2 = at-counts.before.before.before in
     let at-word-at = at-word-at2.before in
-    S.noted-taken _ _ _ _ _ _ _ at-word-at.word-at.ensures at-word-at2.word-at2.ensures at-counts.counts.ensures _
+    S.noted_taken _ _ _ _ _ _ _ at-word-at.word_at.ensures at-word-at2.word-at2.ensures at-counts.counts.ensures _
     c.word-at3.ensures c.before.if1.true
 
 returns-2 : tie.Need-returns-2
@@ -89,7 +89,7 @@ returns-2 c =
     let at-counts = c.before in
     let at-word-at2 = at-counts.before.before.before in
     let at-word-at = at-word-at2.before in
-    S.noted-passed _ _ _ _ _ _ _ at-word-at.word-at.ensures at-word-at2.word-at2.ensures at-counts.counts.ensures
+    S.noted_passed _ _ _ _ _ _ _ at-word-at.word_at.ensures at-word-at2.word-at2.ensures at-counts.counts.ensures
     c.if1.false
 
 pub note-spec : {M : Type 1} → statement M

@@ -12,7 +12,7 @@ abbrev decreases-loop : tie.decreases-loop
 decreases-loop value size best₀ c₀ best c = size - c
 
 loop-holds : tie.Need-loop-init invariant-loop decreases-loop
-loop-holds c = S.set-out-none _ _ c.requires.0 _ c.requires.1
+loop-holds c = S.set_out_none _ _ c.requires.0 _ c.requires.1
 
 mul-best : tie.Need-overflow-mul-best invariant-loop decreases-loop
 mul-best c = search rules
@@ -33,10 +33,10 @@ loop-less : tie.Need-loop-smaller invariant-loop decreases-loop
 loop-less c = search rules
 
 loop-again : tie.Need-loop-preserved invariant-loop decreases-loop
-loop-again c = S.set-out-more _ _ c.before.before.requires.0 _ _ c.loop-test.true c.before.loop.invariant
+loop-again c = S.set_out_more _ _ c.before.before.requires.0 _ _ c.loop-test.true c.before.loop.invariant
 
 returns : tie.Need-returns invariant-loop decreases-loop
-returns c = S.set-out-end _ _ c.before.before.requires.0 _ _ c.loop-test.false c.before.loop.invariant
+returns c = S.set_out_end _ _ c.before.before.requires.0 _ _ c.loop-test.false c.before.loop.invariant
 
 pub set-out-spec : {M : Type 1} → statement M
 set-out-spec =

@@ -8,7 +8,7 @@ calculate-requires : tie.Need-calculate-requires
 calculate-requires c κs =
     let S = c.before.before.before.before.before in
     let A = S.args in
-    (S.requires.0.0, (shapes.box-low A.nest A.sizes.route S.requires.0.0.accepted c.before.if1.true _ S.requires.0.1.1, S.requires.1))
+    (S.requires.0.0, (shapes.box_low A.nest A.sizes.route S.requires.0.0.accepted c.before.if1.true _ S.requires.0.1.1, S.requires.1))
 
 same_length : tie.Need-same-length
 same_length c = search rules
@@ -17,7 +17,7 @@ returns : tie.Need-returns
 returns c =
     let S = c.before.before.before.before.before.before.before.before in
     let A = S.args in
-    shapes.box-stored A.nest A.sizes.route S.requires.0.0.accepted c.before.before.before.before.if1.true A.source.now A.memory.now
+    shapes.box_stored A.nest A.sizes.route S.requires.0.0.accepted c.before.before.before.before.if1.true A.source.now A.memory.now
     _ A.tile c.before.before.calculate.ensures
 
 box-of-requires : tie.Need-box-of-requires
@@ -27,7 +27,7 @@ box-of-requires c κs =
       S.requires.0.0.accepted,
       (
         (S.requires.0.1.0.shape c.if1.false).owned.tiled,
-        shapes.shape-low A.nest A.sizes.route (S.requires.0.1.0.routed c.if1.false) _
+        shapes.shape_low A.nest A.sizes.route (S.requires.0.1.0.routed c.if1.false) _
             S.requires.0.1.1,
       ),
     )
@@ -44,7 +44,7 @@ returns-2 c =
     let at-if1 = at-box-of.before in
     let S = at-if1.before.before.before.before in
     let A = S.args in
-    shapes.shape-stored A.nest A.sizes.route (S.requires.0.1.0.routed at-if1.if1.false) A.source.now A.memory.now _ A.tile
+    shapes.shape_stored A.nest A.sizes.route (S.requires.0.1.0.routed at-if1.if1.false) A.source.now A.memory.now _ A.tile
     at-box-of.box_of.result at-box-of.box_of.ensures.0 c.before.before.calculate2.ensures
 
 pub calculate-spec : {M : Type 1} → statement M

@@ -5,7 +5,7 @@ use lib.Dec.{ltb}
 use native.Mathlib.Omega.{arith}
 use Rattle.base.specs.Tests.{pick}
 use lib.ListN.{length}
-use Rattle.machine.specs.Machine.{state_of, setProgress}
+use Rattle.machine.specs.Machine.{state_of, set_progress}
 use Rattle.nest.specs.Nest.{cells, processors}
 use Rattle.stages.proofs.Parts as parts
 use Rattle.stages.proofs.Stages as stages
@@ -44,7 +44,7 @@ calculate-requires c κs =
       (S.requires.0.0, (S.requires.0.1.0, S.requires.0.1.1.1)),
       (
         S.requires.1.0,
-        parts.mid-length A.memories.now (A.processor * A.sizes.cells) A.sizes.cells
+        parts.mid_length A.memories.now (A.processor * A.sizes.cells) A.sizes.cells
             (room S) ∙ S.requires.0.0.cells,
       ),
     )
@@ -69,8 +69,8 @@ returns c =
     S.requires.0.0.cells A.source.now G.new.1.1.1.1.0 _ n.result
     (room S)
     G.auto.1.1.1.1.0 G.ensures n.ensures.0
-    (c.next-record.ensures l A.processor ∙ ap
-    (λ (k : ℕ). pick (ltb 0 n.result) (setProgress l A.processor k 2 0) (setProgress l A.processor (k + 1) 0 0)) f)
+    (c.next_record.ensures l A.processor ∙ ap
+    (λ (k : ℕ). pick (ltb 0 n.result) (set_progress l A.processor k 2 0) (set_progress l A.processor (k + 1) 0 0)) f)
 
 pub calculate-stage-spec : {M : Type 1} → statement M
 calculate-stage-spec =

@@ -22,13 +22,13 @@ row c =
     c.processor-of.ensures.1
 
 sub-width : tie.Need-overflow-sub-width invariant-loop decreases-loop
-sub-width c = let S = c.before.before in omega (arith, S.requires.0.accepted.dimensions-least)
+sub-width c = let S = c.before.before in omega (arith, S.requires.0.accepted.dimensions_least)
 
 mul-width : tie.Need-overflow-mul-width invariant-loop decreases-loop
-mul-width c = let S = c.before.before in omega (arith, S.requires.0.accepted.dimensions-most)
+mul-width c = let S = c.before.before in omega (arith, S.requires.0.accepted.dimensions_most)
 
 element-copy-out-width : tie.Need-element-copy-out-width invariant-loop decreases-loop
-element-copy-out-width c = let S = c.before.before in omega (arith, S.requires.0.accepted.dimensions-least, S.requires.0.accepted.dimensions-most)
+element-copy-out-width c = let S = c.before.before in omega (arith, S.requires.0.accepted.dimensions_least, S.requires.0.accepted.dimensions_most)
 
 loop-holds : tie.Need-loop-init invariant-loop decreases-loop
 loop-holds c = let A = c.before.before.before.args in collecting.copied_none A.t1 A.memories.now A.grid.now

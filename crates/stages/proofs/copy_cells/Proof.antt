@@ -14,7 +14,7 @@ returns : tie.Need-returns
 returns c =
     let S = c.before.before.before.before.before.before.before.before in
     let A = S.args in
-    shapes.box-collected A.nest A.sizes.route S.requires.0.0.accepted c.before.before.before.before.if1.true _ _
+    shapes.box_collected A.nest A.sizes.route S.requires.0.0.accepted c.before.before.before.before.if1.true _ _
     c.before.before.copy-box.ensures
 
 copy-cells-requires : tie.Need-copy-cells-requires
@@ -27,7 +27,7 @@ returns-2 : tie.Need-returns-2
 returns-2 c =
     let S = c.before.before.before.before.before.before.before.before in
     let A = S.args in
-    shapes.shape-collected A.nest A.sizes.route (S.requires.0.1 c.before.before.before.before.if1.false) _ _
+    shapes.shape_collected A.nest A.sizes.route (S.requires.0.1 c.before.before.before.before.if1.false) _ _
     c.before.before.copy-cells.ensures
 
 pub copy-cells-spec : {M : Type 1} → statement M

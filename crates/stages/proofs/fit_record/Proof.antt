@@ -4,7 +4,7 @@ use native.Mathlib.Omega.{arith}
 use borrow.Author.Rules.{rules}
 use borrow.Author.Tests.{eq-eqb, ne_eqb}
 use lib.ListN.{get_or}
-use Rattle.base.proofs.Tests.{and-false, and_no, and_left}
+use Rattle.base.proofs.Tests.{and_false, and_no, and_left}
 use Rattle.plan.specs.Shaped.{plan_of}
 use Rattle.stages.proofs.Stages as stages
 use Rattle.stages.proofs.fit_record.Statement.{statement}
@@ -68,7 +68,7 @@ returns c =
     let at-word-index = at-word-index2.before.before.before in
     let start = at-word-index.before.before.before in
     let A = start.args in
-    stages.record-sends (plan_of A.sizes.route A.nest) A.progress.now A.processor at-word-index.word-index.result
+    stages.record_sends (plan_of A.sizes.route A.nest) A.progress.now A.processor at-word-index.word-index.result
     at-tile-count.tile-count.result (get_or A.progress.now (3 * A.processor + 1) 0) at-word-index2.word-index2.result
     at-word-index.word-index.ensures at-tile-count.tile-count.ensures.0 refl at-word-index2.word-index2.ensures c.before.tile-at.result
     c.count_at.result at-if1.if1.true c.before.before.if2.true c.before.tile-at.ensures.0 c.count_at.ensures.0
@@ -80,7 +80,7 @@ returns-2 c =
     let at-word-index = at-word-index2.before.before.before in
     let start = at-word-index.before.before.before in
     let A = start.args in
-    stages.record-wrong (plan_of A.sizes.route A.nest) A.progress.now A.processor at-word-index.word-index.result
+    stages.record_wrong (plan_of A.sizes.route A.nest) A.progress.now A.processor at-word-index.word-index.result
     at-tile-count.tile-count.result (get_or A.progress.now (3 * A.processor + 1) 0) at-word-index2.word-index2.result
     at-word-index.word-index.ensures at-tile-count.tile-count.ensures.0 refl at-word-index2.word-index2.ensures c.before.before.if1.true
     c.if3.true
@@ -92,7 +92,7 @@ returns-3 c =
     let at-word-index = at-word-index2.before.before.before in
     let start = at-word-index.before.before.before in
     let A = start.args in
-    stages.record-begins (plan_of A.sizes.route A.nest) A.progress.now A.processor at-word-index.word-index.result
+    stages.record_begins (plan_of A.sizes.route A.nest) A.progress.now A.processor at-word-index.word-index.result
     at-tile-count.tile-count.result (get_or A.progress.now (3 * A.processor + 1) 0) at-word-index2.word-index2.result
     at-word-index.word-index.ensures at-tile-count.tile-count.ensures.0 refl at-word-index2.word-index2.ensures c.before.before.if1.true
     c.before.if2.false c.if3.false
@@ -103,10 +103,10 @@ returns-4 c =
     let at-word-index = at-word-index2.before.before.before in
     let start = at-word-index.before.before.before in
     let A = start.args in
-    sym (stages.record-over (plan_of A.sizes.route A.nest) A.progress.now A.processor at-word-index.word-index.result
+    sym (stages.record_over (plan_of A.sizes.route A.nest) A.progress.now A.processor at-word-index.word-index.result
     c.before.before.tile-count.result (get_or A.progress.now (3 * A.processor + 1) 0) at-word-index2.word-index2.result
     at-word-index.word-index.ensures c.before.before.tile-count.ensures.0 refl at-word-index2.word-index2.ensures c.before.if1.false
-    ∙ and-false _ _ (ne_eqb _ _ c.if4.true))
+    ∙ and_false _ _ (ne_eqb _ _ c.if4.true))
 
 returns-5 : tie.Need-returns-5
 returns-5 c =
@@ -115,10 +115,10 @@ returns-5 c =
     let at-word-index = at-word-index2.before.before.before in
     let start = at-word-index.before.before.before in
     let A = start.args in
-    sym (stages.record-over (plan_of A.sizes.route A.nest) A.progress.now A.processor at-word-index.word-index.result
+    sym (stages.record_over (plan_of A.sizes.route A.nest) A.progress.now A.processor at-word-index.word-index.result
     at-tile-count.tile-count.result (get_or A.progress.now (3 * A.processor + 1) 0) at-word-index2.word-index2.result
     at-word-index.word-index.ensures at-tile-count.tile-count.ensures.0 refl at-word-index2.word-index2.ensures c.before.before.if1.false
-    ∙ and_no _ _ (and-false _ _ (ne_eqb _ _ c.if5.true)))
+    ∙ and_no _ _ (and_false _ _ (ne_eqb _ _ c.if5.true)))
 
 returns-6 : tie.Need-returns-6
 returns-6 c =
@@ -127,7 +127,7 @@ returns-6 c =
     let at-word-index = at-word-index2.before.before.before in
     let start = at-word-index.before.before.before in
     let A = start.args in
-    sym (stages.record-over (plan_of A.sizes.route A.nest) A.progress.now A.processor at-word-index.word-index.result
+    sym (stages.record_over (plan_of A.sizes.route A.nest) A.progress.now A.processor at-word-index.word-index.result
     at-tile-count.tile-count.result (get_or A.progress.now (3 * A.processor + 1) 0) at-word-index2.word-index2.result
     at-word-index.word-index.ensures at-tile-count.tile-count.ensures.0 refl at-word-index2.word-index2.ensures c.before.before.if1.false
     ∙ and_left _ _ (eq-eqb _ _ c.before.if4.false) ∙ and_left _ _ (eq-eqb _ _ c.if5.false))

@@ -7,7 +7,7 @@ use borrow.Author.Tests.{le-leb, lt-leb}
 use lib.ListN.{length, get_or}
 use lib.Dec.{leb}
 use Rattle.base.specs.Tests.{every}
-use Rattle.base.proofs.Tests.{every-not}
+use Rattle.base.proofs.Tests.{every_not}
 use Rattle.base.proofs.Loops as loops
 use Rattle.stages.proofs.fit_status.Statement.{statement}
 use Rattle.stages.proofs.fit_status.Tie as tie
@@ -19,7 +19,7 @@ abbrev decreases-loop : tie.decreases-loop
 decreases-loop status m₀ m = length status - m
 
 loop-holds : tie.Need-loop-init invariant-loop decreases-loop
-loop-holds c = (omega arith, loops.every-start (λ i. leb (get_or c.args.status.now i 0) 3))
+loop-holds c = (omega arith, loops.every_start (λ i. leb (get_or c.args.status.now i 0) 3))
 
 shared-slice-read-if1 : tie.Need-shared-slice-read-if1 invariant-loop decreases-loop
 shared-slice-read-if1 c = omega arith
@@ -29,7 +29,7 @@ returns c =
     let at-loop = c.before.before.before in
     let start = at-loop.before in
     let l = start.args.status.now in
-    sym (every-not (λ i. leb (get_or l i 0) 3) (length l) at-loop.loop.m c.before.before.loop-test.true (lt-leb _ _ c.if1.true))
+    sym (every_not (λ i. leb (get_or l i 0) 3) (length l) at-loop.loop.m c.before.before.loop-test.true (lt-leb _ _ c.if1.true))
 
 add-m : tie.Need-overflow-add-m invariant-loop decreases-loop
 add-m c = omega arith
@@ -42,14 +42,14 @@ loop-again c =
     let at-loop = c.before.before.before in
     let start = at-loop.before in (
       omega (arith, c.before.before.loop-test.true),
-      loops.every-step (λ i. leb (get_or start.args.status.now i 0) 3) at-loop.loop.m
+      loops.every_step (λ i. leb (get_or start.args.status.now i 0) 3) at-loop.loop.m
           at-loop.loop.invariant.1 (le-leb _ _ c.if1.false),
     )
 
 returns-2 : tie.Need-returns-2 invariant-loop decreases-loop
 returns-2 c =
     let l = c.before.before.args.status.now in
-    sym (loops.every-end (λ i. leb (get_or l i 0) 3) (length l) c.before.loop.m c.before.loop.invariant.0 c.loop-test.false c.before.loop.invariant.1)
+    sym (loops.every_end (λ i. leb (get_or l i 0) 3) (length l) c.before.loop.m c.before.loop.invariant.0 c.loop-test.false c.before.loop.invariant.1)
 
 pub fit-status-spec : {M : Type 1} → statement M
 fit-status-spec =

@@ -18,7 +18,7 @@ count-at-requires c κs = let S = c.before.before.before in S.requires.0
 loop-holds : tie.Need-loop-init invariant-loop decreases-loop
 loop-holds c =
     let A = c.before.before.before.before.args in
-    parts.gather-start A.sizes.route A.nest A.tile A.buffer.now A.memory.now A.status.now c.count_at.result
+    parts.gather_start A.sizes.route A.nest A.tile A.buffer.now A.memory.now A.status.now c.count_at.result
     c.count_at.ensures.0
 
 nth-at-requires : tie.Need-nth-at-requires invariant-loop decreases-loop
@@ -32,7 +32,7 @@ take-message-requires c κs =
     let x = c.before.before.before.loop.invariant in (
       (
         S.requires.0.0,
-        (S.requires.0.1.0, parts.placed-self S.args.sizes.route S.args.nest _ c.before.nth-at.result c.before.nth-at.ensures),
+        (S.requires.0.1.0, parts.placed_self S.args.sizes.route S.args.nest _ c.before.nth-at.result c.before.nth-at.ensures),
       ),
       (x.long ∙ S.requires.1.0, S.requires.1.1.0),
     )
@@ -43,7 +43,7 @@ slice-write-status c =
     let at-loop = at-nth-at.before.before in
     let S = at-loop.before.before.before.before.before in
     let x = at-loop.loop.invariant in
-    omega (arith, at-nth-at.nth-at.ensures.number, at-nth-at.nth-at.ensures.low, x.longStatus, S.requires.1.1.1)
+    omega (arith, at-nth-at.nth-at.ensures.number, at-nth-at.nth-at.ensures.low, x.long_status, S.requires.1.1.1)
 
 add-j : tie.Need-overflow-add-j invariant-loop decreases-loop
 add-j c = omega arith
@@ -60,7 +60,7 @@ loop-again c =
     let start = at-count-at.before.before.before.before in
     let A = start.args in
     let L = at-loop.loop in
-    parts.gather-again A.sizes.route A.nest A.tile A.buffer.now A.memory.now A.status.now at-count-at.count_at.result L.memory
+    parts.gather_again A.sizes.route A.nest A.tile A.buffer.now A.memory.now A.status.now at-count-at.count_at.result L.memory
     c.before.before.take-message.new.1.1.1.0 L.status L.j at-nth-at.nth-at.result L.invariant at-loop-test.loop-test.true
     at-nth-at.nth-at.ensures c.before.before.take-message.auto.1.1.1.0 c.before.before.take-message.ensures
 
@@ -68,13 +68,13 @@ same_length : tie.Need-same-length invariant-loop decreases-loop
 same_length c = c.before.loop.invariant.long
 
 same-length-2 : tie.Need-same-length-2 invariant-loop decreases-loop
-same-length-2 c = c.before.loop.invariant.longStatus
+same-length-2 c = c.before.loop.invariant.long_status
 
 returns : tie.Need-returns invariant-loop decreases-loop
 returns c =
     let A = c.before.before.before.before.before.before.args in
     let L = c.before.loop in
-    parts.gather-done A.sizes.route A.nest A.tile A.buffer.now A.memory.now A.status.now c.before.before.count_at.result
+    parts.gather_done A.sizes.route A.nest A.tile A.buffer.now A.memory.now A.status.now c.before.before.count_at.result
     L.memory L.status L.j L.invariant c.loop-test.false
 
 pub gather-spec : {M : Type 1} → statement M

@@ -3,7 +3,7 @@ use Prim.Native.Nat.{ℕ, ◌*◌, ◌+◌, ◌≤◌}
 use mathlib.Core.Path.{ap, ◌∙◌}
 use native.Mathlib.Omega.{arith}
 use lib.ListN.{length}
-use Rattle.machine.specs.Machine.{state_of, setProgress}
+use Rattle.machine.specs.Machine.{state_of, set_progress}
 use Rattle.nest.specs.Nest.{cells, processors}
 use Rattle.stages.proofs.Parts as parts
 use Rattle.stages.proofs.Stages as stages
@@ -41,7 +41,7 @@ gather-requires c κs =
     let A = S.args in (
       (S.requires.0.0, (S.requires.0.1.0, S.requires.0.1.1.1)),
       (
-        parts.mid-length A.memories.now (A.processor * A.sizes.cells) A.sizes.cells
+        parts.mid_length A.memories.now (A.processor * A.sizes.cells) A.sizes.cells
             (room S) ∙
             S.requires.0.0.cells,
         (S.requires.1.1.0, S.requires.1.1.1),
@@ -63,7 +63,7 @@ returns c =
     stages.gathered A.sizes.route A.nest (state_of A.memories.now A.buffer.now l A.status.now) A.processor A.tile A.sizes.cells
     S.requires.0.0.cells G.new.1.1.1.0 _ G.new.1.1.1.1.1.0
     (room S)
-    G.auto.1.1.1.0 G.ensures.0 G.ensures.1 (ap (λ (k : ℕ). setProgress l A.processor k 1 0) f)
+    G.auto.1.1.1.0 G.ensures.0 G.ensures.1 (ap (λ (k : ℕ). set_progress l A.processor k 1 0) f)
 
 pub gather-stage-spec : {M : Type 1} → statement M
 gather-stage-spec =

@@ -25,7 +25,7 @@ pack-requires c κs =
       S.requires.0,
       (
         S.requires.1.0,
-        parts.mid-words S.args.sizes.route S.args.nest S.args.place.number S.args.place S.requires.0.1.1
+        parts.mid_words S.args.sizes.route S.args.nest S.args.place.number S.args.place S.requires.0.1.1
             S.args.buffer.now S.requires.1.1,
       ),
     )
@@ -37,7 +37,7 @@ returns : tie.Need-returns
 returns c =
     let S = c.before.before.before.before.before.before.before in
     let A = S.args in
-    parts.packed-is A.sizes.route A.nest A.place.number A.place S.requires.0.1.1 A.memory.now A.buffer.now
+    parts.packed_is A.sizes.route A.nest A.place.number A.place S.requires.0.1.1 A.memory.now A.buffer.now
     c.before.before.pack.new.1.1.1.1.0 S.requires.1.1 c.before.before.pack.auto.1.1.1.1.0 c.before.before.pack.ensures
 
 pub put-message-spec : {M : Type 1} → statement M

@@ -33,7 +33,7 @@ returns c =
     let at-count-at = at-loop.before in
     let start = at-count-at.before.before in
     let A = start.args in
-    parts.look-no A.sizes.route A.nest A.tile A.status.now at-count-at.count_at.result at-loop.loop.j at-loop.loop.invariant
+    parts.look_no A.sizes.route A.nest A.tile A.status.now at-count-at.count_at.result at-loop.loop.j at-loop.loop.invariant
     c.before.before.nth-at.result at-loop-test.loop-test.true c.before.before.nth-at.ensures c.if1.true
 
 add-j : tie.Need-overflow-add-j invariant-loop decreases-loop
@@ -49,13 +49,13 @@ loop-again c =
     let at-count-at = at-loop.before in
     let start = at-count-at.before.before in
     let A = start.args in
-    parts.look-again A.sizes.route A.nest A.tile A.status.now at-count-at.count_at.result at-loop.loop.j at-loop.loop.invariant
+    parts.look_again A.sizes.route A.nest A.tile A.status.now at-count-at.count_at.result at-loop.loop.j at-loop.loop.invariant
     c.before.before.nth-at.result at-loop-test.loop-test.true c.before.before.nth-at.ensures c.if1.false
 
 returns-2 : tie.Need-returns-2 invariant-loop decreases-loop
 returns-2 c =
     let A = c.before.before.before.before.args in
-    parts.look-done A.sizes.route A.nest A.tile A.status.now c.before.before.count_at.result c.before.loop.j c.before.loop.invariant
+    parts.look_done A.sizes.route A.nest A.tile A.status.now c.before.before.count_at.result c.before.loop.j c.before.loop.invariant
     c.loop-test.false
 
 pub ready-spec : {M : Type 1} → statement M

@@ -5,7 +5,7 @@ use lib.Dec.{ltb}
 use native.Mathlib.Omega.{arith}
 use Rattle.base.specs.Tests.{pick}
 use lib.ListN.{length}
-use Rattle.machine.specs.Machine.{state_of, setProgress}
+use Rattle.machine.specs.Machine.{state_of, set_progress}
 use Rattle.nest.specs.Nest.{cells, processors}
 use Rattle.stages.proofs.Parts as parts
 use Rattle.stages.proofs.Stages as stages
@@ -46,10 +46,10 @@ put-message-requires c κs =
     let A = S.args in (
       (
         S.requires.0.0,
-        (S.requires.0.1.0, parts.placed-self A.sizes.route A.nest _ c.before.before.nth-at.result c.before.before.nth-at.ensures),
+        (S.requires.0.1.0, parts.placed_self A.sizes.route A.nest _ c.before.before.nth-at.result c.before.before.nth-at.ensures),
       ),
       (
-        parts.mid-length A.memories.now (A.processor * A.sizes.cells) A.sizes.cells
+        parts.mid_length A.memories.now (A.processor * A.sizes.cells) A.sizes.cells
             (room S) ∙ S.requires.0.0.cells,
         S.requires.1.0.1.0,
       ),
@@ -82,8 +82,8 @@ returns c =
     let n = c.before.count_at in
     λ l f g. stages.sent_is A.sizes.route A.nest (state_of A.memories.now A.buffer.now l A.status.now) A.processor A.tile
     A.sizes.cells S.requires.0.0.cells A.sent n.result at-nth-at.nth-at.result at-put-message.put-message.new.1.1.1.1.0 _ g
-    S.requires.1.1.1 at-nth-at.nth-at.ensures n.ensures.0 at-put-message.put-message.ensures (c.next-record.ensures l A.processor
-    ∙ ap (λ (k : ℕ). pick (ltb (A.sent + 1) n.result) (setProgress l A.processor k 2 (A.sent + 1)) (setProgress l A.processor (k + 1) 0 0)) f)
+    S.requires.1.1.1 at-nth-at.nth-at.ensures n.ensures.0 at-put-message.put-message.ensures (c.next_record.ensures l A.processor
+    ∙ ap (λ (k : ℕ). pick (ltb (A.sent + 1) n.result) (set_progress l A.processor k 2 (A.sent + 1)) (set_progress l A.processor (k + 1) 0 0)) f)
 
 pub send-stage-spec : {M : Type 1} → statement M
 send-stage-spec =

@@ -25,7 +25,7 @@ unpack-requires c κs =
       S.requires.0,
       (
         S.requires.1.0,
-        parts.mid-words S.args.sizes.route S.args.nest S.args.place.number S.args.place S.requires.0.1.1
+        parts.mid_words S.args.sizes.route S.args.nest S.args.place.number S.args.place S.requires.0.1.1
             S.args.buffer.now S.requires.1.1,
       ),
     )

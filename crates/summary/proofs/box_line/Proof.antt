@@ -1,6 +1,6 @@
 -- `summary::box_line` meets its contract.
 use native.Mathlib.Omega.{arith}
-use Rattle.tables.proofs.shaped_table.Laws.{box-few}
+use Rattle.tables.proofs.shaped_table.Laws.{box_few}
 use Rattle.summary.proofs.Answers as L
 use borrow.Author.Rules.{rules}
 use Rattle.summary.proofs.box_line.Statement.{statement}
@@ -31,7 +31,7 @@ cast-t9 c =
       arith,
       c.before.before.before.end_of_lem.ensures,
       L.from_low _ _ _ _ start.requires.0.accepted start.requires.1.1 start.requires.1.0,
-      box-few _ start.requires.0.accepted,
+      box_few _ start.requires.0.accepted,
     )
 
 cast-t10 : tie.Need-overflow-cast-t10
@@ -41,7 +41,7 @@ cast-t10 c =
       arith,
       c.before.before.end-of2.ensures,
       L.to_low _ _ _ _ start.requires.0.accepted start.requires.1.1 start.requires.1.0,
-      box-few _ start.requires.0.accepted,
+      box_few _ start.requires.0.accepted,
     )
 
 cast-t11 : tie.Need-overflow-cast-t11

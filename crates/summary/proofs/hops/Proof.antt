@@ -58,7 +58,7 @@ returns-3 c =
     let at_open = at-if1.before.before in
     let S = at_open.before.before.before in
     let opens = at_open.«open» in
-    L.hops-is _ S.args.m _ (opens.ensures.opened at-if1.if1.false) (omega (arith, at_totals.totals.ensures.0, at-if2.if2.false)) _
+    L.hops_is _ S.args.m _ (opens.ensures.opened at-if1.if1.false) (omega (arith, at_totals.totals.ensures.0, at-if2.if2.false)) _
     (opens.ensures.nest at-if1.if1.false) _
     c.hops-at.ensures
 

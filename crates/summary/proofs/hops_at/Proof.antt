@@ -1,7 +1,7 @@
 -- `summary::hops_at` meets its contract.
 use borrow.Author.Rules.{rules}
 use native.Mathlib.Omega.{arith}
-use Rattle.layout.proofs.Steps.{ways-few, ways-some, way-low}
+use Rattle.layout.proofs.Steps.{ways_few, ways_some, way_low}
 use Rattle.summary.proofs.Answers.{slot-hops}
 use Rattle.summary.proofs.hops_at.Statement.{statement}
 use Rattle.summary.proofs.hops_at.Tie as tie
@@ -10,15 +10,15 @@ nth-requires : tie.Need-nth-requires
 nth-requires c κs = search rules
 
 rem-direction : tie.Need-nonzero-rem-direction
-rem-direction c = let start = c.before.before.before in ways-some _ start.requires.0.0.accepted start.args.sizes.route _ start.requires.0.0.ways
+rem-direction c = let start = c.before.before.before in ways_some _ start.requires.0.0.accepted start.args.sizes.route _ start.requires.0.0.ways
 
 add-direction : tie.Need-overflow-add-direction
 add-direction c =
     let start = c.before.before.before in
     omega (
       arith,
-      way-low _ start.requires.0.0.accepted start.args.sizes.route _ start.requires.0.0.ways c.before.before.nth.result.slot,
-      ways-few _ start.requires.0.0.accepted start.args.sizes.route,
+      way_low _ start.requires.0.0.accepted start.args.sizes.route _ start.requires.0.0.ways c.before.before.nth.result.slot,
+      ways_few _ start.requires.0.0.accepted start.args.sizes.route,
     )
 
 cast-hops-along : tie.Need-overflow-cast-hops-along
@@ -26,8 +26,8 @@ cast-hops-along c =
     let start = c.before.before.before in
     omega (
       arith,
-      way-low _ start.requires.0.0.accepted start.args.sizes.route _ start.requires.0.0.ways c.before.before.nth.result.slot,
-      ways-few _ start.requires.0.0.accepted start.args.sizes.route,
+      way_low _ start.requires.0.0.accepted start.args.sizes.route _ start.requires.0.0.ways c.before.before.nth.result.slot,
+      ways_few _ start.requires.0.0.accepted start.args.sizes.route,
     )
 
 hops-along-requires : tie.Need-hops-along-requires

@@ -13,7 +13,7 @@ nth-requires c κs = (c.requires.0.0, (c.requires.0.1, c.requires.1))
 line-at-requires : tie.Need-line-at-requires
 line-at-requires c κs =
     let start = c.before in
-    (start.requires.0, L.found-self _ _ _ _ start.requires.0.0.accepted c.nth.ensures)
+    (start.requires.0, L.found_self _ _ _ _ start.requires.0.0.accepted c.nth.ensures)
 
 returns : tie.Need-returns
 returns c =

@@ -57,7 +57,7 @@ returns-3 c =
     let at_open = at-if1.before.before in
     let S = at_open.before.before.before in
     let opens = at_open.«open» in
-    c.Line-of.ensures ∙ L.message-is _ _ S.args.m _ (opens.ensures.opened at-if1.if1.false) (omega
+    c.Line-of.ensures ∙ L.message_is _ _ S.args.m _ (opens.ensures.opened at-if1.if1.false) (omega
     (arith, at_totals.totals.ensures.0, at-if2.if2.false))
 
 pub message-spec : {M : Type 1} → statement M

@@ -2,7 +2,7 @@
 use mathlib.Core.Path.{refl}
 use Prim.Native.Nat.{◌/◌}
 use native.Mathlib.Omega.{arith}
-use Rattle.tables.proofs.Laws.{some-ways, sender-low}
+use Rattle.tables.proofs.Laws.{some_ways, sender_low}
 use Rattle.summary.proofs.Answers as L
 use borrow.Author.Rules.{rules}
 use Rattle.summary.proofs.shape_line.Statement.{statement}
@@ -11,7 +11,7 @@ use Rattle.summary.proofs.shape_line.Tie as tie
 div-sender : tie.Need-nonzero-div-sender
 div-sender c =
     let start = c.before in
-    some-ways _ start.requires.0.0.accepted _ start.requires.0.1.1 (start.requires.0.1.0.routed start.requires.0.1.1) _ _ start.requires.1 _
+    some_ways _ start.requires.0.0.accepted _ start.requires.0.1.1 (start.requires.0.1.0.routed start.requires.0.1.1) _ _ start.requires.1 _
     start.requires.0.0.ways
 
 taker-of-requires : tie.Need-taker-of-requires
@@ -30,7 +30,7 @@ owner-of-requires c κs =
       start.requires.0.0.accepted,
       (
         (start.requires.0.1.0.shape start.requires.0.1.1).owned,
-        sender-low _ start.requires.0.0.accepted _ start.requires.0.1.1 (start.requires.0.1.0.routed start.requires.0.1.1) _ _ start.requires.1 _
+        sender_low _ start.requires.0.0.accepted _ start.requires.0.1.1 (start.requires.0.1.0.routed start.requires.0.1.1) _ _ start.requires.1 _
             start.requires.0.0.ways,
       ),
     )
@@ -43,7 +43,7 @@ owner-of-requires-2 c κs =
         (start.requires.0.1.0.shape start.requires.0.1.1).owned,
         L.shape-taker-low _ _ _ _ start.requires.0.0.accepted start.requires.1 start.requires.0.1.1
             (start.requires.0.1.0.routed start.requires.0.1.1) _
-            (c.before.taker-of.ensures (L.shape-full _ _ _ _ start.requires.0.0.accepted start.requires.1 start.requires.0.1.1)),
+            (c.before.taker-of.ensures (L.shape_full _ _ _ _ start.requires.0.0.accepted start.requires.1 start.requires.0.1.1)),
       ),
     )
 
@@ -52,9 +52,9 @@ cast-t10 c =
     let start = c.before.before.before.before in
     omega (
       arith,
-      sender-low _ start.requires.0.0.accepted _ start.requires.0.1.1 (start.requires.0.1.0.routed start.requires.0.1.1) _ _ start.requires.1 _
+      sender_low _ start.requires.0.0.accepted _ start.requires.0.1.1 (start.requires.0.1.0.routed start.requires.0.1.1) _ _ start.requires.1 _
           start.requires.0.0.ways,
-      start.requires.0.0.accepted.tiles-most,
+      start.requires.0.0.accepted.tiles_most,
     )
 
 cast-t11 : tie.Need-overflow-cast-t11
@@ -63,8 +63,8 @@ cast-t11 c =
     omega (
       arith,
       L.shape-taker-low _ _ _ _ start.requires.0.0.accepted start.requires.1 start.requires.0.1.1 (start.requires.0.1.0.routed start.requires.0.1.1)
-          _ (c.before.before.taker-of.ensures (L.shape-full _ _ _ _ start.requires.0.0.accepted start.requires.1 start.requires.0.1.1)),
-      start.requires.0.0.accepted.tiles-most,
+          _ (c.before.before.taker-of.ensures (L.shape_full _ _ _ _ start.requires.0.0.accepted start.requires.1 start.requires.0.1.1)),
+      start.requires.0.0.accepted.tiles_most,
     )
 
 cast-t12 : tie.Need-overflow-cast-t12
@@ -86,7 +86,7 @@ returns c =
     let owner-of2 = c.before.owner-of2 in
     L.shape-line-is _ _ _ _ start.requires.0.0.accepted start.requires.1 start.requires.0.1.1 (start.requires.0.1.0.routed start.requires.0.1.1)
     start.args.sizes.ways (start.args.place.slot / start.args.sizes.ways) taker-of.result owner_of.result owner-of2.result
-    start.requires.0.0.ways refl (taker-of.ensures (L.shape-full _ _ _ _ start.requires.0.0.accepted start.requires.1 start.requires.0.1.1))
+    start.requires.0.0.ways refl (taker-of.ensures (L.shape_full _ _ _ _ start.requires.0.0.accepted start.requires.1 start.requires.0.1.1))
     owner_of.ensures.0 owner-of2.ensures.0
 
 pub shape-line-spec : {M : Type 1} → statement M

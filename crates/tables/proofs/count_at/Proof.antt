@@ -10,7 +10,7 @@ count-at-requires c κs = (c.before.before.requires.0, c.before.before.requires.
 
 returns : tie.Need-returns
 returns c =
-    L.box-ends c.before.before.before.args.nest c.before.before.before.requires.0.accepted c.before.before.before.args.sizes.route
+    L.box_ends c.before.before.before.args.nest c.before.before.before.requires.0.accepted c.before.before.before.args.sizes.route
     c.before.if1.true c.before.before.before.args.side c.before.before.before.args.tile _ c.count_at.ensures
 
 count-at-requires-2 : tie.Need-count-at-requires-2
@@ -20,7 +20,7 @@ count-at-requires-2 c κs = (
     c.before.before.requires.1.0.routed c.if1.false,
     (
       c.before.before.requires.1.0.shape c.if1.false,
-      L.shape-low c.before.before.args.nest c.before.before.requires.0.accepted c.before.before.args.sizes.route c.if1.false
+      L.shape_low c.before.before.args.nest c.before.before.requires.0.accepted c.before.before.args.sizes.route c.if1.false
           (c.before.before.requires.1.0.routed c.if1.false) _ c.before.before.requires.1.1,
     ),
   ),
@@ -28,7 +28,7 @@ count-at-requires-2 c κs = (
 
 returns-2 : tie.Need-returns-2
 returns-2 c =
-    L.shape-ends c.before.before.before.args.nest c.before.before.before.requires.0.accepted c.before.before.before.args.sizes.route
+    L.shape_ends c.before.before.before.args.nest c.before.before.before.requires.0.accepted c.before.before.before.args.sizes.route
     c.before.if1.false (c.before.before.before.requires.1.0.routed c.before.if1.false) c.before.before.before.args.side
     c.before.before.before.args.tile _ c.count-at2.ensures
 

@@ -10,13 +10,13 @@ use Rattle.tables.proofs.nth.Tie as tie
 nth-requires : tie.Need-nth-requires
 nth-requires c κs = (
   (c.before.before.requires.0, c.before.before.requires.1.0.box c.if1.true),
-  L.box-below c.before.before.args.nest
+  L.box_below c.before.before.args.nest
       c.before.before.requires.0.accepted c.before.before.args.sizes.route c.if1.true _ c.before.before.requires.1.1,
 )
 
 returns : tie.Need-returns
 returns c =
-    L.box-found c.before.before.before.args.nest c.before.before.before.requires.0.accepted c.before.before.before.args.sizes.route
+    L.box_found c.before.before.before.args.nest c.before.before.before.requires.0.accepted c.before.before.before.args.sizes.route
     c.before.if1.true _ _ _ refl c.nth.ensures
 
 tiles-of-requires : tie.Need-tiles-of-requires
@@ -27,7 +27,7 @@ mul-nth c =
     let start = c.before.before.before.before in
     omega (
       arith,
-      L.slots-few start.args.nest start.requires.0.accepted start.args.sizes.route c.before.before.if1.false
+      L.slots_few start.args.nest start.requires.0.accepted start.args.sizes.route c.before.before.if1.false
           (start.requires.1.0.routed c.before.before.if1.false) c.before.tiles-of.result start.args.sizes.ways c.before.tiles-of.ensures.0
           start.requires.0.ways,
     )
@@ -35,7 +35,7 @@ mul-nth c =
 nth-requires-2 : tie.Need-nth-requires-2
 nth-requires-2 c κs =
     let start = c.before.before.before.before in
-    L.slots-sheet start.args.nest start.requires.0.accepted start.args.sizes.route c.before.before.if1.false
+    L.slots_sheet start.args.nest start.requires.0.accepted start.args.sizes.route c.before.before.if1.false
     (start.requires.1.0.routed c.before.before.if1.false) c.before.tiles-of.result start.args.sizes.ways c.before.tiles-of.ensures.0
     start.requires.0.ways _ (start.requires.1.0.shape c.before.before.if1.false)
 
@@ -43,7 +43,7 @@ returns-2 : tie.Need-returns-2
 returns-2 c =
     let at-if1 = c.before.before.before in
     let start = at-if1.before.before in
-    L.shape-nth start.args.nest start.requires.0.accepted start.args.sizes.route at-if1.if1.false (start.requires.1.0.routed at-if1.if1.false)
+    L.shape_nth start.args.nest start.requires.0.accepted start.args.sizes.route at-if1.if1.false (start.requires.1.0.routed at-if1.if1.false)
     c.before.before.tiles-of.result start.args.sizes.ways c.before.before.tiles-of.ensures.0 start.requires.0.ways _
     (start.requires.1.0.shape at-if1.if1.false) start.args.m _ start.requires.1.1 c.nth2.ensures
 

@@ -10,7 +10,7 @@ tile-count-requires c κs = c.before.before.requires.0
 
 returns : tie.Need-returns
 returns c = (
-  L.box-tiles c.before.before.before.args.nest c.before.before.before.requires.0.accepted c.before.before.before.args.sizes.route
+  L.box_tiles_lem c.before.before.before.args.nest c.before.before.before.requires.0.accepted c.before.before.before.args.sizes.route
       c.before.if1.true _ _ c.tile-count.ensures.0,
   c.tile-count.ensures.1,
 )
@@ -20,7 +20,7 @@ tile-count-requires-2 c κs = (c.before.before.requires.0.accepted, c.before.bef
 
 returns-2 : tie.Need-returns-2
 returns-2 c =
-    L.shape-tiles c.before.before.before.args.nest c.before.before.before.requires.0.accepted c.before.before.before.args.sizes.route
+    L.shape_tiles c.before.before.before.args.nest c.before.before.before.requires.0.accepted c.before.before.before.args.sizes.route
     c.before.if1.false (c.before.before.before.requires.1.routed c.before.if1.false) _ _ c.tile-count2.ensures
 
 pub tile-count-spec : {M : Type 1} → statement M

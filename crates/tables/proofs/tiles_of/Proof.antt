@@ -9,7 +9,7 @@ use Rattle.tables.proofs.tiles_of.Tie as tie
 
 returns : tie.Need-returns
 returns c =
-    L.box-count c.before.before.args.nest c.before.before.requires.0.accepted c.before.before.args.sizes.route c.if1.true _
+    L.box_count c.before.before.args.nest c.before.before.requires.0.accepted c.before.before.args.sizes.route c.if1.true _
     c.before.before.requires.0.tiles
 
 tiles-of-requires : tie.Need-tiles-of-requires
@@ -17,7 +17,7 @@ tiles-of-requires c κs = (c.before.before.requires.0.accepted, (c.before.before
 
 returns-2 : tie.Need-returns-2
 returns-2 c = (
-  L.shape-count c.before.before.before.args.nest c.before.before.before.requires.0.accepted c.before.before.before.args.sizes.route
+  L.shape_count c.before.before.before.args.nest c.before.before.before.requires.0.accepted c.before.before.before.args.sizes.route
       c.before.if1.false (c.before.before.before.requires.1.routed c.before.if1.false) _ c.tiles-of.ensures.0,
   c.tiles-of.ensures.1,
 )

@@ -10,7 +10,7 @@ totals-requires c κs = (c.before.before.requires.0, c.before.before.requires.1.
 
 returns : tie.Need-returns
 returns c =
-    L.box-counts c.before.before.before.args.nest c.before.before.before.requires.0.accepted c.before.before.before.args.sizes.route
+    L.box_counts c.before.before.before.args.nest c.before.before.before.requires.0.accepted c.before.before.before.args.sizes.route
     c.before.if1.true _ _ c.totals.ensures
 
 totals-requires-2 : tie.Need-totals-requires-2
@@ -18,7 +18,7 @@ totals-requires-2 c κs = (c.before.before.requires.0, (c.before.before.requires
 
 returns-2 : tie.Need-returns-2
 returns-2 c =
-    L.shape-counts c.before.before.before.args.nest c.before.before.before.requires.0.accepted c.before.before.before.args.sizes.route
+    L.shape_counts c.before.before.before.args.nest c.before.before.before.requires.0.accepted c.before.before.before.args.sizes.route
     c.before.if1.false (c.before.before.before.requires.1.routed c.before.if1.false) _ _ c.totals2.ensures
 
 pub totals-spec : {M : Type 1} → statement M

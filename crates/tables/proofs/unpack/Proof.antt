@@ -15,7 +15,7 @@ unpack-requires c κs =
         (start.requires.0.1.1.box c.before.if1.true).0,
         (
           start.requires.1.0,
-          L.box-long start.args.nest start.requires.0.0.accepted
+          L.box_long start.args.nest start.requires.0.0.accepted
               start.args.sizes.route c.before.if1.true start.args.place.number _ start.args.place start.requires.0.1.1 start.requires.1.1,
         ),
       ),
@@ -29,13 +29,13 @@ returns c =
     let at-if1 = c.before.before.before.before in
     let start = at-if1.before.before.before.before in
     c.before.before.unpack.ensures ∙ ap (λ l. unpack start.args.memory.now l start.args.words.now)
-    (sym (L.box-held start.args.nest start.requires.0.0.accepted start.args.sizes.route at-if1.if1.true start.args.place.number
+    (sym (L.box_held start.args.nest start.requires.0.0.accepted start.args.sizes.route at-if1.if1.true start.args.place.number
     start.args.place start.requires.0.1.1))
 
 div-box-of : tie.Need-nonzero-div-box-of
 div-box-of c =
     let start = c.before.before.before.before.before in
-    L.some-ways start.args.nest start.requires.0.0.accepted start.args.sizes.route c.before.if1.false
+    L.some_ways start.args.nest start.requires.0.0.accepted start.args.sizes.route c.before.if1.false
     (start.requires.0.1.0.routed c.before.if1.false) start.args.place.number start.args.place start.requires.0.1.1 start.args.sizes.ways
     start.requires.0.0.ways
 
@@ -45,7 +45,7 @@ box-of-requires c κs =
       start.requires.0.0.accepted,
       (
         (start.requires.0.1.0.shape c.before.if1.false).owned.tiled,
-        L.sender-low start.args.nest
+        L.sender_low start.args.nest
             start.requires.0.0.accepted start.args.sizes.route c.before.if1.false (start.requires.0.1.0.routed c.before.if1.false)
             start.args.place.number start.args.place start.requires.0.1.1 start.args.sizes.ways start.requires.0.0.ways,
       ),
@@ -55,7 +55,7 @@ rem-unpack : tie.Need-nonzero-rem-unpack
 rem-unpack c =
     let at-if1 = c.before.before.before in
     let start = at-if1.before.before.before.before in
-    L.some-ways start.args.nest start.requires.0.0.accepted start.args.sizes.route at-if1.if1.false
+    L.some_ways start.args.nest start.requires.0.0.accepted start.args.sizes.route at-if1.if1.false
     (start.requires.0.1.0.routed at-if1.if1.false) start.args.place.number start.args.place start.requires.0.1.1 start.args.sizes.ways
     start.requires.0.0.ways
 
@@ -69,7 +69,7 @@ unpack-requires-2 c κs =
           start.requires.0.1.0.routed at-if1.if1.false,
           (
             c.before.before.box_of.ensures.1,
-            L.way-low start.args.nest start.requires.0.0.accepted start.args.sizes.route at-if1.if1.false
+            L.way_low start.args.nest start.requires.0.0.accepted start.args.sizes.route at-if1.if1.false
                 (start.requires.0.1.0.routed at-if1.if1.false) start.args.place.number start.args.place start.requires.0.1.1
                 start.args.sizes.ways
                 start.requires.0.0.ways,
@@ -78,7 +78,7 @@ unpack-requires-2 c κs =
       ),
       (
         start.requires.1.0,
-        L.shape-long start.args.nest start.requires.0.0.accepted start.args.sizes.route
+        L.shape_long start.args.nest start.requires.0.0.accepted start.args.sizes.route
             at-if1.if1.false (start.requires.0.1.0.routed at-if1.if1.false) start.args.place.number start.args.place start.requires.0.1.1
             start.args.sizes.ways start.requires.0.0.ways _ _ c.before.before.box_of.ensures.0 start.requires.1.1,
       ),
@@ -93,7 +93,7 @@ returns-2 c =
     let at-if1 = at-box-of.before.before in
     let start = at-if1.before.before.before.before in
     c.before.before.unpack2.ensures ∙ ap (λ l. unpack start.args.memory.now l start.args.words.now)
-    (sym (L.shape-held start.args.nest start.requires.0.0.accepted start.args.sizes.route at-if1.if1.false
+    (sym (L.shape_held start.args.nest start.requires.0.0.accepted start.args.sizes.route at-if1.if1.false
     (start.requires.0.1.0.routed at-if1.if1.false) start.args.place.number start.args.place start.requires.0.1.1 start.args.sizes.ways
     start.requires.0.0.ways _ at-box-of.box_of.ensures.0))
 

@@ -4,11 +4,11 @@
 use Rattle.std.specs.Prelude.{ℕ, suc, zero, ◌+◌, ◌-◌, ◌*◌, ◌%◌, ◌≤◌, ◌<◌, ◌≡◌, Bool, List, length, get_or, ltb}
 use Rattle.base.specs.Tests.{one, sum, those}
 use Rattle.machine.specs.Plan as machine
-use Rattle.machine.specs.Plan.{Plan, count, message, senderOf, takerOf}
+use Rattle.machine.specs.Plan.{Plan, count, message, sender_of, taker_of}
 use Rattle.nest.specs.declared.Nest.{Nest}
-use Rattle.nest.specs.Nest.{boxTiles}
+use Rattle.nest.specs.Nest.{box_tiles}
 use Rattle.plan.specs.declared.Route.{Route}
-use Rattle.plan.specs.Messages.{ways, slots, slotParcel, slotMessage, messagesTo, messages, boxPlan}
+use Rattle.plan.specs.Messages.{ways, slots, slot_parcel, slot_message, messages_to, messages, box_plan}
 use Rattle.layout.specs.Sizes.{end_at}
 use Rattle.parcels.specs.Twins.{Twin}
 use Rattle.tables.specs.declared.scans.MessageSlot.{MessageSlot}
@@ -17,14 +17,14 @@ use Rattle.tables.specs.declared.scans.MessageSlot.{MessageSlot}
 pub record Table (r : Route) (x : Nest) (lens : List ℕ) : Type 0 where
   pub plain : x.bounds ≡ 0
   pub long : length lens ≡ 9217
-  pub each : (s : ℕ) → s < slots r x → get_or lens s 0 ≡ length (slotParcel r x s)
+  pub each : (s : ℕ) → s < slots r x → get_or lens s 0 ≡ length (slot_parcel r x s)
 
 -- so far for the first s slots
 pub record Filling (r : Route) (x : Nest) (lens : List ℕ) (s : ℕ) : Type 0 where
   pub plain : x.bounds ≡ 0
   pub low : s ≤ slots r x
   pub long : length lens ≡ 9217
-  pub each : (i : ℕ) → i < s → get_or lens i 0 ≡ length (slotParcel r x i)
+  pub each : (i : ℕ) → i < s → get_or lens i 0 ≡ length (slot_parcel r x i)
 
 -- the n places of a dimension from `at` on have one before them, or two, and after them another of full length
 pub record Likes (at : ℕ) (two : Bool) (tiling length n : ℕ) : Type 0 where
@@ -33,47 +33,47 @@ pub record Likes (at : ℕ) (two : Bool) (tiling length n : ℕ) : Type 0 where
 
 -- the n tiles from t on have parcels as long as those of the tiles k before them
 pub record Twins (r : Route) (x : Nest) (t k n : ℕ) : Type 0 where
-  pub room : t + n ≤ boxTiles x
+  pub room : t + n ≤ box_tiles x
   pub far : 0 < n → (1 ≤ k) × (k ≤ t)
   pub each : (i : ℕ) → i < n → Twin r x (t + i) (t + i - k)
 
 -- the slots before s have m messages, and those o words
 pub record Summing (r : Route) (x : Nest) (s m o : ℕ) : Type 0 where
   pub low : s ≤ slots r x
-  pub number : m ≡ length (messagesTo r x s)
+  pub number : m ≡ length (messages_to r x s)
   pub few : m ≤ s
-  pub offset : o ≡ machine.offset (messagesTo r x s) (length (messagesTo r x s))
+  pub offset : o ≡ machine.offset (messages_to r x s) (length (messages_to r x s))
   pub small : o ≤ 16384 * s
 
 -- the tile at an end of a message: 0 the sender, else the taker
 abbrev pub end_of : ℕ → Plan → ℕ → ℕ
-end_of zero p m = senderOf p m
-end_of (suc i) p m = takerOf p m
+end_of zero p m = sender_of p m
+end_of (suc i) p m = taker_of p m
 
 -- the messages with tile t at that end: sends (0) or dues
-abbrev pub atEnd : ℕ → Plan → ℕ → List ℕ
-atEnd side p t = those (end_of side p) t (count p)
+abbrev pub at_end : ℕ → Plan → ℕ → List ℕ
+at_end side p t = those (end_of side p) t (count p)
 
 -- q is the only slot along way w whose message has tile t at that end; it is no slot, if there is none
 pub record Only (r : Route) (x : Nest) (side t w q : ℕ) : Type 0 where
-  pub there : q < slots r x → (q % ways r x ≡ w) × ((end_at r x side q ≡ t) × (0 < length (slotParcel r x q)))
-  pub only : (s : ℕ) → s < slots r x → s % ways r x ≡ w → end_at r x side s ≡ t → 0 < length (slotParcel r x s) → s ≡ q
+  pub there : q < slots r x → (q % ways r x ≡ w) × ((end_at r x side q ≡ t) × (0 < length (slot_parcel r x q)))
+  pub only : (s : ℕ) → s < slots r x → s % ways r x ≡ w → end_at r x side s ≡ t → 0 < length (slot_parcel r x s) → s ≡ q
 
 -- `ends` has that slot for each way
 pub record Ends (r : Route) (x : Nest) (side t : ℕ) (ends : List ℕ) : Type 0 where
   pub each : (w : ℕ) → w < ways r x → Only r x side t w (get_or ends w 0)
 
 -- how many of the first n numbers of a list are below k
-unfoldable pub countBelow : List ℕ → ℕ → ℕ → ℕ
-countBelow l n k = sum (λ d. one (ltb (get_or l d 0) k)) n
+unfoldable pub count_below : List ℕ → ℕ → ℕ → ℕ
+count_below l n k = sum (λ d. one (ltb (get_or l d 0) k)) n
 
 -- message m is found at p
 pub record FoundAt (r : Route) (x : Nest) (m : ℕ) (p : MessageSlot) : Type 0 where
   pub number : p.number ≡ m
-  pub low : m < count (boxPlan r x)
+  pub low : m < count (box_plan r x)
   pub offset : p.offset ≡ machine.offset (messages r x) m
   pub slot : p.slot < slots r x
-  pub is : message (boxPlan r x) m ≡ slotMessage r x p.slot
-  pub words : p.words ≡ length (slotParcel r x p.slot)
+  pub is : message (box_plan r x) m ≡ slot_message r x p.slot
+  pub words : p.words ≡ length (slot_parcel r x p.slot)
   pub full : 0 < p.words
-  pub room : p.offset + p.words ≤ machine.words (boxPlan r x)
+  pub room : p.offset + p.words ≤ machine.words (box_plan r x)

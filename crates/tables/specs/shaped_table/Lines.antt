@@ -5,22 +5,22 @@ use Rattle.std.specs.Prelude.{ℕ, ◌+◌, ◌*◌, ◌≤◌, ◌<◌, ◌≡�
 use Rattle.base.specs.Tests.{every}
 use Rattle.nest.specs.declared.Nest.{Nest}
 use Rattle.nest.specs.declared.Interval.{Interval}
-use Rattle.nest.specs.Nest.{tileLength}
+use Rattle.nest.specs.Nest.{tile_length}
 use Rattle.nest.specs.Shape.{meets, tiles}
 use Rattle.nest.specs.Spans.{last}
-use Rattle.plan.specs.Geometry.{processorOf}
-use Rattle.plan.specs.Shaped.{boxTile}
+use Rattle.plan.specs.Geometry.{processor_of}
+use Rattle.plan.specs.Shaped.{box_tile}
 use Rattle.parcels.specs.declared.Window.{Window}
 use Rattle.tables.specs.shaped_table.Table.{Like}
 
 -- from tile u of the box on, below `end`, tiles have processor p
 pub record OneProcessor (x : Nest) (u p end : ℕ) : Type 0 where
-  pub each : (v : ℕ) → u ≤ v → v < end → processorOf x v ≡ p
+  pub each : (v : ℕ) → u ≤ v → v < end → processor_of x v ≡ p
 
 -- in each dimension the components of the cells of the tile at a place, and of those at most so far after them
 pub record Area (x : Nest) (at most : List ℕ) (w : Window) : Type 0 where
-  pub low : (j : ℕ) → j < x.dimensions → get_or w.low j 0 ≡ get_or at j 0 * tileLength x j
-  pub high : (j : ℕ) → j < x.dimensions → get_or w.high j 0 + 1 ≡ get_or at j 0 * tileLength x j + tileLength x j + get_or most j 0
+  pub low : (j : ℕ) → j < x.dimensions → get_or w.low j 0 ≡ get_or at j 0 * tile_length x j
+  pub high : (j : ℕ) → j < x.dimensions → get_or w.high j 0 + 1 ≡ get_or at j 0 * tile_length x j + tile_length x j + get_or most j 0
 
 -- its numbers are small
 pub record Few (x : Nest) (w : Window) : Type 0 where
@@ -52,4 +52,4 @@ pub record PlacesIn (inner : Interval) (tiling length most : ℕ) (r : Interval)
 -- a tile from one number of the box on, below another, is like the tile that is so far before it in the box
 pub record Lined (x : Nest) (far from to : ℕ) : Type 0 where
   pub few : far ≤ 65536
-  pub each : (t p : ℕ) → p < t → t < tiles x → from ≤ boxTile x t → boxTile x t < to → boxTile x p + far ≡ boxTile x t → Like x t p
+  pub each : (t p : ℕ) → p < t → t < tiles x → from ≤ box_tile x t → box_tile x t < to → box_tile x p + far ≡ box_tile x t → Like x t p

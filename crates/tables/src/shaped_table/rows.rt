@@ -2,8 +2,8 @@
 // near lies in the shape, or the tile a move of tiles before them where every bound moves along with that move.
 ghost use Rattle.std.specs.Prelude.{◌≡◌, ◌≢◌, true, ℕ, ◌+◌, ◌-◌, ◌≤◌, ◌<◌, get_or};
 ghost use Rattle.nest.specs.Accepted.{Accepted};
-ghost use Rattle.nest.specs.Nest.{side, boxTiles};
-ghost use Rattle.nest.specs.Places.{tilePlace};
+ghost use Rattle.nest.specs.Nest.{side, box_tiles};
+ghost use Rattle.nest.specs.Places.{tile_place};
 ghost use Rattle.nest.specs.Spans.{last};
 ghost use Rattle.layout.specs.Sizes.{Sized};
 ghost use Rattle.layout.specs.Places.{Has};
@@ -175,7 +175,7 @@ fn line_by(
     places: Interval,
     far: usize,
 ) -> TileRow
-    requires sized { Sized nest sizes × ((tile < boxTiles nest) × Has at (tilePlace nest tile) nest.dimensions) }
+    requires sized { Sized nest sizes × ((tile < box_tiles nest) × Has at (tile_place nest tile) nest.dimensions) }
     requires from_bound { (places.from ≤ 8400000) × (places.to ≤ 1024) }
     ensures { (result.far ≡ far) × ((result.from ≡ tile - get_or at (last nest) 0 + places.from)
         × (result.to ≡ tile - get_or at (last nest) 0 + places.to)) }
@@ -193,7 +193,7 @@ fn line_by(
 
 // The row of a tile: those of its tiles that lie, with all that is near, wholly inside the shape, as the tile before them does.
 fn stretch_of(nest: Nest, sizes: Sizes, most: [usize; 4], tile: usize, at: [usize; 4]) -> TileRow
-    requires { Sized nest sizes × ((tile < boxTiles nest) × (Farthest nest most × Has at (tilePlace nest tile) nest.dimensions)) }
+    requires { Sized nest sizes × ((tile < box_tiles nest) × (Farthest nest most × Has at (tile_place nest tile) nest.dimensions)) }
     ensures { Lined nest result.far result.from result.to }
 {
     let area = area_of(nest, most, at);
@@ -322,7 +322,7 @@ fn moved_in(nest: Nest, sizes: Sizes, steps: [usize; 4], at: [usize; 4]) -> Inte
 
 // The row of a tile: by the move, or where none of its tiles is like the one a move before, by those that lie wholly inside.
 pub fn line_of(nest: Nest, sizes: Sizes, most: [usize; 4], by: Move, tile: usize) -> TileRow
-    requires { Sized nest sizes × ((tile < boxTiles nest) × (Farthest nest most × Moves nest by.steps by.far)) }
+    requires { Sized nest sizes × ((tile < box_tiles nest) × (Farthest nest most × Moves nest by.steps by.far)) }
     ensures { Lined nest result.far result.from result.to }
 {
     let at = layout::place_of_tile(nest, sizes, tile);

@@ -31,7 +31,7 @@ returns-2 c =
     let at_read = at-if1.before in
     let S = at_read.before.before.before in
     let read = at_read.read in
-    answers.owners-area S.args.encoded.now S.args.out.now (plan_of Direct read.result.nest) (lines.opened-direct S.args.encoded.now
+    answers.owners-area S.args.encoded.now S.args.out.now (plan_of Direct read.result.nest) (lines.opened_direct S.args.encoded.now
     read.result read.ensures.0 at-if1.if1.false {route = Direct} refl) (λ q. c.if2.true (q ∙ sym c.before.before.sizes-of.ensures.0.cells))
 
 put-owners-requires : tie.Need-put-owners-requires
@@ -50,7 +50,7 @@ returns-3 c =
     let at_read = at-if1.before in
     let S = at_read.before.before.before in
     let read = at_read.read in
-    answers.owners-done S.args.encoded.now S.args.out.now (plan_of Direct read.result.nest) (lines.opened-direct S.args.encoded.now
+    answers.owners-done S.args.encoded.now S.args.out.now (plan_of Direct read.result.nest) (lines.opened_direct S.args.encoded.now
     read.result read.ensures.0 at-if1.if1.false {route = Direct} refl) (at-if2.if2.false ∙ at-sizes-of.sizes-of.ensures.0.cells) _
     c.before.before.put-owners.ensures
 

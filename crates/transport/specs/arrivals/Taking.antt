@@ -7,15 +7,15 @@ use Rattle.base.specs.Numbers.{line, first_of}
 use Rattle.machine.specs.Plan.{Plan, count, words}
 use Rattle.machine.specs.Machine.{State, Answered, answered}
 use Rattle.network.specs.Apart.{received}
-use Rattle.network.specs.Brought.{takenBy, asLong}
+use Rattle.network.specs.Brought.{taken_by, as_long}
 
 -- the areas into which a message is taken, and its words
 pub record MayTake (p : Plan) (mail marks : List ℕ) (m : ℕ) (new : List ℕ) : Type 0 where
   pub buffer : length mail ≡ words p
   pub status : length marks ≡ count p
-  pub long : asLong p m new ≡ true
+  pub long : as_long p m new ≡ true
 
 -- past the lines before it: 11, 14, or the message taken in
-abbrev pub receivedOr : Plan → State → ℕ → ℕ → List ℕ → Answered State
-receivedOr p s b m new =
-    answered (first_of (line 11 (not (takenBy p b m)) ∷ line 14 (not (slice_index s.status m == 0)) ∷ [])) (received p s m new) s
+abbrev pub received_or : Plan → State → ℕ → ℕ → List ℕ → Answered State
+received_or p s b m new =
+    answered (first_of (line 11 (not (taken_by p b m)) ∷ line 14 (not (slice_index s.status m == 0)) ∷ [])) (received p s m new) s

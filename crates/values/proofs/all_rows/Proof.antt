@@ -2,8 +2,8 @@
 use Prim.Native.Nat.{◌*◌, ◌-◌}
 use native.Mathlib.Omega.{arith}
 use mathlib.Core.Path.{refl}
-use Rattle.values.proofs.row_values.Boxes.{stored-all}
-use Rattle.values.proofs.row_values.Rows.{given-next, given-more}
+use Rattle.values.proofs.row_values.Boxes.{stored_all}
+use Rattle.values.proofs.row_values.Rows.{given_next, given_more}
 use borrow.Author.Rules.{rules}
 use Rattle.values.proofs.all_rows.Statement.{statement}
 use Rattle.values.proofs.all_rows.Tie as tie
@@ -26,7 +26,7 @@ box-rows-requires c κs =
     let g = p.1.0 in (
       p.0,
       (
-        given-next _ _ _ _ _ _ s.args.source.now s.args.memory.now _ _ _ _ _ g _ _ _ (fours.box-fours.ensures p.0 g)
+        given_next _ _ _ _ _ _ s.args.source.now s.args.memory.now _ _ _ _ _ g _ _ _ (fours.box_fours.ensures p.0 g)
             (4 * s.args.groups) (omega arith),
         (omega (arith, p.1.1.0, p.1.1.1), omega (arith, p.1.1.0, p.1.1.1)),
       ),
@@ -41,9 +41,9 @@ returns c =
     let s = fours.before.before.before.before.before.before in
     let p = s.requires in
     let taken = 4 * s.args.groups in
-    λ x g. let f = fours.box-fours.ensures x g in
-    stored-all _ _ _ _ _ _ _ _ _ (given-more _ _ _ _ _ _ s.args.source.now s.args.memory.now _ _ _ _ _ g _ _ _ f taken (s.args.rows - taken)
-    s.args.rows (omega arith) (omega (arith, p.1.1.0)) _ _ (c.before.before.box-rows.ensures x (given-next _ _ _ _ _ _ s.args.source.now
+    λ x g. let f = fours.box_fours.ensures x g in
+    stored_all _ _ _ _ _ _ _ _ _ (given_more _ _ _ _ _ _ s.args.source.now s.args.memory.now _ _ _ _ _ g _ _ _ f taken (s.args.rows - taken)
+    s.args.rows (omega arith) (omega (arith, p.1.1.0)) _ _ (c.before.before.box_rows.ensures x (given_next _ _ _ _ _ _ s.args.source.now
     s.args.memory.now _ _ _ _ _ g _ _ _ f taken (omega arith)))) refl
 
 pub all-rows-spec : {M : Type 1} → statement M

@@ -3,12 +3,12 @@ use Prim.Native.Nat.{ℕ, ◌-◌}
 use native.Mathlib.Omega.{arith}
 use mathlib.Core.Path.{refl, ap, ◌∙◌}
 use lib.ListN.{get_or}
-use Rattle.base.specs.Lists.{storeAll}
+use Rattle.base.specs.Lists.{store_all}
 use Rattle.plan.specs.Geometry.{value}
 use Rattle.bands.specs.lagged.Bands.{rows_of}
 use Rattle.values.specs.row_values.Boxes.{row_at}
-use Rattle.values.proofs.row_values.Boxes.{box-countable}
-use Rattle.values.proofs.row_values.Rows.{given-box}
+use Rattle.values.proofs.row_values.Boxes.{box_countable}
+use Rattle.values.proofs.row_values.Rows.{given_box}
 use borrow.Author.Rules.{rules}
 use Rattle.values.proofs.box_values.Statement.{statement}
 use Rattle.values.proofs.box_values.Tie as tie
@@ -35,12 +35,12 @@ least-of-requires c κs =
 sub-last : tie.Need-overflow-sub-last
 sub-last c =
     let start = c.before.before.before.before.before.before.before.before.before.before.before.before.before.before in
-    omega (arith, start.requires.0.dimensions-least)
+    omega (arith, start.requires.0.dimensions_least)
 
 product-requires : tie.Need-product-requires
 product-requires c κs =
     let start = c.before.before.before.before.before.before.before.before.before.before.before.before.before.before in
-    box-countable _ start.requires.0 _ _ start.requires.1.0
+    box_countable _ start.requires.0 _ _ start.requires.1.0
 
 mul-by-fours : tie.Need-overflow-mul-by-fours
 mul-by-fours c = search rules
@@ -62,15 +62,15 @@ all-rows-requires c κs =
     let backs = margins.before.before in
     let s = backs.before.before.before.before.before.before.before in
     let p = s.requires in
-    let g = given-box s.args.nest _ _ _ _ _ s.args.source.now s.args.memory.now s.args.t4 s.args.corner p.0
+    let g = given_box s.args.nest _ _ _ _ _ s.args.source.now s.args.memory.now s.args.t4 s.args.corner p.0
     (record {
       given = record { is = refl };
       backs = backs.backs-of.ensures;
-      weights-are = refl;
+      weights_are = refl;
       firsts = lasts.lasts-of.ensures;
       margins = margins.margins-of.ensures;
     }) p.1.1 p.1.0 (search (rules, s.well-formed.1.1.1.1.0)) in
-    let few = (box-countable _ p.0 _ _ p.1.0).few in
+    let few = (box_countable _ p.0 _ _ p.1.0).few in
     let groups = c.before.before.before.before.before.before.before.before.before.before.before in
     (s.args.nest, (g, (groups.by-fours.ensures, omega (arith, counted.product.ensures, few))))
 
@@ -85,17 +85,17 @@ returns c =
     let backs = margins.before.before in
     let s = backs.before.before.before.before.before.before.before in
     let p = s.requires in
-    let g = given-box s.args.nest _ _ _ _ _ s.args.source.now s.args.memory.now s.args.t4 s.args.corner p.0
+    let g = given_box s.args.nest _ _ _ _ _ s.args.source.now s.args.memory.now s.args.t4 s.args.corner p.0
     (record {
       given = record { is = refl };
       backs = backs.backs-of.ensures;
-      weights-are = refl;
+      weights_are = refl;
       firsts = lasts.lasts-of.ensures;
       margins = margins.margins-of.ensures;
     }) p.1.1 p.1.0 (search (rules, s.well-formed.1.1.1.1.0)) in
     c.before.before.all-rows.ensures s.args.nest g
     ∙ ap
-    (λ (n : ℕ). storeAll (value s.args.nest s.args.source.now) s.args.memory.now
+    (λ (n : ℕ). store_all (value s.args.nest s.args.source.now) s.args.memory.now
     (rows_of (row_at s.args.nest s.args.t4 s.args.corner) (get_or s.args.t4 (s.args.nest.dimensions - 1) 0) n)) counted.product.ensures
 
 pub box-values-spec : {M : Type 1} → statement M

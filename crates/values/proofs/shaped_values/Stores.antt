@@ -9,130 +9,130 @@ use native.Mathlib.Numerals.{add-one}
 use native.Mathlib.Omega.{arith}
 use lib.ListN.{length, get_or, drop, set, length-append, get_or-append, replicate, length-replicate, get_or-replicate}
 use lib.Seq.{drop-cons, drop-length, set-append_seam, set-get_or, get_or-append_seam}
-use Rattle.base.specs.Tests.{◌and◌, pick, keep, keepIf, tabulate}
-use Rattle.base.specs.Lists.{In, sublist, put, storeAll}
-use Rattle.base.proofs.Tests.{pick_true, pick-false, tabulate-same}
+use Rattle.base.specs.Tests.{◌and◌, pick, keep, keep_if, tabulate}
+use Rattle.base.specs.Lists.{In, sublist, put, store_all}
+use Rattle.base.proofs.Tests.{pick_true, pick_false, tabulate_same}
 use Rattle.base.proofs.Lists.{store_length}
 use Rattle.base.proofs.Copies.{copied_none, copied_more}
-use Rattle.machine.specs.Machine.{state_of, memoryOf, sweepTo, sweep, collected}
+use Rattle.machine.specs.Machine.{state_of, memory_of, sweep_to, sweep, collected}
 use Rattle.nest.specs.declared.Nest.{Nest}
 use Rattle.nest.specs.Accepted.{Accepted}
-use Rattle.nest.specs.Nest.{cells, boxTiles}
-use Rattle.nest.specs.Shape.{inShape}
+use Rattle.nest.specs.Nest.{cells, box_tiles}
+use Rattle.nest.specs.Shape.{in_shape}
 use Rattle.plan.specs.declared.Route.TheVariants.{Direct}
-use Rattle.plan.specs.Geometry.{cells_of, processorOf}
-use Rattle.plan.specs.Shaped.{plan_of, boxTile, tileOf, shapedCells, shapedValue}
-use Rattle.plan.specs.Box.{boxSize, boxCell}
-use Rattle.plan.proofs.Box.{cellsOf-box}
-use Rattle.plan.proofs.ShapedTiles.{boxTile-tileOf}
+use Rattle.plan.specs.Geometry.{cells_of, processor_of}
+use Rattle.plan.specs.Shaped.{plan_of, box_tile, tile_of, shaped_cells, shaped_value}
+use Rattle.plan.specs.Box.{box_size, box_cell}
+use Rattle.plan.proofs.Box.{cells_of_box}
+use Rattle.plan.proofs.ShapedTiles.{box_tile_tile_of}
 use Rattle.plan.proofs.ShapedSound.{sound}
 use Rattle.layout.specs.CellRows.{row_of}
 use Rattle.layout.proofs.CellRows.{row_next}
-use Rattle.kernels.proofs.Orders.{store-append}
-use Rattle.kernels.proofs.Sums.{rows_join, Rowing, rowing-none, rowing_more, rowing-end}
-use Rattle.values.proofs.row_values.Words.{in-row-of}
-use Rattle.values.specs.shaped_values.Rows.{insideOnly, heldWord}
+use Rattle.kernels.proofs.Orders.{store_append}
+use Rattle.kernels.proofs.Sums.{rows_join, Rowing, rowing_none, rowing_more, rowing_end}
+use Rattle.values.proofs.row_values.Words.{in_row_of}
+use Rattle.values.specs.shaped_values.Rows.{inside_only, held_word}
 
 -- ---- cells outside stay as they are
 
 module _ (x : Nest) (f : List ℕ → ℕ → ℕ) where
-  in-word : (l : List ℕ) (c : ℕ) → inShape x c ≡ true → insideOnly x f l c ≡ f l c
-  unfolding insideOnly
-  in-word l c h = pick_true _ _ _ h
+  in_word : (l : List ℕ) (c : ℕ) → in_shape x c ≡ true → inside_only x f l c ≡ f l c
+  unfolding inside_only
+  in_word l c h = pick_true _ _ _ h
 
-  out-word : (l : List ℕ) (c : ℕ) → inShape x c ≡ false → insideOnly x f l c ≡ get_or l c 0
-  unfolding insideOnly
-  out-word l c h = pick-false _ _ _ h
+  out_word : (l : List ℕ) (c : ℕ) → in_shape x c ≡ false → inside_only x f l c ≡ get_or l c 0
+  unfolding inside_only
+  out_word l c h = pick_false _ _ _ h
 
-  store_out : (cs l : List ℕ) → ((c : ℕ) → In c cs → inShape x c ≡ false) → storeAll (insideOnly x f) l cs ≡ l
-  unfolding storeAll
+  store_out : (cs l : List ℕ) → ((c : ℕ) → In c cs → in_shape x c ≡ false) → store_all (inside_only x f) l cs ≡ l
+  unfolding store_all
   store_out [] l h = refl
   store_out (c ∷ cs) l h =
-      store_out cs (set l c (insideOnly x f l c)) (λ d i. h d (inr i)) ∙ ap (set l c) (out-word l c (h c (inl refl))) ∙ set-get_or l c 0
+      store_out cs (set l c (inside_only x f l c)) (λ d i. h d (inr i)) ∙ ap (set l c) (out_word l c (h c (inl refl))) ∙ set-get_or l c 0
 
   -- a row of w cells: p outside, m stored by a rule that gives the same, the rest outside
-  pub row_cut : (g : List ℕ → ℕ → ℕ) (l l' : List ℕ) (c p m w : ℕ) → p + m ≤ w → ((y : ℕ) → y < p → inShape x (c + y) ≡ false)
-      → ((y : ℕ) → p + m ≤ y → y < w → inShape x (c + y) ≡ false)
-      → ((k : List ℕ) (y : ℕ) → y < m → (inShape x (c + p + y) ≡ true) × (g k (c + p + y) ≡ f k (c + p + y)))
-      → l' ≡ storeAll g l (row_of (c + p) m) → l' ≡ storeAll (insideOnly x f) l (row_of c w)
+  pub row_cut : (g : List ℕ → ℕ → ℕ) (l l' : List ℕ) (c p m w : ℕ) → p + m ≤ w → ((y : ℕ) → y < p → in_shape x (c + y) ≡ false)
+      → ((y : ℕ) → p + m ≤ y → y < w → in_shape x (c + y) ≡ false)
+      → ((k : List ℕ) (y : ℕ) → y < m → (in_shape x (c + p + y) ≡ true) × (g k (c + p + y) ≡ f k (c + p + y)))
+      → l' ≡ store_all g l (row_of (c + p) m) → l' ≡ store_all (inside_only x f) l (row_of c w)
   row_cut g l l' c p m w h before after same e =
-      let first : l ≡ storeAll (insideOnly x f) l (row_of c p) =
-      sym (store_out (row_of c p) l (λ z i. let q = in-row-of c p z i in let k : c + (z - c) ≡ z = omega (arith, q.0) in
+      let first : l ≡ store_all (inside_only x f) l (row_of c p) =
+      sym (store_out (row_of c p) l (λ z i. let q = in_row_of c p z i in let k : c + (z - c) ≡ z = omega (arith, q.0) in
       rw k at (before (z - c) (omega (arith, q.0, q.1))))) in
-      let two : l' ≡ storeAll (insideOnly x f) l (row_of c (p + m)) =
-      e ∙ rows_join (insideOnly x f) g l l c p first m (λ k y i. let s = same k y i in s.1 ∙ sym (in-word k (c + p + y) s.0)) in
+      let two : l' ≡ store_all (inside_only x f) l (row_of c (p + m)) =
+      e ∙ rows_join (inside_only x f) g l l c p first m (λ k y i. let s = same k y i in s.1 ∙ sym (in_word k (c + p + y) s.0)) in
       let all : p + m + (w - (p + m)) ≡ w = omega arith in
-      let end : storeAll (insideOnly x f) l' (row_of (c + (p + m)) (w - (p + m))) ≡ l' =
-      store_out (row_of (c + (p + m)) (w - (p + m))) l' (λ z i. let q = in-row-of (c + (p + m)) (w - (p + m)) z i in
+      let end : store_all (inside_only x f) l' (row_of (c + (p + m)) (w - (p + m))) ≡ l' =
+      store_out (row_of (c + (p + m)) (w - (p + m))) l' (λ z i. let q = in_row_of (c + (p + m)) (w - (p + m)) z i in
       let k : c + (z - c) ≡ z = omega (arith, q.0) in rw k at (after (z - c) (omega (arith, q.0)) (omega (arith, q.0, q.1)))) in
-      rw all at (sym end ∙ rows_join (insideOnly x f) (insideOnly x f) l l' c (p + m) two (w - (p + m)) (λ k y i. refl))
+      rw all at (sym end ∙ rows_join (inside_only x f) (inside_only x f) l l' c (p + m) two (w - (p + m)) (λ k y i. refl))
 
   -- no cell of the row is in the shape
-  pub row_out : (l : List ℕ) (c w : ℕ) → ((y : ℕ) → y < w → inShape x (c + y) ≡ false) → l ≡ storeAll (insideOnly x f) l (row_of c w)
+  pub row_out : (l : List ℕ) (c w : ℕ) → ((y : ℕ) → y < w → in_shape x (c + y) ≡ false) → l ≡ store_all (inside_only x f) l (row_of c w)
   row_out l c w h =
-      sym (store_out (row_of c w) l (λ z i. let q = in-row-of c w z i in let k : c + (z - c) ≡ z = omega (arith, q.0) in
+      sym (store_out (row_of c w) l (λ z i. let q = in_row_of c w z i in let k : c + (z - c) ≡ z = omega (arith, q.0) in
       rw k at (h (z - c) (omega (arith, q.0, q.1)))))
 
   -- of the cells that a test keeps, those in the shape
-  pub store_kept : (h : ℕ → Bool) (n : ℕ) (l : List ℕ) → storeAll (insideOnly x f) l (keep h n) ≡ storeAll f l (keep (λ c. inShape x c and h c) n)
-  unfolding keep storeAll ◌and◌
+  pub store_kept : (h : ℕ → Bool) (n : ℕ) (l : List ℕ) → store_all (inside_only x f) l (keep h n) ≡ store_all f l (keep (λ c. in_shape x c and h c) n)
+  unfolding keep store_all ◌and◌
   store_kept h zero l = refl
   store_kept h (suc n) l =
-      store-append (insideOnly x f) l (keep h n) (keepIf (h n) n)
-      ∙ ap (λ (k : List ℕ). storeAll (insideOnly x f) k (keepIf (h n) n)) (store_kept h n l)
-      ∙ one (storeAll f l (keep (λ c. inShape x c and h c) n)) (h n) (inShape x n) refl
-      ∙ sym (store-append f l (keep (λ c. inShape x c and h c) n) (keepIf (inShape x n and h n) n))
+      store_append (inside_only x f) l (keep h n) (keep_if (h n) n)
+      ∙ ap (λ (k : List ℕ). store_all (inside_only x f) k (keep_if (h n) n)) (store_kept h n l)
+      ∙ one (store_all f l (keep (λ c. in_shape x c and h c) n)) (h n) (in_shape x n) refl
+      ∙ sym (store_append f l (keep (λ c. in_shape x c and h c) n) (keep_if (in_shape x n and h n) n))
     where
-      one : (m : List ℕ) (t u : Bool) → inShape x n ≡ u → storeAll (insideOnly x f) m (keepIf t n) ≡ storeAll f m (keepIf (u and t) n)
-      one m true true e = ap (set m n) (in-word m n e)
-      one m true false e = ap (set m n) (out-word m n e) ∙ set-get_or m n 0
+      one : (m : List ℕ) (t u : Bool) → in_shape x n ≡ u → store_all (inside_only x f) m (keep_if t n) ≡ store_all f m (keep_if (u and t) n)
+      one m true true e = ap (set m n) (in_word m n e)
+      one m true false e = ap (set m n) (out_word m n e) ∙ set-get_or m n 0
       one m false true e = refl
       one m false false e = refl
 
 -- ---- cells stored one after the other: the first q of g
 
 pub record Storing (f : List ℕ → ℕ → ℕ) (g : ℕ → ℕ) (l₀ l : List ℕ) (q : ℕ) : Type 0 where
-  pub is : l ≡ storeAll f l₀ (tabulate g q)
+  pub is : l ≡ store_all f l₀ (tabulate g q)
 
-tabulate-more : (g : ℕ → ℕ) (q n : ℕ) → tabulate g (q + n) ≡ tabulate g q ++ tabulate (λ y. g (q + y)) n
+tabulate_more : (g : ℕ → ℕ) (q n : ℕ) → tabulate g (q + n) ≡ tabulate g q ++ tabulate (λ y. g (q + y)) n
 unfolding tabulate
-tabulate-more g q zero = rw (add-zero q) (sym (append-nil _))
-tabulate-more g q (suc n) =
+tabulate_more g q zero = rw (add-zero q) (sym (append-nil _))
+tabulate_more g q (suc n) =
     let z : q + suc n ≡ suc (q + n) = omega arith in
-    rw z (ap (λ (l : List ℕ). l ++ (g (q + n) ∷ [])) (tabulate-more g q n) ∙ append_assoc (tabulate g q) (tabulate (λ y. g (q + y)) n) (g (q + n) ∷ []))
+    rw z (ap (λ (l : List ℕ). l ++ (g (q + n) ∷ [])) (tabulate_more g q n) ∙ append_assoc (tabulate g q) (tabulate (λ y. g (q + y)) n) (g (q + n) ∷ []))
 
 module _ (f : List ℕ → ℕ → ℕ) (g : ℕ → ℕ) (l₀ : List ℕ) where
-  storing-none : Storing f g l₀ l₀ 0
-  unfolding storeAll tabulate
-  storing-none = record { is = refl }
+  storing_none : Storing f g l₀ l₀ 0
+  unfolding store_all tabulate
+  storing_none = record { is = refl }
 
-  pub storing-start : (w : ℕ) → Storing f g l₀ l₀ (0 * w)
-  storing-start w = rw (zero-mul w) storing-none
+  pub storing_start : (w : ℕ) → Storing f g l₀ l₀ (0 * w)
+  storing_start w = rw (zero-mul w) storing_none
 
   module _ (l : List ℕ) (q : ℕ) (p : Storing f g l₀ l q) where
-    pub storing-long : length l ≡ length l₀
-    storing-long = ap length p.is ∙ store_length f (tabulate g q) l₀
+    pub storing_long : length l ≡ length l₀
+    storing_long = ap length p.is ∙ store_length f (tabulate g q) l₀
 
-    storing-more : (c n : ℕ) (l' : List ℕ) → ((y : ℕ) → y < n → c + y ≡ g (q + y)) → l' ≡ storeAll f l (row_of c n) → Storing f g l₀ l' (q + n)
-    storing-more c n l' h e =
+    storing_more : (c n : ℕ) (l' : List ℕ) → ((y : ℕ) → y < n → c + y ≡ g (q + y)) → l' ≡ store_all f l (row_of c n) → Storing f g l₀ l' (q + n)
+    storing_more c n l' h e =
         record {
           is = e
-              ∙ ap (storeAll f l) (tabulate-same (λ y. c + y) (λ y. g (q + y)) n h)
-              ∙ ap (λ (k : List ℕ). storeAll f k (tabulate (λ y. g (q + y)) n)) p.is
-              ∙ sym (store-append f l₀ (tabulate g q) (tabulate (λ y. g (q + y)) n))
-              ∙ ap (storeAll f l₀) (sym (tabulate-more g q n));
+              ∙ ap (store_all f l) (tabulate_same (λ y. c + y) (λ y. g (q + y)) n h)
+              ∙ ap (λ (k : List ℕ). store_all f k (tabulate (λ y. g (q + y)) n)) p.is
+              ∙ sym (store_append f l₀ (tabulate g q) (tabulate (λ y. g (q + y)) n))
+              ∙ ap (store_all f l₀) (sym (tabulate_more g q n));
         }
 
   -- one row more
-  pub storing-turn : (l : List ℕ) (r w c : ℕ) (l' : List ℕ) → Storing f g l₀ l (r * w) → ((y : ℕ) → y < w → c + y ≡ g (r * w + y)) → l' ≡ storeAll f l
+  pub storing_turn : (l : List ℕ) (r w c : ℕ) (l' : List ℕ) → Storing f g l₀ l (r * w) → ((y : ℕ) → y < w → c + y ≡ g (r * w + y)) → l' ≡ store_all f l
       (row_of c w)
       → Storing f g l₀ l' ((r + 1) * w)
-  storing-turn l r w c l' p h e = rw (row_next w r r) (storing-more l (r * w) p c w l' h e)
+  storing_turn l r w c l' p h e = rw (row_next w r r) (storing_more l (r * w) p c w l' h e)
 
 -- ---- a list filled with one word
 
-pub filled-long : (n v : ℕ) (l : List ℕ) → l ≡ replicate n v → length l ≡ n
-filled-long n v l e = ap length e ∙ length-replicate n v
+pub filled_long : (n v : ℕ) (l : List ℕ) → l ≡ replicate n v → length l ≡ n
+filled_long n v l e = ap length e ∙ length-replicate n v
 
 pub filled_at : (n v m : ℕ) (l : List ℕ) → l ≡ replicate n v → n ≡ m → (i : ℕ) → i < m → get_or l i 0 ≡ v
 filled_at n v m l e k i h = ap (λ (z : List ℕ). get_or z i 0) e ∙ get_or-replicate n i v 0 (omega arith)
@@ -140,26 +140,26 @@ filled_at n v m l e k i h = ap (λ (z : List ℕ). get_or z i 0) e ∙ get_or-re
 -- ---- words copied: a part of the memories to cells side by side
 
 module _ (memories grid : List ℕ) (from to n : ℕ) (fits : to + n ≤ length grid) (there : from + n ≤ length memories) where
-  copied-rowing : (y : ℕ) → y ≤ n → Rowing (λ l c. get_or memories (from + (c - to)) 0) grid (put grid to (sublist memories from y)) to n y
-  copied-rowing zero l = rw (copied_none grid memories to from) (rowing-none _ grid to n)
-  copied-rowing (suc y) l =
+  copied_rowing : (y : ℕ) → y ≤ n → Rowing (λ l c. get_or memories (from + (c - to)) 0) grid (put grid to (sublist memories from y)) to n y
+  copied_rowing zero l = rw (copied_none grid memories to from) (rowing_none _ grid to n)
+  copied_rowing (suc y) l =
       let z : from + (to + y - to) ≡ from + y = omega arith in
       subst (λ (i : ℕ). Rowing (λ l c. get_or memories (from + (c - to)) 0) grid (put grid to (sublist memories from i)) to n i) (add-one y)
-      (rowing_more (copied-rowing y (omega arith)) _ (omega arith) (sym (copied_more grid memories to from y (omega arith) (omega arith))
+      (rowing_more (copied_rowing y (omega arith)) _ (omega arith) (sym (copied_more grid memories to from y (omega arith) (omega arith))
       ∙ ap (λ (i : ℕ). set (put grid to (sublist memories from y)) (to + y) (get_or memories i 0)) (sym z)))
 
-  pub copied-row : put grid to (sublist memories from n) ≡ storeAll (λ l c. get_or memories (from + (c - to)) 0) grid (row_of to n)
-  copied-row = rowing-end (copied-rowing n (omega arith)) (omega arith)
+  pub copied_row : put grid to (sublist memories from n) ≡ store_all (λ l c. get_or memories (from + (c - to)) 0) grid (row_of to n)
+  copied_row = rowing_end (copied_rowing n (omega arith)) (omega arith)
 
 -- ---- a tile
 
-module _ (x : Nest) (ok : Accepted x) (t : ℕ) (low : t < boxTiles x) (f : List ℕ → ℕ → ℕ) (l₀ l : List ℕ) where
-  pub tile-stored : (q : ℕ) → q ≡ boxSize x t → Storing (insideOnly x f) (boxCell x t) l₀ l q → l ≡ storeAll f l₀ (shapedCells x t)
-  unfolding shapedCells cells_of
-  tile-stored q e p =
+module _ (x : Nest) (ok : Accepted x) (t : ℕ) (low : t < box_tiles x) (f : List ℕ → ℕ → ℕ) (l₀ l : List ℕ) where
+  pub tile_stored : (q : ℕ) → q ≡ box_size x t → Storing (inside_only x f) (box_cell x t) l₀ l q → l ≡ store_all f l₀ (shaped_cells x t)
+  unfolding shaped_cells cells_of
+  tile_stored q e p =
       p.is
-      ∙ ap (λ (a : ℕ). storeAll (insideOnly x f) l₀ (tabulate (boxCell x t) a)) e
-      ∙ ap (storeAll (insideOnly x f) l₀) (sym (cellsOf-box x ok t low))
+      ∙ ap (λ (a : ℕ). store_all (inside_only x f) l₀ (tabulate (box_cell x t) a)) e
+      ∙ ap (store_all (inside_only x f) l₀) (sym (cells_of_box x ok t low))
       ∙ store_kept x f _ (cells x) l₀
 
 -- ---- all cells, from a grid of the boundary's words
@@ -174,58 +174,58 @@ front_at : (k o : List ℕ) (n : ℕ) → length k ≡ n → n < length o → ge
 front_at k o n e l = rw (sym e) (rw (drop-cons o (length k) 0 (omega arith)) (get_or-append_seam k (get_or o (length k) 0) (drop (suc (length k)) o) 0))
 
 module _ (x : Nest) (f : List ℕ → ℕ → ℕ) (w : ℕ → List ℕ) (g : ℕ → ℕ) (b n : ℕ) (l₀ : List ℕ) (long : length l₀ ≡ n) (every : (c : ℕ) → c < n → get_or l₀ c 0 ≡ b)
-    (none : w 0 ≡ []) (more : (c : ℕ) → w (suc c) ≡ w c ++ (pick (inShape x c) (g c) b ∷ []))
+    (none : w 0 ≡ []) (more : (c : ℕ) → w (suc c) ≡ w c ++ (pick (in_shape x c) (g c) b ∷ []))
     (same : (c : ℕ) → c < n → length (w c) ≡ c → f (w c ++ drop c l₀) c ≡ g c) where
-  w-long : (c : ℕ) → length (w c) ≡ c
-  w-long zero = ap length none
-  w-long (suc c) = ap length (more c) ∙ length-append (w c) _ ∙ omega (arith, w-long c)
+  w_long : (c : ℕ) → length (w c) ≡ c
+  w_long zero = ap length none
+  w_long (suc c) = ap length (more c) ∙ length-append (w c) _ ∙ omega (arith, w_long c)
 
-  front : (c : ℕ) → c ≤ n → storeAll (insideOnly x f) l₀ (tabulate (λ y. y) c) ≡ w c ++ drop c l₀
-  unfolding tabulate storeAll
+  front : (c : ℕ) → c ≤ n → store_all (inside_only x f) l₀ (tabulate (λ y. y) c) ≡ w c ++ drop c l₀
+  unfolding tabulate store_all
   front zero h = rw none refl
   front (suc c) h =
-      store-append (insideOnly x f) l₀ (tabulate (λ y. y) c) (c ∷ [])
-      ∙ ap (λ (k : List ℕ). set k c (insideOnly x f k c)) (front c (omega arith))
-      ∙ ap (set (w c ++ drop c l₀) c) (word (inShape x c) refl)
-      ∙ push (w c) l₀ c _ (w-long c) (omega arith)
+      store_append (inside_only x f) l₀ (tabulate (λ y. y) c) (c ∷ [])
+      ∙ ap (λ (k : List ℕ). set k c (inside_only x f k c)) (front c (omega arith))
+      ∙ ap (set (w c ++ drop c l₀) c) (word (in_shape x c) refl)
+      ∙ push (w c) l₀ c _ (w_long c) (omega arith)
       ∙ ap (λ (k : List ℕ). k ++ drop (suc c) l₀) (sym (more c))
     where
-      word : (t : Bool) → inShape x c ≡ t → insideOnly x f (w c ++ drop c l₀) c ≡ pick (inShape x c) (g c) b
-      word true e = in-word x f _ c e ∙ same c (omega arith) (w-long c) ∙ sym (pick_true _ _ _ e)
-      word false e = out-word x f _ c e ∙ front_at (w c) l₀ c (w-long c) (omega arith) ∙ every c (omega arith) ∙ sym (pick-false _ _ _ e)
+      word : (t : Bool) → in_shape x c ≡ t → inside_only x f (w c ++ drop c l₀) c ≡ pick (in_shape x c) (g c) b
+      word true e = in_word x f _ c e ∙ same c (omega arith) (w_long c) ∙ sym (pick_true _ _ _ e)
+      word false e = out_word x f _ c e ∙ front_at (w c) l₀ c (w_long c) (omega arith) ∙ every c (omega arith) ∙ sym (pick_false _ _ _ e)
 
-  pub whole : (l : List ℕ) (q : ℕ) → q ≡ n → Storing (insideOnly x f) (λ y. y) l₀ l q → l ≡ w n
+  pub whole : (l : List ℕ) (q : ℕ) → q ≡ n → Storing (inside_only x f) (λ y. y) l₀ l q → l ≡ w n
   whole l q e p =
       p.is
-      ∙ ap (λ (a : ℕ). storeAll (insideOnly x f) l₀ (tabulate (λ y. y) a)) e
+      ∙ ap (λ (a : ℕ). store_all (inside_only x f) l₀ (tabulate (λ y. y) a)) e
       ∙ front n (omega arith)
       ∙ ap (λ (a : ℕ). w n ++ drop a l₀) (sym long)
       ∙ ap (λ (k : List ℕ). w n ++ k) (drop-length l₀)
       ∙ append-nil (w n)
 
 module _ (x : Nest) (ok : Accepted x) (l₀ : List ℕ) (long : length l₀ ≡ cells x) (filled : (c : ℕ) → c < cells x → get_or l₀ c 0 ≡ x.boundary) where
-  pub swept : (source l : List ℕ) (q : ℕ) → q ≡ cells x → Storing (insideOnly x (shapedValue x source)) (λ y. y) l₀ l q → l ≡ sweep (plan_of Direct x) source
-  unfolding sweepTo
+  pub swept : (source l : List ℕ) (q : ℕ) → q ≡ cells x → Storing (inside_only x (shaped_value x source)) (λ y. y) l₀ l q → l ≡ sweep (plan_of Direct x) source
+  unfolding sweep_to
   swept source l q e p =
-      whole x (shapedValue x source) (sweepTo (plan_of Direct x) source) (λ c. shapedValue x source (sweepTo (plan_of Direct x) source c) c) x.boundary
+      whole x (shaped_value x source) (sweep_to (plan_of Direct x) source) (λ c. shaped_value x source (sweep_to (plan_of Direct x) source c) c) x.boundary
       (cells x) l₀ long filled
       refl (λ c. refl)
-      (λ c h k. (sound Direct x ok).local source (sweepTo (plan_of Direct x) source c ++ drop c l₀) (sweepTo (plan_of Direct x) source c) c h
-      (λ r i. get_or-append (sweepTo (plan_of Direct x) source c) (drop c l₀) 0 r (omega (arith, k, (sound Direct x ok).earlier c r h i))))
+      (λ c h k. (sound Direct x ok).local source (sweep_to (plan_of Direct x) source c ++ drop c l₀) (sweep_to (plan_of Direct x) source c) c h
+      (λ r i. get_or-append (sweep_to (plan_of Direct x) source c) (drop c l₀) 0 r (omega (arith, k, (sound Direct x ok).earlier c r h i))))
       l q e p
 
-  pub gathered : (memories l : List ℕ) (q : ℕ) → q ≡ cells x → Storing (insideOnly x (heldWord x memories)) (λ y. y) l₀ l q
+  pub gathered : (memories l : List ℕ) (q : ℕ) → q ≡ cells x → Storing (inside_only x (held_word x memories)) (λ y. y) l₀ l q
       → l ≡ collected (plan_of Direct x) (state_of memories [] [] [])
-  unfolding collected tabulate heldWord
+  unfolding collected tabulate held_word
   gathered memories l q e p =
-      whole x (heldWord x memories) (tabulate (λ c. pick (inShape x c) (heldWord x memories [] c) x.boundary)) (heldWord x memories []) x.boundary
+      whole x (held_word x memories) (tabulate (λ c. pick (in_shape x c) (held_word x memories [] c) x.boundary)) (held_word x memories []) x.boundary
       (cells x) l₀ long filled
       refl (λ c. refl) (λ c h k. refl) l q e p
-      ∙ tabulate-same _ _ (cells x) (λ c h. owner c h (inShape x c) refl)
+      ∙ tabulate_same _ _ (cells x) (λ c h. owner c h (in_shape x c) refl)
     where
-      owner : (c : ℕ) → c < cells x → (t : Bool) → inShape x c ≡ t → pick (inShape x c) (heldWord x memories [] c) x.boundary
-          ≡ pick (inShape x c) (get_or (memoryOf (plan_of Direct x) (state_of memories [] [] []) (processorOf x (boxTile x (tileOf x c)))) c 0) x.boundary
+      owner : (c : ℕ) → c < cells x → (t : Bool) → in_shape x c ≡ t → pick (in_shape x c) (held_word x memories [] c) x.boundary
+          ≡ pick (in_shape x c) (get_or (memory_of (plan_of Direct x) (state_of memories [] [] []) (processor_of x (box_tile x (tile_of x c)))) c 0) x.boundary
       owner c h true e =
-          ap (λ (u : ℕ). pick (inShape x c) (get_or (memoryOf (plan_of Direct x) (state_of memories [] [] []) (processorOf x u)) c 0) x.boundary)
-          (sym (boxTile-tileOf x ok c h e))
-      owner c h false e = pick-false _ _ _ e ∙ sym (pick-false _ _ _ e)
+          ap (λ (u : ℕ). pick (in_shape x c) (get_or (memory_of (plan_of Direct x) (state_of memories [] [] []) (processor_of x u)) c 0) x.boundary)
+          (sym (box_tile_tile_of x ok c h e))
+      owner c h false e = pick_false _ _ _ e ∙ sym (pick_false _ _ _ e)

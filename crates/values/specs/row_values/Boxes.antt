@@ -2,7 +2,7 @@
 -- The rows of a box of cells: which they are, where one stands, and what is stored once so many have their values.
 -- No sentence of document 01.
 use Rattle.std.specs.Prelude.{ℕ, ◌+◌, ◌-◌, ◌≤◌, ◌<◌, ◌≡◌, List, length, get_or}
-use Rattle.base.specs.Lists.{storeAll}
+use Rattle.base.specs.Lists.{store_all}
 use Rattle.nest.specs.declared.Nest.{Nest}
 use Rattle.nest.specs.Places.{rank, place}
 use Rattle.plan.specs.Geometry.{value}
@@ -31,5 +31,5 @@ RowsGiven x components lasts back weights margin source memory grid N from at r 
 
 -- from row r on n rows have their values, and the place is that of the row after them
 pub record Stored (x : Nest) (source N from memory₀ memory at : List ℕ) (r n : ℕ) : Type 0 where
-  pub is : memory ≡ storeAll (value x source) memory₀ (rows_of (λ k. row_at x N from (r + k)) (get_or N (x.dimensions - 1) 0) n)
+  pub is : memory ≡ store_all (value x source) memory₀ (rows_of (λ k. row_at x N from (r + k)) (get_or N (x.dimensions - 1) 0) n)
   pub after : Standing x N from (r + n) at

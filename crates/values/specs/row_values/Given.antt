@@ -11,8 +11,8 @@ use Rattle.values.specs.declared.row_values.Body.{Body}
 use Rattle.values.specs.row_values.Waves.{RowTables}
 
 -- the nest that has these numbers, and all else as x: code is handed no nest, so its contracts speak of every nest that has the numbers
-abbrev pub withBody : Nest → Body → Nest
-withBody x b =
+abbrev pub with_body : Nest → Body → Nest
+with_body x b =
     record {
       dimensions = b.dimensions;
       spread = x.spread;

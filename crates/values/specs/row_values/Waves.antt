@@ -11,12 +11,12 @@ use Rattle.layout.specs.CellRows.{Given}
 use Rattle.values.specs.row_values.Reads.{Backs}
 
 -- the most that the first e distances have in dimension j
-unfoldable pub mostIn : List ℕ → ℕ → ℕ → ℕ
-mostIn l j zero = 0
-mostIn l j (suc e) = max (mostIn l j e) (get_or l (4 * e + j) 0)
+unfoldable pub most_in : List ℕ → ℕ → ℕ → ℕ
+most_in l j zero = 0
+most_in l j (suc e) = max (most_in l j e) (get_or l (4 * e + j) 0)
 
 abbrev pub most_of : Nest → ℕ → ℕ → ℕ
-most_of x j e = mostIn x.components j e
+most_of x j e = most_in x.components j e
 
 -- from which last component on each distance reads in a row where it reads at all
 pub record Lasts (x : Nest) (first : List ℕ) : Type 0 where
@@ -26,7 +26,7 @@ pub record Lasts (x : Nest) (first : List ℕ) : Type 0 where
 pub record RowTables (x : Nest) (components lasts back weights margin : List ℕ) : Type 0 where
   pub given : Given x components
   pub backs : Backs x back
-  pub weights-are : weights ≡ x.weights
+  pub weights_are : weights ≡ x.weights
   pub firsts : Lasts x lasts
   pub margins : Has margin (λ j. most_of x j x.distances) x.dimensions
 
@@ -45,10 +45,10 @@ pub record Fours (x : Nest) (a b c d : Cell) (w : ℕ) : Type 0 where
   pub two : Located x b.number b
   pub three : Located x c.number c
   pub fourth : Located x d.number d
-  pub same-two : get_or b.place (x.dimensions - 1) 0 ≡ get_or a.place (x.dimensions - 1) 0
-  pub same-three : get_or c.place (x.dimensions - 1) 0 ≡ get_or a.place (x.dimensions - 1) 0
-  pub same-fourth : get_or d.place (x.dimensions - 1) 0 ≡ get_or a.place (x.dimensions - 1) 0
+  pub same_two : get_or b.place (x.dimensions - 1) 0 ≡ get_or a.place (x.dimensions - 1) 0
+  pub same_three : get_or c.place (x.dimensions - 1) 0 ≡ get_or a.place (x.dimensions - 1) 0
+  pub same_fourth : get_or d.place (x.dimensions - 1) 0 ≡ get_or a.place (x.dimensions - 1) 0
   pub fits : get_or a.place (x.dimensions - 1) 0 + w ≤ get_or x.lengths (x.dimensions - 1) 0
-  pub then-two : a.number + w ≤ b.number
-  pub then-three : b.number + w ≤ c.number
-  pub then-fourth : c.number + w ≤ d.number
+  pub then_two : a.number + w ≤ b.number
+  pub then_three : b.number + w ≤ c.number
+  pub then_fourth : c.number + w ≤ d.number

@@ -7,24 +7,24 @@ use Rattle.base.specs.Lists.{sublist}
 use Rattle.nest.specs.declared.Nest.{Nest}
 use Rattle.nest.specs.declared.Interval.{Interval}
 use Rattle.nest.specs.Nest.{cells}
-use Rattle.nest.specs.Places.{cellPlace, boxTileOf}
-use Rattle.nest.specs.Shape.{inShape}
+use Rattle.nest.specs.Places.{cell_place, box_tile_of}
+use Rattle.nest.specs.Shape.{in_shape}
 use Rattle.nest.specs.Spans.{last, within}
-use Rattle.plan.specs.Geometry.{processorOf}
-use Rattle.plan.specs.Shaped.{readsShape}
+use Rattle.plan.specs.Geometry.{processor_of}
+use Rattle.plan.specs.Shaped.{reads_shape}
 
 -- f's word for a cell in the shape; to a cell outside, what stands there
-unfoldable pub insideOnly : Nest → (List ℕ → ℕ → ℕ) → List ℕ → ℕ → ℕ
-insideOnly x f memory c = pick (inShape x c) (f memory c) (get_or memory c 0)
+unfoldable pub inside_only : Nest → (List ℕ → ℕ → ℕ) → List ℕ → ℕ → ℕ
+inside_only x f memory c = pick (in_shape x c) (f memory c) (get_or memory c 0)
 
 -- the word of cell c in the memory of its tile's processor
-unfoldable pub heldWord : Nest → List ℕ → List ℕ → ℕ → ℕ
-heldWord x memories grid c = get_or (sublist memories (processorOf x (boxTileOf x c) * cells x) (cells x)) c 0
+unfoldable pub held_word : Nest → List ℕ → List ℕ → ℕ → ℕ
+held_word x memories grid c = get_or (sublist memories (processor_of x (box_tile_of x c) * cells x) (cells x)) c 0
 
 -- cell c stands in the row of a place
 pub record Along (x : Nest) (at : List ℕ) (c : ℕ) : Type 0 where
   pub low : c < cells x
-  pub same : (j : ℕ) → j < last x → cellPlace x c j ≡ get_or at j 0
+  pub same : (j : ℕ) → j < last x → cell_place x c j ≡ get_or at j 0
 
 -- a number from `low` on, below `high`
 abbrev pub between : ℕ → ℕ → ℕ → Bool
@@ -39,21 +39,21 @@ pub record Overlaps (s : Interval) (first width : ℕ) (r : Interval) : Type 0 w
 
 -- in the row of a place distance e reads a cell of the shape just from `low` on, below `high`
 pub record ReadsRun (x : Nest) (at : List ℕ) (e low high : ℕ) : Type 0 where
-  pub is : (c : ℕ) → Along x at c → between low high (cellPlace x c (last x)) ≡ readsShape x c e
+  pub is : (c : ℕ) → Along x at c → between low high (cell_place x c (last x)) ≡ reads_shape x c e
 
 pub record ReadsRuns (x : Nest) (at firsts ends : List ℕ) : Type 0 where
   pub each : (e : ℕ) → e < x.distances → ReadsRun x at e (get_or firsts e 0) (get_or ends e 0)
 
 -- the word of cell c, whose source is at s and whose last component is a: distance k gives the word so far back, or the boundary's where it reads none
-unfoldable pub mixedWord : ℕ → List ℕ → List ℕ → List ℕ → List ℕ → ℕ → ℕ → List ℕ → ℕ → ℕ → List ℕ → ℕ → ℕ
-mixedWord n firsts ends backs weights boundary shift source s a memory c =
+unfoldable pub mixed_word : ℕ → List ℕ → List ℕ → List ℕ → List ℕ → ℕ → ℕ → List ℕ → ℕ → ℕ → List ℕ → ℕ → ℕ
+mixed_word n firsts ends backs weights boundary shift source s a memory c =
     (get_or source s 0 + sum (λ k. get_or weights k 0 * pick (between (get_or firsts k 0) (get_or ends k 0) a) (get_or memory (c - get_or backs k 0) 0) boundary) n)
     / 2 ^ shift % 4294967296
 
 -- the same along a row, whose cell c₀ has its source at s and component a
-abbrev pub mixedAlong : ℕ → List ℕ → List ℕ → List ℕ → List ℕ → ℕ → ℕ → List ℕ → ℕ → ℕ → ℕ → List ℕ → ℕ → ℕ
-mixedAlong n firsts ends backs weights boundary shift source s c₀ a memory c =
-    mixedWord n firsts ends backs weights boundary shift source (s + (c - c₀)) (a + (c - c₀)) memory c
+abbrev pub mixed_along : ℕ → List ℕ → List ℕ → List ℕ → List ℕ → ℕ → ℕ → List ℕ → ℕ → ℕ → ℕ → List ℕ → ℕ → ℕ
+mixed_along n firsts ends backs weights boundary shift source s c₀ a memory c =
+    mixed_word n firsts ends backs weights boundary shift source (s + (c - c₀)) (a + (c - c₀)) memory c
 
 -- the words of the cells from c on, whose source is from s on and whose component is a, `span` of them, can be made: each distance that reads a cell
 -- finds it, no sum is too large
@@ -66,5 +66,5 @@ pub record Readable (n : ℕ) (firsts ends backs weights : List ℕ) (boundary s
   pub inner : c + span ≤ words
   pub given : s + span ≤ sources
   pub small : words ≤ 16384
-  pub few-given : sources ≤ 16384
+  pub few_given : sources ≤ 16384
   pub narrow : a + span ≤ 1024

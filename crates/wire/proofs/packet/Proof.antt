@@ -14,7 +14,7 @@ unwritten-requires c κs = search rules
 returns : tie.Need-returns
 returns c =
     let A = c.before.before.before.before.args in
-    sending.packet-space (label A.fingerprint A.run A.life A.kind A.sender A.taker A.item) A.words.now A.chunk A.space.now
+    sending.packet_space (label A.fingerprint A.run A.life A.kind A.sender A.taker A.item) A.words.now A.chunk A.space.now
     c.unwritten.result c.unwritten.ensures c.before.if1.true
 
 unwritten-requires-2 : tie.Need-unwritten-requires-2
@@ -23,7 +23,7 @@ unwritten-requires-2 c κs = search rules
 returns-2 : tie.Need-returns-2
 returns-2 c =
     let A = c.before.before.before.before.before.args in
-    sending.packet-long (label A.fingerprint A.run A.life A.kind A.sender A.taker A.item) A.words.now A.chunk A.space.now
+    sending.packet_long (label A.fingerprint A.run A.life A.kind A.sender A.taker A.item) A.words.now A.chunk A.space.now
     c.before.before.if1.false c.unwritten2.result c.unwritten2.ensures c.before.if2.true
 
 chunks-of-requires : tie.Need-chunks-of-requires
@@ -43,7 +43,7 @@ returns-3 c =
     let at5 = at4.before in
     let at8 = at5.before.before.before in
     let A = at8.args in
-    sending.packet-none (label A.fingerprint A.run A.life A.kind A.sender A.taker A.item) A.words.now A.chunk A.space.now
+    sending.packet_none (label A.fingerprint A.run A.life A.kind A.sender A.taker A.item) A.words.now A.chunk A.space.now
     at5.if1.false (omega (arith, at4.if2.false)) c.unwritten3.result c.unwritten3.ensures
     (omega (arith, c.before.if3.true, at2.word-index.ensures, at3.chunks_of.ensures))
 
@@ -78,7 +78,7 @@ part-put-packet-end c =
     let at3 = at2.before in
     let at8 = at3.before.before.before.before.before in
     let A = at8.args in
-    sending.chunk-room A.words.now A.chunk at2.word-index.result c.chunk-length.result at2.word-index.ensures c.chunk-length.ensures
+    sending.chunk_room A.words.now A.chunk at2.word-index.result c.chunk-length.result at2.word-index.ensures c.chunk-length.ensures
     (omega (arith, c.before.if3.false, at2.word-index.ensures, at3.chunks_of.ensures))
 
 put-packet-requires : tie.Need-put-packet-requires
@@ -98,14 +98,14 @@ returns-4 c =
     let at10 = at9.before in
     let at13 = at10.before.before.before in
     let A = at13.args in
-    sending.packet-done (label A.fingerprint A.run A.life A.kind A.sender A.taker A.item) A.words.now A.chunk A.space.now
+    sending.packet_done (label A.fingerprint A.run A.life A.kind A.sender A.taker A.item) A.words.now A.chunk A.space.now
     at10.if1.false (omega (arith, at9.if2.false)) at2.put-packet.result _ (omega (
       arith,
       at6.if3.false,
       at7.word-index.ensures,
       at8.chunks_of.ensures,
     ))
-    (sending.chunk-packet A.words.now A.chunk at7.word-index.result at5.chunk-length.result at7.word-index.ensures at5.chunk-length.ensures
+    (sending.chunk_packet A.words.now A.chunk at7.word-index.result at5.chunk-length.result at7.word-index.ensures at5.chunk-length.ensures
     (omega (arith, at6.if3.false, at7.word-index.ensures, at8.chunks_of.ensures))
     A.fingerprint A.run A.life A.kind A.sender A.taker A.item at8.chunks_of.result A.space.now at8.chunks_of.ensures _
     at2.put-packet.ensures)

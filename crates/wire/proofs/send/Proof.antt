@@ -1,5 +1,5 @@
 -- Each return is a law of a line.
-use Rattle.wire.proofs.Sending.{send-read, send-rest}
+use Rattle.wire.proofs.Sending.{send_read, send_rest}
 use Rattle.plan.specs.Shaped.{plan_of}
 use mathlib.Core.Path.{refl, ◌∙◌}
 use borrow.Author.Rules.{rules}
@@ -19,7 +19,7 @@ returns c =
     let S = at_open.before.before.before.before.before.before in
     let A = S.args in
     let opens = at_open.«open» in
-    send-read A.encoded.now A.route A.run A.life A.buffer.now A.status.now A.processor A.message A.chunk A.space.now
+    send_read A.encoded.now A.route A.run A.life A.buffer.now A.status.now A.processor A.message A.chunk A.space.now
     c.unwritten.result opens.result.number c.unwritten.ensures opens.ensures.number at-if1.if1.true
 
 fingerprint-requires : tie.Need-fingerprint-requires
@@ -44,7 +44,7 @@ returns-2 c =
     let A = S.args in
     let opens = at_open.«open» in
     at-send-message.send-message.ensures
-    ∙ send-rest A.encoded.now A.route A.run A.life A.buffer.now A.status.now A.processor A.message A.chunk A.space.now
+    ∙ send_rest A.encoded.now A.route A.run A.life A.buffer.now A.status.now A.processor A.message A.chunk A.space.now
     (plan_of opens.result.sizes.route opens.result.nest)
     (opens.ensures.opened at-if1.if1.false)
     at-fingerprint.fingerprint.result at-fingerprint.fingerprint.ensures

@@ -5,7 +5,7 @@ use native.Mathlib.Omega.{arith}
 use Rattle.plan.specs.Shaped.{plan_of}
 use Rattle.stages.proofs.Parts as parts
 use Rattle.transport.proofs.arrivals.Taking as taking
-use Rattle.wire.proofs.Receiving.{held-few}
+use Rattle.wire.proofs.Receiving.{held_few}
 use Rattle.wire.proofs.Sending as sending
 use borrow.Author.Rules.{rules}
 use Rattle.wire.proofs.send_message.Statement.{statement}
@@ -22,7 +22,7 @@ returns c =
     let at2 = c.before.before in
     let at6 = at2.before.before.before.before in
     let A = at6.args in
-    sending.sent-no (plan_of A.sizes.route A.nest) A.fingerprint A.run A.life A.buffer.now A.status.now A.processor A.message
+    sending.sent_no (plan_of A.sizes.route A.nest) A.fingerprint A.run A.life A.buffer.now A.status.now A.processor A.message
     A.chunk A.space.now c.unwritten.result at2.unsendable.result c.unwritten.ensures at2.unsendable.ensures c.before.if1.true
 
 word-index-requires : tie.Need-word-index-requires
@@ -40,7 +40,7 @@ nth-requires c κs =
 line-at-requires : tie.Need-line-at-requires
 line-at-requires c κs =
     let at7 = c.before.before.before.before.before.before.before in
-    (at7.requires, parts.placed-self at7.args.sizes.route at7.args.nest c.before.word-index.result c.nth.result c.nth.ensures)
+    (at7.requires, parts.placed_self at7.args.sizes.route at7.args.nest c.before.word-index.result c.nth.result c.nth.ensures)
 
 add-end : tie.Need-overflow-add-end
 add-end c =
@@ -54,7 +54,7 @@ add-end c =
     (length A.space.now) (sym at5.unsendable.ensures ∙ at4.if1.false) in
     omega (
       arith,
-      taking.room A.sizes.route A.nest at3.word-index.result at2.nth.result at2.nth.ensures A.buffer.now known.buffer-long,
+      taking.room A.sizes.route A.nest at3.word-index.result at2.nth.result at2.nth.ensures A.buffer.now known.buffer_long,
       at9.well-formed.1.1.1.1.1.1.0,
     )
 
@@ -70,7 +70,7 @@ mul-packet c =
     (length A.space.now) (sym at5.unsendable.ensures ∙ at4.if1.false) in
     omega (
       arith,
-      taking.room A.sizes.route A.nest at3.word-index.result at2.nth.result at2.nth.ensures A.buffer.now known.buffer-long,
+      taking.room A.sizes.route A.nest at3.word-index.result at2.nth.result at2.nth.ensures A.buffer.now known.buffer_long,
       at9.well-formed.1.1.1.1.1.1.0,
     )
 
@@ -90,7 +90,7 @@ part-packet-end c =
     let A = at9.args in
     let known = sending.sendable (plan_of A.sizes.route A.nest) (length A.buffer.now) A.status.now A.processor A.message A.chunk
     (length A.space.now) (sym at5.unsendable.ensures ∙ at4.if1.false) in
-    taking.room A.sizes.route A.nest at3.word-index.result at2.nth.result at2.nth.ensures A.buffer.now known.buffer-long
+    taking.room A.sizes.route A.nest at3.word-index.result at2.nth.result at2.nth.ensures A.buffer.now known.buffer_long
 
 packet-requires : tie.Need-packet-requires
 packet-requires c κs = search rules
@@ -111,9 +111,9 @@ returns-2 c =
     let p = plan_of A.sizes.route A.nest in
     let z = sym at10.unsendable.ensures ∙ at9.if1.false in
     let known = sending.sendable p (length A.buffer.now) A.status.now A.processor A.message A.chunk (length A.space.now) z in
-    sending.sent-yes p A.fingerprint A.run A.life A.buffer.now A.status.now A.processor A.message A.chunk A.space.now
-    z (held-few A.nest A.sizes at14.requires.0 A.message known.low) _
-    (sending.sent-found A.sizes.route A.nest A.fingerprint A.run A.life A.buffer.now at8.word-index.result A.message A.chunk
+    sending.sent_yes p A.fingerprint A.run A.life A.buffer.now A.status.now A.processor A.message A.chunk A.space.now
+    z (held_few A.nest A.sizes at14.requires.0 A.message known.low) _
+    (sending.sent_found A.sizes.route A.nest A.fingerprint A.run A.life A.buffer.now at8.word-index.result A.message A.chunk
     A.space.now at7.nth.result at7.nth.ensures at8.word-index.ensures at6.line_at_lem.result at6.line_at_lem.ensures _ at2.packet.ensures)
 
 pub send-message-spec : {M : Type 1} → statement M

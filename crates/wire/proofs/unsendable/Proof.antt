@@ -2,11 +2,11 @@
 use Rattle.core.specs.Prelude.{ℕ, length, get_or}
 use mathlib.Core.Path.{sym, ap, ◌∙◌}
 use native.Mathlib.Omega.{arith}
-use Rattle.machine.specs.Plan.{heldBy}
+use Rattle.machine.specs.Plan.{held_by}
 use Rattle.plan.specs.Shaped.{plan_of}
 use Rattle.summary.specs.Summary.{line_of}
 use Rattle.stages.proofs.Parts as parts
-use Rattle.packets.specs.Cut.{chunksOf}
+use Rattle.packets.specs.Cut.{chunks_of}
 use Rattle.wire.proofs.Sending as sending
 use borrow.Author.Rules.{rules}
 use Rattle.wire.proofs.unsendable.Statement.{statement}
@@ -18,7 +18,7 @@ totals-requires c κs = search rules
 returns : tie.Need-returns
 returns c =
     let A = c.before.before.before.before.args in
-    sending.number-buffer (plan_of A.sizes.route A.nest) A.buffer A.status.now A.processor A.message A.chunk A.space
+    sending.number_buffer (plan_of A.sizes.route A.nest) A.buffer A.status.now A.processor A.message A.chunk A.space
     (λ q. c.if1.true (q ∙ sym c.before.before.totals.ensures.1.0))
 
 returns-2 : tie.Need-returns-2
@@ -27,7 +27,7 @@ returns-2 c =
     let at4 = at2.before.before in
     let at6 = at4.before.before in
     let A = at6.args in
-    sending.number-status (plan_of A.sizes.route A.nest) A.buffer A.status.now A.processor A.message A.chunk A.space
+    sending.number_status (plan_of A.sizes.route A.nest) A.buffer A.status.now A.processor A.message A.chunk A.space
     (at2.if1.false ∙ at4.totals.ensures.1.0) (λ q. c.if2.true (q ∙ sym at4.totals.ensures.0))
 
 returns-3 : tie.Need-returns-3
@@ -36,7 +36,7 @@ returns-3 c =
     let at5 = at3.before.before in
     let at7 = at5.before.before in
     let A = at7.args in
-    sending.number-space (plan_of A.sizes.route A.nest) A.buffer A.status.now A.processor A.message A.chunk A.space
+    sending.number_space (plan_of A.sizes.route A.nest) A.buffer A.status.now A.processor A.message A.chunk A.space
     (at3.if1.false ∙ at5.totals.ensures.1.0) (c.before.if2.false ∙ at5.totals.ensures.0) c.if3.true
 
 word-index-requires : tie.Need-word-index-requires
@@ -51,7 +51,7 @@ returns-4 c =
     let at8 = at6.before.before in
     let at10 = at8.before.before in
     let A = at10.args in
-    sending.number-message (plan_of A.sizes.route A.nest) A.buffer A.status.now A.processor A.message A.chunk A.space
+    sending.number_message (plan_of A.sizes.route A.nest) A.buffer A.status.now A.processor A.message A.chunk A.space
     (at6.if1.false ∙ at8.totals.ensures.1.0) (at4.if2.false ∙ at8.totals.ensures.0) at3.if3.false
     (omega (arith, c.if4.true, at2.word-index.ensures, at8.totals.ensures.0))
 
@@ -65,7 +65,7 @@ line-at-requires : tie.Need-line-at-requires
 line-at-requires c κs =
     let at3 = c.before.before.before in
     let at11 = at3.before.before.before.before.before.before.before.before in
-    (at11.requires, parts.placed-self at11.args.sizes.route at11.args.nest at3.word-index.result c.nth.result c.nth.ensures)
+    (at11.requires, parts.placed_self at11.args.sizes.route at11.args.nest at3.word-index.result c.nth.result c.nth.ensures)
 
 returns-5 : tie.Need-returns-5
 returns-5 c =
@@ -80,7 +80,7 @@ returns-5 c =
     let at14 = at12.before.before in
     let A = at14.args in
     let p = plan_of A.sizes.route A.nest in
-    sending.number-sender p A.buffer A.status.now A.processor A.message A.chunk A.space
+    sending.number_sender p A.buffer A.status.now A.processor A.message A.chunk A.space
     (at10.if1.false ∙ at12.totals.ensures.1.0) (at8.if2.false ∙ at12.totals.ensures.0) at7.if3.false
     (omega (arith, at4.if4.false, at6.word-index.ensures, at12.totals.ensures.0)) at2.line_at_lem.result
     (at2.line_at_lem.ensures ∙ ap (line_of p) (at3.nth.ensures.number ∙ at6.word-index.ensures)) c.if5.true
@@ -106,7 +106,7 @@ returns-6 c =
     let at17 = at15.before.before in
     let A = at17.args in
     let p = plan_of A.sizes.route A.nest in
-    sending.number-chunk p A.buffer A.status.now A.processor A.message A.chunk A.space
+    sending.number_chunk p A.buffer A.status.now A.processor A.message A.chunk A.space
     (at13.if1.false ∙ at15.totals.ensures.1.0) (at11.if2.false ∙ at15.totals.ensures.0) at10.if3.false
     (omega (arith, at7.if4.false, at9.word-index.ensures, at15.totals.ensures.0)) at5.line_at_lem.result
     (at5.line_at_lem.ensures ∙ ap (line_of p) (at6.nth.ensures.number ∙ at9.word-index.ensures)) at3.if5.false
@@ -114,7 +114,7 @@ returns-6 c =
       arith,
       c.if6.true,
       at2.word-index2.ensures,
-      c.before.chunks_of.ensures ∙ ap chunksOf (at6.nth.ensures.words ∙ ap (λ (k : ℕ). length (heldBy p k)) at9.word-index.ensures),
+      c.before.chunks_of.ensures ∙ ap chunks_of (at6.nth.ensures.words ∙ ap (λ (k : ℕ). length (held_by p k)) at9.word-index.ensures),
     ))
 
 shared-slice-read-if7 : tie.Need-shared-slice-read-if7
@@ -140,7 +140,7 @@ returns-7 c =
     let at19 = at17.before.before in
     let A = at19.args in
     let p = plan_of A.sizes.route A.nest in
-    sending.number-unposted p A.buffer A.status.now A.processor A.message A.chunk A.space
+    sending.number_unposted p A.buffer A.status.now A.processor A.message A.chunk A.space
     (at15.if1.false ∙ at17.totals.ensures.1.0) (at13.if2.false ∙ at17.totals.ensures.0) at12.if3.false
     (omega (arith, at9.if4.false, at11.word-index.ensures, at17.totals.ensures.0)) at7.line_at_lem.result
     (at7.line_at_lem.ensures ∙ ap (line_of p) (at8.nth.ensures.number ∙ at11.word-index.ensures)) at5.if5.false
@@ -148,7 +148,7 @@ returns-7 c =
       arith,
       at2.if6.false,
       at4.word-index2.ensures,
-      at3.chunks_of.ensures ∙ ap chunksOf (at8.nth.ensures.words ∙ ap (λ (k : ℕ). length (heldBy p k)) at11.word-index.ensures),
+      at3.chunks_of.ensures ∙ ap chunks_of (at8.nth.ensures.words ∙ ap (λ (k : ℕ). length (held_by p k)) at11.word-index.ensures),
     ))
     (omega (arith, c.if7.true, ap (λ (k : ℕ). get_or A.status.now k 0) at11.word-index.ensures))
 
@@ -169,7 +169,7 @@ returns-8 c =
     let at19 = at17.before.before in
     let A = at19.args in
     let p = plan_of A.sizes.route A.nest in
-    sending.number-none p A.buffer A.status.now A.processor A.message A.chunk A.space
+    sending.number_none p A.buffer A.status.now A.processor A.message A.chunk A.space
     (at15.if1.false ∙ at17.totals.ensures.1.0) (at13.if2.false ∙ at17.totals.ensures.0) at12.if3.false
     (omega (arith, at9.if4.false, at11.word-index.ensures, at17.totals.ensures.0)) at7.line_at_lem.result
     (at7.line_at_lem.ensures ∙ ap (line_of p) (at8.nth.ensures.number ∙ at11.word-index.ensures)) at5.if5.false
@@ -177,7 +177,7 @@ returns-8 c =
       arith,
       at2.if6.false,
       at4.word-index2.ensures,
-      at3.chunks_of.ensures ∙ ap chunksOf (at8.nth.ensures.words ∙ ap (λ (k : ℕ). length (heldBy p k)) at11.word-index.ensures),
+      at3.chunks_of.ensures ∙ ap chunks_of (at8.nth.ensures.words ∙ ap (λ (k : ℕ). length (held_by p k)) at11.word-index.ensures),
     ))
     (omega (arith, c.if7.false, ap (λ (k : ℕ). get_or A.status.now k 0) at11.word-index.ensures))
 

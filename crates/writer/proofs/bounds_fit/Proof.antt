@@ -13,7 +13,7 @@ bytes-fit-requires : tie.Need-bytes-fit-requires
 bytes-fit-requires c κs = search rules
 
 returns : tie.Need-returns
-returns c = S.unfit-bounds c.before.before.before.before.args.nest _ (λ q. q.sides) (sym c.before.bytes_fit.ensures ∙ not-true _ c.if1.true)
+returns c = S.unfit_bounds c.before.before.before.before.args.nest _ (λ q. q.sides) (sym c.before.bytes_fit.ensures ∙ not-true _ c.if1.true)
 
 slice-aggregate-bytes-fit-2 : tie.Need-slice-aggregate-bytes-fit-2
 slice-aggregate-bytes-fit-2 c = search rules
@@ -24,7 +24,7 @@ bytes-fit-requires-2 c κs = search rules
 returns-2 : tie.Need-returns-2
 returns-2 c =
     let start = c.before.before.before.before.before.before.before.before in
-    S.unfit-bounds start.args.nest _ (λ q. q.bounded) (sym c.before.bytes-fit2.ensures ∙ not-true _ c.if2.true)
+    S.unfit_bounds start.args.nest _ (λ q. q.bounded) (sym c.before.bytes-fit2.ensures ∙ not-true _ c.if2.true)
 
 slice-aggregate-bytes-fit-3 : tie.Need-slice-aggregate-bytes-fit-3
 slice-aggregate-bytes-fit-3 c = search rules
@@ -35,7 +35,7 @@ bytes-fit-requires-3 c κs = search rules
 returns-3 : tie.Need-returns-3
 returns-3 c =
     let start = c.before.before.before.before.before.before.before.before.before.before.before.before in
-    S.unfit-bounds start.args.nest _ (λ q. q.earlier) (sym c.before.bytes-fit3.ensures ∙ not-true _ c.if3.true)
+    S.unfit_bounds start.args.nest _ (λ q. q.earlier) (sym c.before.bytes-fit3.ensures ∙ not-true _ c.if3.true)
 
 slice-aggregate-bytes-fit-4 : tie.Need-slice-aggregate-bytes-fit-4
 slice-aggregate-bytes-fit-4 c = search rules
@@ -47,7 +47,7 @@ returns-4 : tie.Need-returns-4
 returns-4 c =
     let start = c.before.before.before.before.before.before.before.before.before.before.before.before.before.before.before.before in
     let A = start.args in
-    S.unfit-bounds A.nest _ (λ q. q.slopes) (sym c.before.bytes-fit4.ensures ∙ not-true _ c.if4.true)
+    S.unfit_bounds A.nest _ (λ q. q.slopes) (sym c.before.bytes-fit4.ensures ∙ not-true _ c.if4.true)
 
 offsets-fit-requires : tie.Need-offsets-fit-requires
 offsets-fit-requires c κs = search rules
@@ -62,7 +62,7 @@ returns-5 c =
     let at-bytes-fit = at-if1.before in
     let start = at-bytes-fit.before.before.before in
     let A = start.args in
-    c.offsets-fit.ensures ∙ S.fit-bounds A.nest (sym at-bytes-fit.bytes_fit.ensures ∙ not-false _ at-if1.if1.false)
+    c.offsets-fit.ensures ∙ S.fit_bounds A.nest (sym at-bytes-fit.bytes_fit.ensures ∙ not-false _ at-if1.if1.false)
     (sym at-bytes-fit2.bytes-fit2.ensures ∙ not-false _ at-if2.if2.false) (sym at-bytes-fit3.bytes-fit3.ensures ∙ not-false _ at-if3.if3.false)
     (sym c.before.before.bytes-fit4.ensures ∙ not-false _ c.before.if4.false)
 

@@ -14,7 +14,7 @@ abbrev decreases-loop : tie.decreases-loop
 decreases-loop values n i₀ i-end i = i-end - i
 
 loop-holds : tie.Need-loop-init invariant-loop decreases-loop
-loop-holds c = (omega arith, S.within-start c.before.args.n 256 c.before.args.values.now)
+loop-holds c = (omega arith, S.within_start c.before.args.n 256 c.before.args.values.now)
 
 shared-slice-read-if1 : tie.Need-shared-slice-read-if1 invariant-loop decreases-loop
 shared-slice-read-if1 c = search rules
@@ -43,7 +43,7 @@ loop-again c =
     let at-loop = c.before.before.before.before in
     let start = at-loop.before.before in (
       omega arith,
-      S.within-next start.args.n 256 start.args.values.now at-loop.loop.i _ at-loop.loop.invariant.1 c.before.limit.ensures
+      S.within_next start.args.n 256 start.args.values.now at-loop.loop.i _ at-loop.loop.invariant.1 c.before.limit.ensures
           c.if1.false,
     )
 

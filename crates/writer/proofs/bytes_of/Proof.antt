@@ -26,7 +26,7 @@ add-records-3 : tie.Need-overflow-add-records-3 invariant-loop decreases-loop
 add-records-3 c = omega (arith, c.before.before.requires.0.0, c.before.before.requires.0.1, c.before.before.requires.1)
 
 loop-holds : tie.Need-loop-init invariant-loop decreases-loop
-loop-holds c = (omega arith, N.filled-start 272 _)
+loop-holds c = (omega arith, N.filled_start 272 _)
 
 record-of-requires : tie.Need-record-of-requires invariant-loop decreases-loop
 record-of-requires c κs =
@@ -54,12 +54,12 @@ loop-less c = omega (arith, c.before.before.loop-test.true)
 loop-again : tie.Need-loop-preserved invariant-loop decreases-loop
 loop-again c = (
   omega arith,
-  S.record-next c.before.before.before.loop.r _ _
+  S.record_next c.before.before.before.loop.r _ _
       (c.put_record.ensures _ c.before.before.before.loop.invariant.1 c.before.record_of.ensures),
 )
 
 returns : tie.Need-returns invariant-loop decreases-loop
-returns c = S.records-end c.before.loop.r _ _ _ c.before.loop.invariant.0 c.loop-test.false c.before.loop.invariant.1
+returns c = S.records_end c.before.loop.r _ _ _ c.before.loop.invariant.0 c.loop-test.false c.before.loop.invariant.1
 
 pub bytes-of-spec : {M : Type 1} → statement M
 bytes-of-spec =

@@ -33,7 +33,7 @@ loop-again : tie.Need-loop-preserved invariant-loop decreases-loop
 loop-again c = (
   omega arith,
   length-set c.before.loop.space _ _ ∙ c.before.loop.invariant.1,
-  S.copy-next c.before.loop.space c.before.before.args.t1
+  S.copy_next c.before.loop.space c.before.before.args.t1
       c.before.loop.i (omega arith) c.before.loop.invariant.2,
 )
 
@@ -42,7 +42,7 @@ same_length c = c.before.loop.invariant.1
 
 returns : tie.Need-returns invariant-loop decreases-loop
 returns c =
-    S.copy-end c.before.before.args.space.now _ c.before.before.args.t1 c.before.loop.i c.before.loop.invariant.1 c.loop-test.false
+    S.copy_end c.before.before.args.space.now _ c.before.before.args.t1 c.before.loop.i c.before.loop.invariant.1 c.loop-test.false
     c.before.loop.invariant.2
 
 pub copy_spec : {M : Type 1} → statement M

@@ -6,7 +6,7 @@ use Rattle.writer.proofs.counted.Tie as tie
 
 returns : tie.Need-returns
 returns c =
-    S.many-dimensions c.before.args.lengths c.before.args.tiling c.before.args.counts c.before.args.components c.before.args.weights
+    S.many_dimensions c.before.args.lengths c.before.args.tiling c.before.args.counts c.before.args.components c.before.args.weights
     c.if1.true
 
 returns-2 : tie.Need-returns-2
@@ -16,13 +16,13 @@ returns-2 c =
 
 returns-3 : tie.Need-returns-3
 returns-3 c =
-    S.other-tiling c.before.before.before.args.lengths c.before.before.before.args.tiling c.before.before.before.args.counts
+    S.other_tiling c.before.before.before.args.lengths c.before.before.before.args.tiling c.before.before.before.args.counts
     c.before.before.before.args.components c.before.before.before.args.weights c.if3.true
 
 returns-4 : tie.Need-returns-4
 returns-4 c =
     let start = c.before.before.before.before in
-    S.other-counts start.args.lengths start.args.tiling start.args.counts start.args.components start.args.weights c.if4.true
+    S.other_counts start.args.lengths start.args.tiling start.args.counts start.args.components start.args.weights c.if4.true
 
 mul-result : tie.Need-overflow-mul-result
 mul-result c = search rules
@@ -31,7 +31,7 @@ returns-5 : tie.Need-returns-5
 returns-5 c =
     let at-if1 = c.before.before.before in
     let start = at-if1.before in
-    S.by-components start.args.lengths start.args.tiling start.args.counts start.args.components start.args.weights at-if1.if1.false
+    S.by_components start.args.lengths start.args.tiling start.args.counts start.args.components start.args.weights at-if1.if1.false
     c.before.before.if2.false c.before.if3.false c.if4.false
 
 pub counted_spec : {M : Type 1} → statement M

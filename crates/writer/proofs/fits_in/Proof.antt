@@ -14,7 +14,7 @@ abbrev decreases-loop : tie.decreases-loop
 decreases-loop values n bound i₀ i-end i = i-end - i
 
 loop-holds : tie.Need-loop-init invariant-loop decreases-loop
-loop-holds c = (omega arith, S.within-start c.before.args.n c.before.args.bound c.before.args.values.now)
+loop-holds c = (omega arith, S.within_start c.before.args.n c.before.args.bound c.before.args.values.now)
 
 mul-if1 : tie.Need-overflow-mul-if1 invariant-loop decreases-loop
 mul-if1 c = search rules
@@ -44,7 +44,7 @@ loop-again c =
     let at-loop = c.before.before.before.before in
     let start = at-loop.before.before in (
       omega arith,
-      S.within-next start.args.n start.args.bound start.args.values.now at-loop.loop.i _ at-loop.loop.invariant.1
+      S.within_next start.args.n start.args.bound start.args.values.now at-loop.loop.i _ at-loop.loop.invariant.1
           c.before.limit.ensures c.if1.false,
     )
 

@@ -89,7 +89,7 @@ returns c =
     let at-table-4 = at-spread-of.before in
     let start = at-table-4.before.before.before.before.before.before.before.before.before.before.before in
     let A = start.args in
-    F.from-made A.lengths.now A.tiling.now A.counts.now A.components.now A.weights.now A.sides.now A.bounded.now
+    F.from_made A.lengths.now A.tiling.now A.counts.now A.components.now A.weights.now A.sides.now A.bounded.now
     A.earlier.now A.slopes.now A.offsets.now A.shift A.boundary start.requires _ _ _ _ _ _ _ _ _ _ _ _ _ at-table-4.table-4.ensures
     at-spread-of.spread-of.ensures at-table-42.table-42.ensures at-table-43.table-43.ensures at-table-32.table-32.ensures
     at-table-8.table-8.ensures at-table-of-bytes.table-of-bytes.ensures at-table-of-bytes2.table-of-bytes2.ensures

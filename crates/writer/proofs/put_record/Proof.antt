@@ -14,7 +14,7 @@ abbrev decreases-loop : tie.decreases-loop
 decreases-loop at bytes₀ row i₀ bytes i = 16 - i
 
 loop-holds : tie.Need-loop-init invariant-loop decreases-loop
-loop-holds c = (omega arith, S.laid-start c.args.at c.args.t1 c.args.t3)
+loop-holds c = (omega arith, S.laid_start c.args.at c.args.t1 c.args.t3)
 
 array-read-bytes : tie.Need-array-read-bytes invariant-loop decreases-loop
 array-read-bytes c = search rules

@@ -18,7 +18,7 @@ abbrev decreases-loop : tie.decreases-loop
 decreases-loop n counts m₀ j₀ m j = n - j
 
 loop-holds : tie.Need-loop-init invariant-loop decreases-loop
-loop-holds c = (omega arith, N.kept-start _, omega arith)
+loop-holds c = (omega arith, N.kept_start _, omega arith)
 
 mul-if1 : tie.Need-overflow-mul-if1 invariant-loop decreases-loop
 mul-if1 c = omega arith
@@ -39,13 +39,13 @@ loop-again : tie.Need-loop-preserved invariant-loop decreases-loop
 loop-again c = (
   omega arith,
   ⊎_elim (λ w. w.1 ∙ N.kept_more _ _ _ c.before.before.loop.invariant.1 (lt-ltb _ _ w.0.taken))
-      (λ w. w.1 ∙ N.kept-none _ _ _ c.before.before.loop.invariant.1 (le-ltb _ _ w.0.left)) c.if1.branch,
+      (λ w. w.1 ∙ N.kept_none _ _ _ c.before.before.loop.invariant.1 (le-ltb _ _ w.0.left)) c.if1.branch,
   ⊎_elim (λ w. omega arith) (λ w. omega arith)
       c.if1.branch,
 )
 
 returns : tie.Need-returns invariant-loop decreases-loop
-returns c = N.kept-end _ _ c.before.loop.j _ c.before.loop.invariant.0 c.loop-test.false c.before.loop.invariant.1
+returns c = N.kept_end _ _ c.before.loop.j _ c.before.loop.invariant.0 c.loop-test.false c.before.loop.invariant.1
 
 pub spread-of-spec : {M : Type 1} → statement M
 spread-of-spec =

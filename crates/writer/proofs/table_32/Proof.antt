@@ -16,7 +16,7 @@ abbrev decreases-loop : tie.decreases-loop
 decreases-loop values table₀ i₀ i-end table i = i-end - i
 
 loop-holds : tie.Need-loop-init invariant-loop decreases-loop
-loop-holds c = (omega arith, N.filled-start 32 _)
+loop-holds c = (omega arith, N.filled_start 32 _)
 
 mul-half-index : tie.Need-overflow-mul-half-index invariant-loop decreases-loop
 mul-half-index c = search rules
@@ -43,7 +43,7 @@ loop-again : tie.Need-loop-preserved invariant-loop decreases-loop
 loop-again c = (omega arith, N.filled_next 32 _ _ _ _ c.before.before.before.loop.invariant.1 (omega arith) c.half-index.ensures)
 
 returns : tie.Need-returns invariant-loop decreases-loop
-returns c = N.filled-end 32 _ _ c.before.loop.i _ c.before.loop.invariant.0 c.loop-test.false c.before.loop.invariant.1
+returns c = N.filled_end 32 _ _ c.before.loop.i _ c.before.loop.invariant.0 c.loop-test.false c.before.loop.invariant.1
 
 pub table-32-spec : {M : Type 1} → statement M
 table-32-spec =

@@ -16,7 +16,7 @@ abbrev decreases-loop : tie.decreases-loop
 decreases-loop values table₀ i₀ i-end table i = i-end - i
 
 loop-holds : tie.Need-loop-init invariant-loop decreases-loop
-loop-holds c = (omega arith, N.filled-start 8 _)
+loop-holds c = (omega arith, N.filled_start 8 _)
 
 mul-half-wide : tie.Need-overflow-mul-half-wide invariant-loop decreases-loop
 mul-half-wide c = search rules
@@ -46,7 +46,7 @@ loop-again c = (
 )
 
 returns : tie.Need-returns invariant-loop decreases-loop
-returns c = N.filled-end 8 _ _ c.before.loop.i _ c.before.loop.invariant.0 c.loop-test.false c.before.loop.invariant.1
+returns c = N.filled_end 8 _ _ c.before.loop.i _ c.before.loop.invariant.0 c.loop-test.false c.before.loop.invariant.1
 
 pub table-8-spec : {M : Type 1} → statement M
 table-8-spec =

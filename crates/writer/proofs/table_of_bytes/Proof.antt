@@ -16,7 +16,7 @@ abbrev decreases-loop : tie.decreases-loop
 decreases-loop values table₀ i₀ i-end table i = i-end - i
 
 loop-holds : tie.Need-loop-init invariant-loop decreases-loop
-loop-holds c = (omega arith, N.filled-start 4 _)
+loop-holds c = (omega arith, N.filled_start 4 _)
 
 shared-slice-read-table : tie.Need-shared-slice-read-table invariant-loop decreases-loop
 shared-slice-read-table c = search rules
@@ -34,7 +34,7 @@ loop-again : tie.Need-loop-preserved invariant-loop decreases-loop
 loop-again c = (omega arith, N.filled_next 4 _ _ _ _ c.before.before.loop.invariant.1 (omega arith) refl)
 
 returns : tie.Need-returns invariant-loop decreases-loop
-returns c = N.filled-end 4 _ _ c.before.loop.i _ c.before.loop.invariant.0 c.loop-test.false c.before.loop.invariant.1
+returns c = N.filled_end 4 _ _ c.before.loop.i _ c.before.loop.invariant.0 c.loop-test.false c.before.loop.invariant.1
 
 pub table-of-bytes-spec : {M : Type 1} → statement M
 table-of-bytes-spec =

@@ -15,7 +15,7 @@ returns c =
     let A = start.args in
     F.disagreed (fields A.lengths.now A.tiling.now A.counts.now A.components.now A.weights.now A.sides.now A.bounded.now
     A.earlier.now A.slopes.now A.offsets.now A.shift A.boundary) _
-    (F.not-counted (fields A.lengths.now A.tiling.now A.counts.now A.components.now A.weights.now A.sides.now A.bounded.now
+    (F.not_counted (fields A.lengths.now A.tiling.now A.counts.now A.components.now A.weights.now A.sides.now A.bounded.now
     A.earlier.now A.slopes.now A.offsets.now A.shift A.boundary) c.before.counted.result c.before.counted.ensures
     (not-true _ c.if1.true))
 
@@ -29,7 +29,7 @@ returns-2 c =
     let A = start.args in
     F.disagreed (fields A.lengths.now A.tiling.now A.counts.now A.components.now A.weights.now A.sides.now A.bounded.now
     A.earlier.now A.slopes.now A.offsets.now A.shift A.boundary) _
-    (F.agree-is (fields A.lengths.now A.tiling.now A.counts.now A.components.now A.weights.now A.sides.now A.bounded.now
+    (F.agree_is (fields A.lengths.now A.tiling.now A.counts.now A.components.now A.weights.now A.sides.now A.bounded.now
     A.earlier.now A.slopes.now A.offsets.now A.shift A.boundary) at-counted.counted.result at-counted.counted.ensures
     (not-false _ c.before.before.if1.false) c.before.bounds.result _ c.before.bounds.ensures (not-true _ c.if2.true))
 
@@ -38,7 +38,7 @@ nest-from-requires c κs =
     let at-counted = c.before.before.before in
     let start = at-counted.before.before.before.before.before.before.before.before.before.before.before.before in
     let A = start.args in
-    F.agree-is (fields A.lengths.now A.tiling.now A.counts.now A.components.now A.weights.now A.sides.now A.bounded.now
+    F.agree_is (fields A.lengths.now A.tiling.now A.counts.now A.components.now A.weights.now A.sides.now A.bounded.now
     A.earlier.now A.slopes.now A.offsets.now A.shift A.boundary) at-counted.counted.result at-counted.counted.ensures
     (not-false _ c.before.before.if1.false) c.before.bounds.result _ c.before.bounds.ensures (not-false _ c.if2.false)
 
@@ -57,9 +57,9 @@ returns-3 c =
     let at-counted = at-if1.before in
     let start = at-counted.before.before.before.before.before.before.before.before.before.before.before.before in
     let A = start.args in
-    F.by-nest (fields A.lengths.now A.tiling.now A.counts.now A.components.now A.weights.now A.sides.now A.bounded.now
+    F.by_nest (fields A.lengths.now A.tiling.now A.counts.now A.components.now A.weights.now A.sides.now A.bounded.now
     A.earlier.now A.slopes.now A.offsets.now A.shift A.boundary) _
-    (F.agree-is (fields A.lengths.now A.tiling.now A.counts.now A.components.now A.weights.now A.sides.now A.bounded.now
+    (F.agree_is (fields A.lengths.now A.tiling.now A.counts.now A.components.now A.weights.now A.sides.now A.bounded.now
     A.earlier.now A.slopes.now A.offsets.now A.shift A.boundary) at-counted.counted.result at-counted.counted.ensures
     (not-false _ at-if1.if1.false) at_Bounds.bounds.result _ at_Bounds.bounds.ensures (not-false _ at-if2.if2.false)) _
     at-nest-from.nest-from.ensures _ _ c.before.before.write-nest.ensures

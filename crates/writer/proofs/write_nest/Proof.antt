@@ -8,13 +8,13 @@ use Rattle.writer.proofs.write_nest.Statement.{statement}
 use Rattle.writer.proofs.write_nest.Tie as tie
 
 returns : tie.Need-returns
-returns c = W.many-dimensions c.before.before.before.args.nest _ c.if1.true
+returns c = W.many_dimensions c.before.before.before.args.nest _ c.if1.true
 
 returns-2 : tie.Need-returns-2
 returns-2 c = W.many_distances c.before.before.before.before.before.args.nest _ c.if2.true
 
 returns-3 : tie.Need-returns-3
-returns-3 c = W.many-bounds c.before.before.before.before.before.before.before.args.nest _ c.if3.true
+returns-3 c = W.many_bounds c.before.before.before.before.before.before.before.args.nest _ c.if3.true
 
 bounds-fit-requires : tie.Need-bounds-fit-requires
 bounds-fit-requires c κs = search rules
@@ -22,7 +22,7 @@ bounds-fit-requires c κs = search rules
 returns-4 : tie.Need-returns-4
 returns-4 c =
     let start = c.before.before.before.before.before.before.before.before.before in
-    W.bounds-two start.args.nest _ (sym c.before.bounds-fit.ensures ∙ not-true _ c.if4.true)
+    W.bounds_two start.args.nest _ (sym c.before.bounds-fit.ensures ∙ not-true _ c.if4.true)
 
 fits-requires : tie.Need-fits-requires
 fits-requires c κs =
@@ -33,7 +33,7 @@ fits-requires c κs =
 returns-5 : tie.Need-returns-5
 returns-5 c =
     let start = c.before.before.before.before.before.before.before.before.before.before.before in
-    W.unfit-two start.args.nest _ (sym c.before.fits2.ensures ∙ not-true _ c.if5.true)
+    W.unfit_two start.args.nest _ (sym c.before.fits2.ensures ∙ not-true _ c.if5.true)
 
 add-length : tie.Need-overflow-add-length
 add-length c =
@@ -88,7 +88,7 @@ returns-6 c =
     let at-if1 = at-if2.before.before in
     let start = at-if1.before.before.before in
     let A = start.args in
-    W.refused-by A.nest _ at-if1.if1.false at-if2.if2.false at-if3.if3.false (sym at-bounds-fit.bounds-fit.ensures
+    W.refused_by A.nest _ at-if1.if1.false at-if2.if2.false at-if3.if3.false (sym at-bounds-fit.bounds-fit.ensures
     ∙ not-false _ at-if4.if4.false) (sym at-fits2.fits2.ensures ∙ not-false _ at-if5.if5.false) _ _ refl c.before.before.bytes_of.ensures _
     c.before.number_of.ensures c.if6.true
 
@@ -133,7 +133,7 @@ returns-8 c =
     let at-if1 = at-if2.before.before in
     let start = at-if1.before.before.before in
     let A = start.args in
-    W.recipe-written A.nest _ at-if1.if1.false at-if2.if2.false at-if3.if3.false (sym at-bounds-fit.bounds-fit.ensures
+    W.recipe_written A.nest _ at-if1.if1.false at-if2.if2.false at-if3.if3.false (sym at-bounds-fit.bounds-fit.ensures
     ∙ not-false _ at-if4.if4.false) (sym at-fits2.fits2.ensures ∙ not-false _ at-if5.if5.false) _ _ refl at-bytes-of.bytes_of.ensures _
     at-number-of.number_of.ensures at-if6.if6.false at-if7.if7.false _ c.before.before.copy.ensures
 

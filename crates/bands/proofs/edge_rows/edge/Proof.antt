@@ -1,20 +1,20 @@
 -- `bands::edge_rows::edge` meets its contract: the first y cells are stored.
 use Prim.Native.Nat.{◌-◌}
 use native.Mathlib.Omega.{arith}
-use Rattle.kernels.specs.Taps.{inLine}
-use Rattle.kernels.proofs.Sums.{Rowing, rowing-none, rowing-long, rowing_more, rowing-end, mixes-at, in-line}
+use Rattle.kernels.specs.Taps.{in_line}
+use Rattle.kernels.proofs.Sums.{Rowing, rowing_none, rowing_long, rowing_more, rowing_end, mixes_at, in_line_lem}
 use Rattle.bands.proofs.edge_rows.edge.Statement.{statement}
 use Rattle.bands.proofs.edge_rows.edge.Tie as tie
 
 abbrev invariant-loop : tie.invariant-loop
 invariant-loop source memory₀ shift boundary n firsts backs weights cell component width y₀ memory y =
-    Rowing (inLine n firsts backs weights boundary shift source cell component) memory₀ memory cell width y
+    Rowing (in_line n firsts backs weights boundary shift source cell component) memory₀ memory cell width y
 
 abbrev decreases-loop : tie.decreases-loop
 decreases-loop source memory₀ shift boundary n firsts backs weights cell component width y₀ memory y = width - y
 
 loop-holds : tie.Need-loop-init invariant-loop decreases-loop
-loop-holds c = rowing-none _ _ _ _
+loop-holds c = rowing_none _ _ _ _
 
 add-mixed-at : tie.Need-overflow-add-mixed-at invariant-loop decreases-loop
 add-mixed-at c =
@@ -26,7 +26,7 @@ add-mixed-at-2 c = omega (arith, c.before.before.before.before.before.requires.n
 
 mixed-at-requires : tie.Need-mixed-at-requires invariant-loop decreases-loop
 mixed-at-requires c κs =
-    mixes-at c.before.before.before.before.before.requires _ 1 _ (omega (arith, c.before.loop-test.true)) (rowing-long c.before.before.loop.invariant)
+    mixes_at c.before.before.before.before.before.requires _ 1 _ (omega (arith, c.before.loop-test.true)) (rowing_long c.before.before.loop.invariant)
 
 add-memory : tie.Need-overflow-add-memory invariant-loop decreases-loop
 add-memory c =
@@ -44,7 +44,7 @@ slice-write-memory c =
       arith,
       c.before.before.before.before.before.before.requires.within,
       c.before.before.loop-test.true,
-      rowing-long c.before.before.before.loop.invariant,
+      rowing_long c.before.before.before.loop.invariant,
     )
 
 add-y : tie.Need-overflow-add-y invariant-loop decreases-loop
@@ -55,13 +55,13 @@ loop-less c = omega (arith, c.before.before.loop-test.true)
 
 loop-again : tie.Need-loop-preserved invariant-loop decreases-loop
 loop-again c =
-    rowing_more c.before.before.before.loop.invariant _ c.before.before.loop-test.true (in-line _ _ _ _ _ _ _ _ _ _ _ _ c.mixed-at.ensures)
+    rowing_more c.before.before.before.loop.invariant _ c.before.before.loop-test.true (in_line_lem _ _ _ _ _ _ _ _ _ _ _ _ c.mixed-at.ensures)
 
 same_length : tie.Need-same-length invariant-loop decreases-loop
-same_length c = rowing-long c.before.loop.invariant
+same_length c = rowing_long c.before.loop.invariant
 
 returns : tie.Need-returns invariant-loop decreases-loop
-returns c = rowing-end c.before.loop.invariant c.loop-test.false
+returns c = rowing_end c.before.loop.invariant c.loop-test.false
 
 pub edge-spec : {M : Type 1} → statement M
 edge-spec =

@@ -3,7 +3,7 @@ use mathlib.Core.Path.{◌∙◌, ap}
 use native.Mathlib.Omega.{arith}
 use lib.ListN.{length}
 use Rattle.base.proofs.Lists.{store_length}
-use Rattle.kernels.proofs.Sums.{mixes-first, mixes-fits, line-stored, made-line}
+use Rattle.kernels.proofs.Sums.{mixes_first, mixes_fits, line_stored, made_line}
 use borrow.Author.Rules.{rules}
 use Rattle.bands.proofs.edge_rows.edge_row.Statement.{statement}
 use Rattle.bands.proofs.edge_rows.edge_row.Tie as tie
@@ -12,7 +12,7 @@ before-requires : tie.Need-before-requires
 before-requires c κs = search rules
 
 edge-requires : tie.Need-edge-requires
-edge-requires c κs = mixes-first c.before.before.before.before.requires.0 _ c.before.before2.ensures.0
+edge-requires c κs = mixes_first c.before.before.before.before.requires.0 _ c.before.before2.ensures.0
 
 same_length : tie.Need-same-length
 same_length c = search rules
@@ -29,7 +29,7 @@ sub_row c = search rules
 row-requires : tie.Need-row-requires
 row-requires c κs =
     let s = c.before.before.before.before.before.before.before.before.before in
-    mixes-fits s.requires.0 _ _ _ (omega (arith, c.before.if1.false, c.before.before.before.before.before.before.before2.ensures.0)) s.requires.1
+    mixes_fits s.requires.0 _ _ _ (omega (arith, c.before.if1.false, c.before.before.before.before.before.before.before2.ensures.0)) s.requires.1
     (c.before.before.before.before.before.before.before2.ensures.1
     (omega (arith, c.before.if1.false, c.before.before.before.before.before.before.before2.ensures.0)))
     (ap length c.before.before.before.before.edge.ensures ∙ store_length _ _ _)
@@ -40,13 +40,13 @@ same-length-2 c = search rules
 returns-2 : tie.Need-returns-2
 returns-2 c =
     let s = c.before.before.before.before.before.before.before.before.before.before.before.before in
-    line-stored _ _ _ _ _ _ _ _ (omega (
+    line_stored _ _ _ _ _ _ _ _ (omega (
       arith,
       c.before.before.before.before.if1.false,
       c.before.before.before.before.before.before.before.before.before.before2.ensures.0,
     ))
     c.before.before.before.before.before.before.before.edge.ensures c.before.before.row.ensures
-    (λ l y i. made-line _ _ _ _ _ _ _ _ _ _ s.requires.1 _ (c.before.before.before.before.before.before.before.before.before.before2.ensures.1
+    (λ l y i. made_line _ _ _ _ _ _ _ _ _ _ s.requires.1 _ (c.before.before.before.before.before.before.before.before.before.before2.ensures.1
     (omega (
       arith,
       c.before.before.before.before.if1.false,

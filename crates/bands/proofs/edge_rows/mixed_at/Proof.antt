@@ -5,7 +5,7 @@ use lib.ListN.{get_or}
 use lib.Dec.{leb}
 use borrow.Author.Rules.{rules}
 use Rattle.base.specs.Tests.{pick}
-use Rattle.kernels.proofs.Sums.{Mixing, mixing-none, mixing-fits, mixing-more, mixing-end}
+use Rattle.kernels.proofs.Sums.{Mixing, mixing_none, mixing_fits, mixing_more, mixing_end}
 use Rattle.bands.proofs.edge_rows.mixed_at.Statement.{statement}
 use Rattle.bands.proofs.edge_rows.mixed_at.Tie as tie
 
@@ -22,7 +22,7 @@ word-of-requires c κs =
     (omega (arith, s.requires.within, s.requires.same), omega (arith, s.requires.small, s.requires.same))
 
 loop-holds : tie.Need-loop-init invariant-loop decreases-loop
-loop-holds c = mixing-none _ _ _ _ _ c.word_of.ensures
+loop-holds c = mixing_none _ _ _ _ _ c.word_of.ensures
 
 mul-word-at : tie.Need-overflow-mul-word-at invariant-loop decreases-loop
 mul-word-at c = omega (arith, c.before.before.before.before.before.requires.few, c.loop-test.true)
@@ -56,9 +56,9 @@ mul-total-2 c =
     omega (
       arith,
       s.requires.few,
-      mixing-fits _ _ _ _ _ _ c.before.before.before.before.before.loop.invariant
+      mixing_fits _ _ _ _ _ _ c.before.before.before.before.before.loop.invariant
           c.before.before.before.before.loop-test.true (s.requires.light _ c.before.before.before.before.loop-test.true) _
-          c.before.word-at.ensures,
+          c.before.word_at.ensures,
     )
 
 add_total : tie.Need-overflow-add-total invariant-loop decreases-loop
@@ -67,9 +67,9 @@ add_total c =
     omega (
       arith,
       s.requires.few,
-      mixing-fits _ _ _ _ _ _ c.before.before.before.before.before.loop.invariant
+      mixing_fits _ _ _ _ _ _ c.before.before.before.before.before.loop.invariant
           c.before.before.before.before.loop-test.true (s.requires.light _ c.before.before.before.before.loop-test.true) _
-          c.before.word-at.ensures,
+          c.before.word_at.ensures,
     )
 
 add-k : tie.Need-overflow-add-k invariant-loop decreases-loop
@@ -80,15 +80,15 @@ loop-less c = omega (arith, c.before.before.before.before.loop-test.true)
 
 loop-again : tie.Need-loop-preserved invariant-loop decreases-loop
 loop-again c =
-    mixing-more _ _ _ _ _ _ c.before.before.before.before.before.loop.invariant c.before.before.before.before.loop-test.true
+    mixing_more _ _ _ _ _ _ c.before.before.before.before.before.loop.invariant c.before.before.before.before.loop-test.true
     (c.before.before.before.before.before.before.before.before.before.requires.light _ c.before.before.before.before.loop-test.true) _
-    c.before.word-at.ensures
+    c.before.word_at.ensures
 
 closed-requires : tie.Need-closed-requires invariant-loop decreases-loop
 closed-requires c κs = c.before.before.before.before.before.requires.divides
 
 returns : tie.Need-returns invariant-loop decreases-loop
-returns c = mixing-end _ _ _ _ _ _ _ _ _ _ _ _ c.before.before.loop.invariant c.before.loop-test.false _ c.closed.ensures
+returns c = mixing_end _ _ _ _ _ _ _ _ _ _ _ _ c.before.before.loop.invariant c.before.loop-test.false _ c.closed.ensures
 
 pub mixed-at-spec : {M : Type 1} → statement M
 mixed-at-spec =

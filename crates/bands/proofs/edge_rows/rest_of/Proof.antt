@@ -2,7 +2,7 @@
 use Prim.Native.Nat.{◌-◌}
 use native.Mathlib.Omega.{arith}
 use borrow.Author.Rules.{rules}
-use Rattle.kernels.proofs.Sums.{Resting, resting-none, resting-fits, resting-skip, resting-take, resting-end}
+use Rattle.kernels.proofs.Sums.{Resting, resting_none, resting_fits, resting_skip, resting_take, resting_end}
 use Rattle.bands.proofs.edge_rows.rest_of.Statement.{statement}
 use Rattle.bands.proofs.edge_rows.rest_of.Tie as tie
 
@@ -14,7 +14,7 @@ abbrev decreases-loop : tie.decreases-loop
 decreases-loop boundary n firsts backs weights outside₀ left-backs₀ left-weights₀ k₀ outside left-backs left-weights k = n - k
 
 loop-holds : tie.Need-loop-init invariant-loop decreases-loop
-loop-holds c = resting-none _ _ _ _ _
+loop-holds c = resting_none _ _ _ _ _
 
 mul-if1 : tie.Need-overflow-mul-if1 invariant-loop decreases-loop
 mul-if1 c = omega (arith, c.before.before.requires.0, c.loop-test.true)
@@ -35,7 +35,7 @@ mul-outside-2 c =
       arith,
       s.requires.0,
       c.before.before.before.loop-test.true,
-      resting-fits _ _ _ _ _ _ _ _ _ c.before.before.before.before.loop.invariant
+      resting_fits _ _ _ _ _ _ _ _ _ c.before.before.before.before.loop.invariant
           s.requires.0 c.before.before.before.loop-test.true (s.requires.1.1 _ c.before.before.before.loop-test.true) s.requires.1.0,
     )
 
@@ -46,7 +46,7 @@ add-outside c =
       arith,
       s.requires.0,
       c.before.before.before.loop-test.true,
-      resting-fits _ _ _ _ _ _ _ _ _ c.before.before.before.before.loop.invariant
+      resting_fits _ _ _ _ _ _ _ _ _ c.before.before.before.before.loop.invariant
           s.requires.0 c.before.before.before.loop-test.true (s.requires.1.1 _ c.before.before.before.loop-test.true) s.requires.1.0,
     )
 
@@ -59,7 +59,7 @@ loop-less c = omega (arith, c.before.before.before.loop-test.true)
 loop-again : tie.Need-loop-preserved invariant-loop decreases-loop
 loop-again c =
     let s = c.before.before.before.before.before in
-    resting-skip _ _ _ _ _ _ _ _ _ c.before.before.before.before.loop.invariant s.requires.0 c.before.before.before.loop-test.true
+    resting_skip _ _ _ _ _ _ _ _ _ c.before.before.before.before.loop.invariant s.requires.0 c.before.before.before.loop-test.true
     c.before.if1.true (s.requires.1.1 _ c.before.before.before.loop-test.true) s.requires.1.0
 
 mul-left-backs : tie.Need-overflow-mul-left-backs invariant-loop decreases-loop
@@ -74,7 +74,7 @@ mul-left-backs-2 c =
       arith,
       c.before.before.before.before.before.requires.0,
       c.before.before.before.loop-test.true,
-      c.before.before.before.before.loop.invariant.long-backs,
+      c.before.before.before.before.loop.invariant.long_backs,
     )
 
 array-write-left-backs : tie.Need-array-write-left-backs invariant-loop decreases-loop
@@ -83,7 +83,7 @@ array-write-left-backs c =
       arith,
       c.before.before.before.before.before.requires.0,
       c.before.before.before.loop-test.true,
-      c.before.before.before.before.loop.invariant.long-backs,
+      c.before.before.before.before.loop.invariant.long_backs,
     )
 
 mul-left-weights : tie.Need-overflow-mul-left-weights invariant-loop decreases-loop
@@ -92,7 +92,7 @@ mul-left-weights c =
       arith,
       c.before.before.before.before.before.requires.0,
       c.before.before.before.loop-test.true,
-      c.before.before.before.before.loop.invariant.long-backs,
+      c.before.before.before.before.loop.invariant.long_backs,
     )
 
 element-copy-out-left-weights : tie.Need-element-copy-out-left-weights invariant-loop decreases-loop
@@ -101,7 +101,7 @@ element-copy-out-left-weights c =
       arith,
       c.before.before.before.before.before.requires.0,
       c.before.before.before.loop-test.true,
-      c.before.before.before.before.loop.invariant.long-backs,
+      c.before.before.before.before.loop.invariant.long_backs,
     )
 
 mul-left-weights-2 : tie.Need-overflow-mul-left-weights-2 invariant-loop decreases-loop
@@ -110,7 +110,7 @@ mul-left-weights-2 c =
       arith,
       c.before.before.before.before.before.before.requires.0,
       c.before.before.before.before.loop-test.true,
-      c.before.before.before.before.before.loop.invariant.long-weights,
+      c.before.before.before.before.before.loop.invariant.long_weights,
     )
 
 array-write-left-weights : tie.Need-array-write-left-weights invariant-loop decreases-loop
@@ -119,7 +119,7 @@ array-write-left-weights c =
       arith,
       c.before.before.before.before.before.before.requires.0,
       c.before.before.before.before.loop-test.true,
-      c.before.before.before.before.before.loop.invariant.long-weights,
+      c.before.before.before.before.before.loop.invariant.long_weights,
     )
 
 add-k-2 : tie.Need-overflow-add-k-2 invariant-loop decreases-loop
@@ -130,11 +130,11 @@ loop-less-2 c = search rules
 
 loop-again-2 : tie.Need-loop-preserved-2 invariant-loop decreases-loop
 loop-again-2 c =
-    resting-take _ _ _ _ _ _ _ _ _ c.before.before.before.before.before.loop.invariant c.before.before.before.before.before.before.requires.0
+    resting_take _ _ _ _ _ _ _ _ _ c.before.before.before.before.before.loop.invariant c.before.before.before.before.before.before.requires.0
     c.before.before.before.before.loop-test.true c.before.before.if1.false
 
 returns : tie.Need-returns invariant-loop decreases-loop
-returns c = resting-end _ _ _ _ _ _ _ _ _ c.before.loop.invariant c.loop-test.false
+returns c = resting_end _ _ _ _ _ _ _ _ _ c.before.loop.invariant c.loop-test.false
 
 pub rest-of-spec : {M : Type 1} → statement M
 rest-of-spec =

@@ -3,13 +3,13 @@ use native.Mathlib.Omega.{arith}
 use Prim.Native.Nat.{◌-◌}
 use mathlib.Core.Path.{sym}
 use borrow.Author.Tests.{lt-leb, le-leb}
-use Rattle.base.proofs.Tests.{pick_true, pick-false}
+use Rattle.base.proofs.Tests.{pick_true, pick_false}
 use borrow.Author.Rules.{rules}
 use Rattle.bands.proofs.edge_rows.word_at.Statement.{statement}
 use Rattle.bands.proofs.edge_rows.word_at.Tie as tie
 
 returns : tie.Need-returns
-returns c = (sym (pick-false _ _ _ (lt-leb _ _ c.if1.true)), c.before.requires.1.0)
+returns c = (sym (pick_false _ _ _ (lt-leb _ _ c.if1.true)), c.before.requires.1.0)
 
 sub-result : tie.Need-overflow-sub-result
 sub-result c = c.before.requires.1.1.1 c.if1.false

@@ -3,7 +3,7 @@
 use native.Mathlib.Omega.{arith}
 use mathlib.Core.Path.{◌≡◌, ◌∙◌}
 use Rattle.bands.specs.lagged.Bands.{four}
-use Rattle.bands.proofs.lagged.Waves.{band-mixes, band-stored, wave-fits, tail-fits}
+use Rattle.bands.proofs.lagged.Waves.{band_mixes, band_stored, wave_fits, tail_fits}
 use lib.ListN.{length}
 use borrow.Author.Rules.{rules}
 use Rattle.bands.proofs.lagged.band.Statement.{statement}
@@ -75,7 +75,7 @@ edge-row-requires : tie.Need-edge-row-requires
 edge-row-requires c κs =
     let s = c.before.before.before in
     let p = s.requires.1 in
-    band-mixes _ p.0.0 (four s.args.a s.args.b s.args.c s.args.d) _ _ _ _ _ _ p.0.1.0 0 _ (omega arith)
+    band_mixes _ p.0.0 (four s.args.a s.args.b s.args.c s.args.d) _ _ _ _ _ _ p.0.1.0 0 _ (omega arith)
     (omega (arith, p.0.1.0.low)) _ _ p.0.1.1.0 p.0.1.1.1
 
 sub-edge-row : tie.Need-overflow-sub-edge-row
@@ -89,7 +89,7 @@ edge-row-requires-2 c κs =
     let h = c.before.before.before in
     let s = s1 h in
     let p = s.pre.1 in
-    band-mixes _ p.0.0 (four s.args.a s.args.b s.args.c s.args.d) _ _ _ _ _ _ p.0.1.0 1 _ (omega arith)
+    band_mixes _ p.0.0 (four s.args.a s.args.b s.args.c s.args.d) _ _ _ _ _ _ p.0.1.0 1 _ (omega arith)
     (omega (arith, p.0.1.0.low)) _ _ p.0.1.1.0 (k1 h ∙ p.0.1.1.1)
 
 sub-edge-row-2 : tie.Need-overflow-sub-edge-row-2
@@ -103,7 +103,7 @@ edge-row-requires-3 c κs =
     let h = c.before.before.before in
     let s = s2 h in
     let p = s.pre.1 in
-    band-mixes _ p.0.0 (four s.args.a s.args.b s.args.c s.args.d) _ _ _ _ _ _ p.0.1.0 2 _ (omega arith)
+    band_mixes _ p.0.0 (four s.args.a s.args.b s.args.c s.args.d) _ _ _ _ _ _ p.0.1.0 2 _ (omega arith)
     (omega (arith, p.0.1.0.low)) _ _ p.0.1.1.0 (k2 h ∙ p.0.1.1.1)
 
 sub-edge-row-3 : tie.Need-overflow-sub-edge-row-3
@@ -117,7 +117,7 @@ edge-row-requires-4 c κs =
     let h = c.before.before.before in
     let s = s3 h in
     let p = s.pre.1 in
-    band-mixes _ p.0.0 (four s.args.a s.args.b s.args.c s.args.d) _ _ _ _ _ _ p.0.1.0 3 _ (omega arith)
+    band_mixes _ p.0.0 (four s.args.a s.args.b s.args.c s.args.d) _ _ _ _ _ _ p.0.1.0 3 _ (omega arith)
     (omega (arith, p.0.1.0.low)) _ _ p.0.1.1.0 (k3 h ∙ p.0.1.1.1)
 
 sub-lag : tie.Need-overflow-sub-lag
@@ -142,14 +142,14 @@ add-wave : tie.Need-overflow-add-wave
 add-wave c =
     let h = c.before.before.before in
     let p = (s4 h).requires.1 in
-    omega (arith, (p.0.1.0.each 0 (omega arith)).low, p.0.1.0.low, p.0.0.cells-most)
+    omega (arith, (p.0.1.0.each 0 (omega arith)).low, p.0.1.0.low, p.0.0.cells_most)
 
 wave-requires : tie.Need-wave-requires
 wave-requires c κs =
     let h = c.before.before.before in
     let s = s4 h in
     let p = s.pre.1 in
-    wave-fits _ p.0.0 (four s.args.a s.args.b s.args.c s.args.d) _ _ _ _ _ _ p.0.1.0 p.1 _ _ p.0.1.1.0 (k4 h ∙ p.0.1.1.1)
+    wave_fits _ p.0.0 (four s.args.a s.args.b s.args.c s.args.d) _ _ _ _ _ _ p.0.1.0 p.1 _ _ p.0.1.1.0 (k4 h ∙ p.0.1.1.1)
 
 sub_row : tie.Need-overflow-sub-row
 sub_row c =
@@ -161,14 +161,14 @@ add_row : tie.Need-overflow-add-row
 add_row c =
     let h = c.before.before.before in
     let p = (s5 h).requires.1 in
-    omega (arith, (p.0.1.0.each 1 (omega arith)).low, p.0.0.cells-most)
+    omega (arith, (p.0.1.0.each 1 (omega arith)).low, p.0.0.cells_most)
 
 row-requires : tie.Need-row-requires
 row-requires c κs =
     let h = c.before.before.before in
     let s = s5 h in
     let p = s.pre.1 in
-    tail-fits _ p.0.0 (four s.args.a s.args.b s.args.c s.args.d) _ _ _ _ _ _ p.0.1.0 1 1 _ _ (omega arith) (omega arith)
+    tail_fits _ p.0.0 (four s.args.a s.args.b s.args.c s.args.d) _ _ _ _ _ _ p.0.1.0 1 1 _ _ (omega arith) (omega arith)
     (omega arith) p.0.1.1.0 (k5 h ∙ p.0.1.1.1)
 
 sub-row-2 : tie.Need-overflow-sub-row-2
@@ -181,14 +181,14 @@ add-row-2 : tie.Need-overflow-add-row-2
 add-row-2 c =
     let h = c.before.before.before in
     let p = (s6 h).requires.1 in
-    omega (arith, (p.0.1.0.each 2 (omega arith)).low, p.0.0.cells-most)
+    omega (arith, (p.0.1.0.each 2 (omega arith)).low, p.0.0.cells_most)
 
 row-requires-2 : tie.Need-row-requires-2
 row-requires-2 c κs =
     let h = c.before.before.before in
     let s = s6 h in
     let p = s.pre.1 in
-    tail-fits _ p.0.0 (four s.args.a s.args.b s.args.c s.args.d) _ _ _ _ _ _ p.0.1.0 2 2 _ _ (omega arith) (omega arith)
+    tail_fits _ p.0.0 (four s.args.a s.args.b s.args.c s.args.d) _ _ _ _ _ _ p.0.1.0 2 2 _ _ (omega arith) (omega arith)
     (omega arith) p.0.1.1.0 (k6 h ∙ p.0.1.1.1)
 
 sub-row-3 : tie.Need-overflow-sub-row-3
@@ -201,14 +201,14 @@ add-row-3 : tie.Need-overflow-add-row-3
 add-row-3 c =
     let h = c.before.before.before in
     let p = (s7 h).requires.1 in
-    omega (arith, (p.0.1.0.each 3 (omega arith)).low, p.0.0.cells-most)
+    omega (arith, (p.0.1.0.each 3 (omega arith)).low, p.0.0.cells_most)
 
 row-requires-3 : tie.Need-row-requires-3
 row-requires-3 c κs =
     let h = c.before.before.before in
     let s = s7 h in
     let p = s.pre.1 in
-    tail-fits _ p.0.0 (four s.args.a s.args.b s.args.c s.args.d) _ _ _ _ _ _ p.0.1.0 3 3 _ _ (omega arith) (omega arith)
+    tail_fits _ p.0.0 (four s.args.a s.args.b s.args.c s.args.d) _ _ _ _ _ _ p.0.1.0 3 3 _ _ (omega arith) (omega arith)
     (omega arith) p.0.1.1.0 (k7 h ∙ p.0.1.1.1)
 
 same_length : tie.Need-same-length
@@ -228,7 +228,7 @@ returns c =
     let h1 = h2.before.before.before.before in
     let s = h1.before.before.before.before in
     λ x p.
-    band-stored _ p.0.0 (four s.args.a s.args.b s.args.c s.args.d) _ _ _ _ _ _ p.0.1.0 _ _ p.0.1.1.1 p.1 _ _ _ _ _ _ _ _
+    band_stored _ p.0.0 (four s.args.a s.args.b s.args.c s.args.d) _ _ _ _ _ _ p.0.1.0 _ _ p.0.1.1.1 p.1 _ _ _ _ _ _ _ _
     h1.edge_row.ensures h2.edge-row2.ensures h3.edge-row3.ensures h4.edge-row4.ensures h5.wave.ensures h6.row.ensures
     h7.row2.ensures
     h8.row3.ensures

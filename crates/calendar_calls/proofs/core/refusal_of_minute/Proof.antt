@@ -1,6 +1,6 @@
 use borrow.Author.Tests.{not-true, not-false}
 use mathlib.Core.Path.{sym, ◌∙◌}
-use Rattle.calendar.specs.Windows.{momentOf}
+use Rattle.calendar.specs.Windows.{moment_of}
 use Rattle.calendar_calls.proofs.Lines as lines
 use borrow.Author.Rules.{rules}
 use Rattle.calendar_calls.proofs.core.refusal_of_minute.Statement.{statement}
@@ -11,13 +11,13 @@ faulty-requires c κs = search rules
 
 returns : tie.Need-returns
 returns c =
-    let A = c.before.before.before.args in lines.hours-25 A.n (momentOf A.calendar.now A.minute) A.b
+    let A = c.before.before.before.args in lines.hours_25 A.n (moment_of A.calendar.now A.minute) A.b
     (sym c.before.faulty.ensures ∙ c.if1.true)
 
 returns-2 : tie.Need-returns-2
 returns-2 c =
     let A = c.before.before.before.before.args in let fair = sym c.before.before.faulty.ensures ∙ c.before.if1.false in
-    lines.hours-11 A.n (momentOf A.calendar.now A.minute) A.b fair c.if2.true
+    lines.hours_11 A.n (moment_of A.calendar.now A.minute) A.b fair c.if2.true
 
 open-at-requires : tie.Need-open-at-requires
 open-at-requires c κs = search rules
@@ -29,7 +29,7 @@ returns-3 c =
     let start = at-faulty.before.before in
     let A = start.args in
     let fair = sym at-faulty.faulty.ensures ∙ at-if1.if1.false in
-    lines.hours-24 A.n (momentOf A.calendar.now A.minute) A.b fair c.before.before.if2.false (lines.closed-when A.calendar.now A.minute
+    lines.hours_24 A.n (moment_of A.calendar.now A.minute) A.b fair c.before.before.if2.false (lines.closed_when A.calendar.now A.minute
     A.b (sym c.before.open_at.ensures ∙ not-true _ c.if3.true))
 
 returns-4 : tie.Need-returns-4
@@ -39,8 +39,8 @@ returns-4 c =
     let start = at-faulty.before.before in
     let A = start.args in
     let fair = sym at-faulty.faulty.ensures ∙ at-if1.if1.false in
-    lines.hours-0 A.n (momentOf A.calendar.now A.minute) A.b fair c.before.before.if2.false
-    (lines.open-when A.calendar.now A.minute A.b
+    lines.hours_0 A.n (moment_of A.calendar.now A.minute) A.b fair c.before.before.if2.false
+    (lines.open_when A.calendar.now A.minute A.b
     (sym c.before.open_at.ensures ∙ not-false _ c.if3.false))
 
 pub refusal-of-minute-spec : {M : Type 1} → statement M

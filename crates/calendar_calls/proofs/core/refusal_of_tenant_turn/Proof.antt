@@ -6,11 +6,11 @@ use borrow.Author.Tests.{leb-true}
 use Rattle.base.specs.Numbers.{first_of}
 use Rattle.machine.specs.Machine.{state_of}
 use Rattle.plan.specs.Shaped.{plan_of}
-use Rattle.tenants.specs.Tenants.{tenantAreas}
-use Rattle.calendar.specs.Windows.{momentOf}
+use Rattle.tenants.specs.Tenants.{tenant_areas}
+use Rattle.calendar.specs.Windows.{moment_of}
 use Rattle.engine.proofs.Reading as reading
 use Rattle.sharing.proofs.Lines as plain
-use Rattle.calendar_calls.specs.Given.{hourLines}
+use Rattle.calendar_calls.specs.Given.{hour_lines}
 use Rattle.calendar_calls.proofs.Lines as lines
 use borrow.Author.Rules.{rules}
 use Rattle.calendar_calls.proofs.core.refusal_of_tenant_turn.Statement.{statement}
@@ -19,15 +19,15 @@ use Rattle.calendar_calls.proofs.core.refusal_of_tenant_turn.Tie as tie
 mul-if1 : tie.Need-overflow-mul-if1
 mul-if1 c =
     let S = c.before.before.before.before.before.before in
-    omega (arith, S.requires.0.0.processors, S.requires.0.0.accepted.processors-most)
+    omega (arith, S.requires.0.0.processors, S.requires.0.0.accepted.processors_most)
 
 returns : tie.Need-returns
 returns c =
     let S = c.before.before.before.before.before.before.before in
     let A = S.args in
     let p = plan_of A.sizes.route A.nest in (
-      λ l q h k. lines.away-nine-for p A.source.now A.tenant (momentOf A.hours.now A.minute)
-          (tenantAreas (state_of A.memories.now A.buffer.now l A.status.now) A.engaged.now) q A.b
+      λ l q h k. lines.away_nine_for p A.source.now A.tenant (moment_of A.hours.now A.minute)
+          (tenant_areas (state_of A.memories.now A.buffer.now l A.status.now) A.engaged.now) q A.b
           (λ i. c.if1.true (i ∙ ap (λ (n : ℕ). 28 * n) (sym S.requires.0.0.processors))),
       λ z. absurd (omega arith),
     )
@@ -42,8 +42,8 @@ returns-2 c =
     let A = S.args in
     let p = plan_of A.sizes.route A.nest in
     let long = at-if1.if1.false ∙ ap (λ (n : ℕ). 28 * n) S.requires.0.0.processors in (
-      λ l q h k. lines.away-unfit-for p A.source.now A.tenant (momentOf A.hours.now A.minute)
-          (tenantAreas (state_of A.memories.now A.buffer.now l A.status.now) A.engaged.now) q A.b long
+      λ l q h k. lines.away_unfit_for p A.source.now A.tenant (moment_of A.hours.now A.minute)
+          (tenant_areas (state_of A.memories.now A.buffer.now l A.status.now) A.engaged.now) q A.b long
           c.before.refusal-of-areas.result (c.before.refusal-of-areas.ensures.0 l q h k) c.if2.true,
       λ z. absurd (c.if2.true z),
     )
@@ -52,7 +52,7 @@ refusal-of-minute-requires : tie.Need-refusal-of-minute-requires
 refusal-of-minute-requires c κs =
     let at-if1 = c.before.before in
     let S = at-if1.before.before.before.before.before.before.before in
-    (omega (arith, S.requires.0.0.processors, S.requires.0.0.accepted.processors-most), at-if1.if1.false)
+    (omega (arith, S.requires.0.0.processors, S.requires.0.0.accepted.processors_most), at-if1.if1.false)
 
 returns-3 : tie.Need-returns-3
 returns-3 c =
@@ -64,9 +64,9 @@ returns-3 c =
     let A = S.args in
     let p = plan_of A.sizes.route A.nest in
     let long = at-if1.if1.false ∙ ap (λ (n : ℕ). 28 * n) S.requires.0.0.processors in
-    let hours = refusal-of-minute.ensures ∙ ap (λ (n : ℕ). first_of (hourLines n (momentOf A.hours.now A.minute) A.b)) S.requires.0.0.processors in (
-      λ l q h k. lines.away-shut-for p A.source.now A.tenant (momentOf A.hours.now A.minute)
-          (tenantAreas (state_of A.memories.now A.buffer.now l A.status.now) A.engaged.now) q A.b long
+    let hours = refusal-of-minute.ensures ∙ ap (λ (n : ℕ). first_of (hour_lines n (moment_of A.hours.now A.minute) A.b)) S.requires.0.0.processors in (
+      λ l q h k. lines.away_shut_for p A.source.now A.tenant (moment_of A.hours.now A.minute)
+          (tenant_areas (state_of A.memories.now A.buffer.now l A.status.now) A.engaged.now) q A.b long
           at-refusal-of-areas.refusal-of-areas.result (at-refusal-of-areas.refusal-of-areas.ensures.0 l q h k) at-if2.if2.false
           refusal-of-minute.result hours c.if3.true,
       λ z. absurd (c.if3.true z),
@@ -103,14 +103,14 @@ held-by-other-requires c κs =
     let few2 = reading.few_words _ _ S.requires.0.0 A.theirs.count counts.1 in
     let own = take (A.progress.count - 0) (drop 0 A.progress.words) in
     let other = take (A.theirs.count - 0) (drop 0 A.theirs.words) in
-    let hours = refusal-of-minute.ensures ∙ ap (λ (n : ℕ). first_of (hourLines n (momentOf A.hours.now A.minute) A.b)) S.requires.0.0.processors in
-    let now = lines.hours-none p.processors (momentOf A.hours.now A.minute) A.b refusal-of-minute.result hours at-if3.if3.false in
-    let none = plain.unfit-none p A.source.now A.tenant (tenantAreas (state_of A.memories.now A.buffer.now own A.status.now)
+    let hours = refusal-of-minute.ensures ∙ ap (λ (n : ℕ). first_of (hour_lines n (moment_of A.hours.now A.minute) A.b)) S.requires.0.0.processors in
+    let now = lines.hours_none p.processors (moment_of A.hours.now A.minute) A.b refusal-of-minute.result hours at-if3.if3.false in
+    let none = plain.unfit_none p A.source.now A.tenant (tenant_areas (state_of A.memories.now A.buffer.now own A.status.now)
     A.engaged.now)
     other at-refusal-of-areas.refusal-of-areas.result (at-refusal-of-areas.refusal-of-areas.ensures.0 own other
-    (reading.part-carries A.progress S.requires.1.0 few)
-    (reading.part-carries A.theirs S.requires.1.1 few2)) at-if2.if2.false in
-    let lengths = plain.lengths-are p A.source.now (tenantAreas (state_of A.memories.now A.buffer.now own A.status.now) A.engaged.now)
+    (reading.part_carries A.progress S.requires.1.0 few)
+    (reading.part_carries A.theirs S.requires.1.1 few2)) at-if2.if2.false in
+    let lengths = plain.lengths_are p A.source.now (tenant_areas (state_of A.memories.now A.buffer.now own A.status.now) A.engaged.now)
     other none.0 in
     (S.requires.0, ((lengths.own.progress, lengths.engaged), (now.low, leb-true _ _ none.1.tenant)))
 
@@ -127,14 +127,14 @@ returns-4 c =
     let long = at-if1.if1.false ∙ ap (λ (n : ℕ). 28 * n) S.requires.0.0.processors in
     let counts = at-refusal-of-areas.refusal-of-areas.ensures.1 at-if2.if2.false in
     let few = reading.few_words _ _ S.requires.0.0 A.progress.count counts.0 in
-    let hours = refusal-of-minute.ensures ∙ ap (λ (n : ℕ). first_of (hourLines n (momentOf A.hours.now A.minute) A.b)) S.requires.0.0.processors in
+    let hours = refusal-of-minute.ensures ∙ ap (λ (n : ℕ). first_of (hour_lines n (moment_of A.hours.now A.minute) A.b)) S.requires.0.0.processors in
     let own = take (A.progress.count - 0) (drop 0 A.progress.words) in (
-      λ l q h k. lines.away-held p A.source.now A.tenant (momentOf A.hours.now A.minute)
-          (tenantAreas (state_of A.memories.now A.buffer.now l A.status.now) A.engaged.now) q A.b long
+      λ l q h k. lines.away_held p A.source.now A.tenant (moment_of A.hours.now A.minute)
+          (tenant_areas (state_of A.memories.now A.buffer.now l A.status.now) A.engaged.now) q A.b long
           at-refusal-of-areas.refusal-of-areas.result (at-refusal-of-areas.refusal-of-areas.ensures.0 l q h k) at-if2.if2.false
           refusal-of-minute.result hours at-if3.if3.false
-          (plain.held-as p A.tenant A.memories.now A.buffer.now own l A.status.now A.engaged.now A.b
-          (reading.part-is A.progress l few h)
+          (plain.held_as p A.tenant A.memories.now A.buffer.now own l A.status.now A.engaged.now A.b
+          (reading.part_is A.progress l few h)
           ∙ sym c.before.held-by-other.ensures ∙ c.if4.true),
       λ z. absurd (omega arith),
     )
@@ -152,14 +152,14 @@ returns-5 c =
     let long = at-if1.if1.false ∙ ap (λ (n : ℕ). 28 * n) S.requires.0.0.processors in
     let counts = at-refusal-of-areas.refusal-of-areas.ensures.1 at-if2.if2.false in
     let few = reading.few_words _ _ S.requires.0.0 A.progress.count counts.0 in
-    let hours = refusal-of-minute.ensures ∙ ap (λ (n : ℕ). first_of (hourLines n (momentOf A.hours.now A.minute) A.b)) S.requires.0.0.processors in
+    let hours = refusal-of-minute.ensures ∙ ap (λ (n : ℕ). first_of (hour_lines n (moment_of A.hours.now A.minute) A.b)) S.requires.0.0.processors in
     let own = take (A.progress.count - 0) (drop 0 A.progress.words) in (
-      λ l q h k. lines.away-0 p A.source.now A.tenant (momentOf A.hours.now A.minute)
-          (tenantAreas (state_of A.memories.now A.buffer.now l A.status.now) A.engaged.now) q A.b long
+      λ l q h k. lines.away_0 p A.source.now A.tenant (moment_of A.hours.now A.minute)
+          (tenant_areas (state_of A.memories.now A.buffer.now l A.status.now) A.engaged.now) q A.b long
           at-refusal-of-areas.refusal-of-areas.result (at-refusal-of-areas.refusal-of-areas.ensures.0 l q h k) at-if2.if2.false
           refusal-of-minute.result hours at-if3.if3.false
-          (plain.held-as p A.tenant A.memories.now A.buffer.now own l A.status.now A.engaged.now A.b
-          (reading.part-is A.progress l few h)
+          (plain.held_as p A.tenant A.memories.now A.buffer.now own l A.status.now A.engaged.now A.b
+          (reading.part_is A.progress l few h)
           ∙ sym c.before.held-by-other.ensures ∙ c.if4.false),
       λ z. counts,
     )

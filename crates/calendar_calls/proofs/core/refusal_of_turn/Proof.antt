@@ -5,8 +5,8 @@ use native.Mathlib.Omega.{arith}
 use Rattle.base.specs.Numbers.{first_of}
 use Rattle.machine.specs.Machine.{state_of}
 use Rattle.plan.specs.Shaped.{plan_of}
-use Rattle.calendar.specs.Windows.{momentOf}
-use Rattle.calendar_calls.specs.Given.{hourLines}
+use Rattle.calendar.specs.Windows.{moment_of}
+use Rattle.calendar_calls.specs.Given.{hour_lines}
 use Rattle.calendar_calls.proofs.Lines as lines
 use Rattle.calendar_calls.proofs.core.refusal_of_turn.Statement.{statement}
 use Rattle.calendar_calls.proofs.core.refusal_of_turn.Tie as tie
@@ -14,14 +14,14 @@ use Rattle.calendar_calls.proofs.core.refusal_of_turn.Tie as tie
 mul-if1 : tie.Need-overflow-mul-if1
 mul-if1 c =
     let S = c.before.before.before.before.before in
-    omega (arith, S.requires.0.0.processors, S.requires.0.0.accepted.processors-most)
+    omega (arith, S.requires.0.0.processors, S.requires.0.0.accepted.processors_most)
 
 returns : tie.Need-returns
 returns c =
     let S = c.before.before.before.before.before.before in
     let A = S.args in
     let p = plan_of A.sizes.route A.nest in (
-      λ l k. lines.away-nine p A.source.now (momentOf A.hours.now A.minute) (state_of A.memories.now A.buffer.now l A.status.now) A.b
+      λ l k. lines.away_nine p A.source.now (moment_of A.hours.now A.minute) (state_of A.memories.now A.buffer.now l A.status.now) A.b
           (λ q. c.if1.true (q ∙ ap (λ (n : ℕ). 28 * n) (sym S.requires.0.0.processors))),
       λ z. absurd (omega arith),
     )
@@ -36,7 +36,7 @@ returns-2 c =
     let A = S.args in
     let p = plan_of A.sizes.route A.nest in
     let long = at-if1.if1.false ∙ ap (λ (n : ℕ). 28 * n) S.requires.0.0.processors in (
-      λ l k. lines.away-unfit p A.source.now (momentOf A.hours.now A.minute) (state_of A.memories.now A.buffer.now l A.status.now) A.b
+      λ l k. lines.away_unfit p A.source.now (moment_of A.hours.now A.minute) (state_of A.memories.now A.buffer.now l A.status.now) A.b
           long
           c.before.refusal-of-areas.result (c.before.refusal-of-areas.ensures.0 l k) c.if2.true,
       λ z. absurd (c.if2.true z),
@@ -45,7 +45,7 @@ returns-2 c =
 refusal-of-minute-requires : tie.Need-refusal-of-minute-requires
 refusal-of-minute-requires c κs =
     let S = c.before.before.before.before.before.before.before.before in
-    (omega (arith, S.requires.0.0.processors, S.requires.0.0.accepted.processors-most), c.before.before.if1.false)
+    (omega (arith, S.requires.0.0.processors, S.requires.0.0.accepted.processors_most), c.before.before.if1.false)
 
 returns-3 : tie.Need-returns-3
 returns-3 c =
@@ -56,9 +56,9 @@ returns-3 c =
     let A = S.args in
     let p = plan_of A.sizes.route A.nest in
     let long = at-if1.if1.false ∙ ap (λ (n : ℕ). 28 * n) S.requires.0.0.processors in
-    let hours = c.refusal-of-minute.ensures ∙ ap (λ (n : ℕ). first_of (hourLines n (momentOf A.hours.now A.minute) A.b)) S.requires.0.0.processors
+    let hours = c.refusal-of-minute.ensures ∙ ap (λ (n : ℕ). first_of (hour_lines n (moment_of A.hours.now A.minute) A.b)) S.requires.0.0.processors
     in (
-      λ l k. lines.away-shut p A.source.now (momentOf A.hours.now A.minute) (state_of A.memories.now A.buffer.now l A.status.now) A.b
+      λ l k. lines.away_shut p A.source.now (moment_of A.hours.now A.minute) (state_of A.memories.now A.buffer.now l A.status.now) A.b
           long
           at-refusal-of-areas.refusal-of-areas.result (at-refusal-of-areas.refusal-of-areas.ensures.0 l k) at-if2.if2.false
           c.refusal-of-minute.result hours,

@@ -4,12 +4,12 @@ use mathlib.Core.Path.{refl, subst, ◌∙◌}
 use native.Mathlib.Omega.{arith}
 use Rattle.machine.specs.Machine.{state_of}
 use Rattle.plan.specs.Shaped.{plan_of}
-use Rattle.calendar.specs.Windows.{momentOf}
+use Rattle.calendar.specs.Windows.{moment_of}
 use Rattle.engine.specs.Calls.{answer}
-use Rattle.engine.specs.Given.{recordsAfter}
+use Rattle.engine.specs.Given.{records_after}
 use Rattle.engine.proofs.Lines as plain
 use Rattle.engine.proofs.Reading as reading
-use Rattle.calendar_calls.specs.Calls.{turnCallAt}
+use Rattle.calendar_calls.specs.Calls.{turn_call_at}
 use Rattle.calendar_calls.proofs.Lines as lines
 use borrow.Author.Rules.{rules}
 use Rattle.calendar_calls.proofs.core.turn.Statement.{statement}
@@ -27,7 +27,7 @@ returns c =
     let A = c.before.before.before.before.before.before.before.before.before.before.args in
     λ l k. reading.refuses c.refused.result opens.result.number c.refused.ensures c.before.if1.true
     (state_of A.memories.now A.buffer.now l A.status.now)
-    A.processor _ (lines.turn-read A.encoded.now A.route A.source.now (momentOf A.hours.now A.minute)
+    A.processor _ (lines.turn_read A.encoded.now A.route A.source.now (moment_of A.hours.now A.minute)
     (state_of A.memories.now A.buffer.now l A.status.now) A.processor opens.result.number opens.ensures.number
     c.before.if1.true)
 
@@ -61,7 +61,7 @@ returns-2 c =
     let p = plan_of at_open.«open».result.sizes.route at_open.«open».result.nest in
     λ l k. reading.refuses c.refused2.result at-refusal-of-turn.refusal-of-turn.result c.refused2.ensures at-if2.if2.true
     (state_of A.memories.now A.buffer.now l A.status.now)
-    A.processor _ (lines.turn-away A.encoded.now A.route A.source.now (momentOf A.hours.now A.minute)
+    A.processor _ (lines.turn_away A.encoded.now A.route A.source.now (moment_of A.hours.now A.minute)
     (state_of A.memories.now A.buffer.now l A.status.now) A.processor p opened-as at-refusal-of-turn.refusal-of-turn.result
     (at-refusal-of-turn.refusal-of-turn.ensures.0 l k) at-if2.if2.true)
 
@@ -95,9 +95,9 @@ step-requires c κs =
     let few = reading.few_words _ _ planned.0 A.progress.count (at-refusal-of-turn.refusal-of-turn.ensures.1 at-if2.if2.false) in
     let p = plan_of at_open.«open».result.sizes.route at_open.«open».result.nest in
     let own = take (A.progress.count - 0) (drop 0 A.progress.words) in
-    let opened = lines.away-none p A.source.now (momentOf A.hours.now A.minute) (state_of A.memories.now A.buffer.now own A.status.now)
+    let opened = lines.away_none p A.source.now (moment_of A.hours.now A.minute) (state_of A.memories.now A.buffer.now own A.status.now)
     A.processor
-    at-refusal-of-turn.refusal-of-turn.result (at-refusal-of-turn.refusal-of-turn.ensures.0 own (reading.part-carries A.progress S.requires few))
+    at-refusal-of-turn.refusal-of-turn.result (at-refusal-of-turn.refusal-of-turn.ensures.0 own (reading.part_carries A.progress S.requires few))
     at-if2.if2.false in (
       planned,
       plain.passed p A.source.now (state_of A.memories.now A.buffer.now own A.status.now) A.processor 0 opened.unfit refl
@@ -127,18 +127,18 @@ returns-3 c =
     let few = reading.few_words _ _ planned.0 A.progress.count (at-refusal-of-turn.refusal-of-turn.ensures.1 at-if2.if2.false) in
     let p = plan_of at_open.«open».result.sizes.route at_open.«open».result.nest in
     let own = take (A.progress.count - 0) (drop 0 A.progress.words) in
-    let opened = lines.away-none p A.source.now (momentOf A.hours.now A.minute) (state_of A.memories.now A.buffer.now own A.status.now)
+    let opened = lines.away_none p A.source.now (moment_of A.hours.now A.minute) (state_of A.memories.now A.buffer.now own A.status.now)
     A.processor
-    at-refusal-of-turn.refusal-of-turn.result (at-refusal-of-turn.refusal-of-turn.ensures.0 own (reading.part-carries A.progress S.requires few))
+    at-refusal-of-turn.refusal-of-turn.result (at-refusal-of-turn.refusal-of-turn.ensures.0 own (reading.part_carries A.progress S.requires few))
     at-if2.if2.false in
     λ l k. subst (λ (x : List ℕ). answer step.result.number (state_of step.new.1.1.1.1.0 step.new.1.1.1.1.1.0
-    (recordsAfter x A.processor step.result) step.new.1.1.1.1.1.1.1.0)
-    ≡ turnCallAt A.encoded.now A.route A.source.now (momentOf A.hours.now A.minute) (state_of A.memories.now A.buffer.now x
-    A.status.now) A.processor) (reading.part-is A.progress l few k) (plain.turn-steps A.encoded.now A.route A.source.now
+    (records_after x A.processor step.result) step.new.1.1.1.1.1.1.1.0)
+    ≡ turn_call_at A.encoded.now A.route A.source.now (moment_of A.hours.now A.minute) (state_of A.memories.now A.buffer.now x
+    A.status.now) A.processor) (reading.part_is A.progress l few k) (plain.turn_steps A.encoded.now A.route A.source.now
     (state_of A.memories.now A.buffer.now own A.status.now) A.processor p opened-as
-    0 opened.unfit refl _ step.ensures ∙ lines.plainly A.encoded.now A.route A.source.now (momentOf A.hours.now A.minute)
+    0 opened.unfit refl _ step.ensures ∙ lines.plainly A.encoded.now A.route A.source.now (moment_of A.hours.now A.minute)
     (state_of A.memories.now A.buffer.now own A.status.now) A.processor p opened-as opened.long
-    (opened.hours.fair, opened.hours.open-then))
+    (opened.hours.fair, opened.hours.open_then))
 
 pub turn_spec : {M : Type 1} → statement M
 turn_spec =

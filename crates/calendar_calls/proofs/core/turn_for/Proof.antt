@@ -4,9 +4,9 @@ use mathlib.Core.Path.{refl, ◌∙◌}
 use native.Mathlib.Omega.{arith}
 use Rattle.machine.specs.Machine.{state_of}
 use Rattle.plan.specs.Shaped.{plan_of}
-use Rattle.calendar.specs.Windows.{momentOf}
-use Rattle.tenants.specs.Tenants.{tenantAreas}
-use Rattle.tenants.proofs.OneCall.{own-fits}
+use Rattle.calendar.specs.Windows.{moment_of}
+use Rattle.tenants.specs.Tenants.{tenant_areas}
+use Rattle.tenants.proofs.OneCall.{own_fits}
 use Rattle.engine.proofs.Reading as reading
 use Rattle.sharing.proofs.Lines as plain
 use Rattle.calendar_calls.proofs.Lines as lines
@@ -25,8 +25,8 @@ returns c =
     let opens = c.before.before.«open» in
     let A = c.before.before.before.before.before.before.before.before.before.before.before.args in
     λ l q h k. plain.refuses c.refused.result opens.result.number c.refused.ensures c.before.if1.true
-    (tenantAreas (state_of A.memories.now A.buffer.now l A.status.now) A.engaged.now) A.processor _ (lines.turn-read-for A.encoded.now
-    A.route A.source.now A.tenant (momentOf A.hours.now A.minute) (tenantAreas (state_of A.memories.now A.buffer.now l A.status.now)
+    (tenant_areas (state_of A.memories.now A.buffer.now l A.status.now) A.engaged.now) A.processor _ (lines.turn_read_for A.encoded.now
+    A.route A.source.now A.tenant (moment_of A.hours.now A.minute) (tenant_areas (state_of A.memories.now A.buffer.now l A.status.now)
     A.engaged.now) q A.processor
     opens.result.number opens.ensures.number c.before.if1.true)
 
@@ -62,8 +62,8 @@ returns-2 c =
     let opened-as = at_open.«open».ensures.opened at-if1.if1.false in
     let p = plan_of at_open.«open».result.sizes.route at_open.«open».result.nest in
     λ l q h k. plain.refuses c.refused2.result at-refusal-of-tenant-turn.refusal-of-tenant-turn.result c.refused2.ensures at-if2.if2.true
-    (tenantAreas (state_of A.memories.now A.buffer.now l A.status.now) A.engaged.now) A.processor _ (lines.turn-away-for A.encoded.now
-    A.route A.source.now A.tenant (momentOf A.hours.now A.minute) (tenantAreas (state_of A.memories.now A.buffer.now l A.status.now)
+    (tenant_areas (state_of A.memories.now A.buffer.now l A.status.now) A.engaged.now) A.processor _ (lines.turn_away_for A.encoded.now
+    A.route A.source.now A.tenant (moment_of A.hours.now A.minute) (tenant_areas (state_of A.memories.now A.buffer.now l A.status.now)
     A.engaged.now) q A.processor
     p opened-as at-refusal-of-tenant-turn.refusal-of-tenant-turn.result (at-refusal-of-tenant-turn.refusal-of-tenant-turn.ensures.0 l q h k)
     at-if2.if2.true)
@@ -102,16 +102,16 @@ step-for-requires c κs =
     let own = take (A.progress.count - 0) (drop 0 A.progress.words) in
     let other = take (A.theirs.count - 0) (drop 0 A.theirs.words) in
     let few2 = reading.few_words _ _ planned.0 A.theirs.count counts.1 in
-    let opened = lines.away-none-for p A.source.now A.tenant (momentOf A.hours.now A.minute)
-    (tenantAreas (state_of A.memories.now A.buffer.now own A.status.now) A.engaged.now)
+    let opened = lines.away_none_for p A.source.now A.tenant (moment_of A.hours.now A.minute)
+    (tenant_areas (state_of A.memories.now A.buffer.now own A.status.now) A.engaged.now)
     other A.processor at-refusal-of-tenant-turn.refusal-of-tenant-turn.result (at-refusal-of-tenant-turn.refusal-of-tenant-turn.ensures.0 own other
-    (reading.part-carries A.progress S.requires.0 few)
-    (reading.part-carries A.theirs S.requires.1 few2)) at-if2.if2.false in (
+    (reading.part_carries A.progress S.requires.0 few)
+    (reading.part_carries A.theirs S.requires.1 few2)) at-if2.if2.false in (
       planned,
       (
         record {
           areas = opened.free.lengths.own;
-          fit = own-fits p A.tenant (tenantAreas (state_of A.memories.now A.buffer.now own A.status.now) A.engaged.now) other
+          fit = own_fits p A.tenant (tenant_areas (state_of A.memories.now A.buffer.now own A.status.now) A.engaged.now) other
               opened.free.fits;
           processor = opened.free.low;
         },
@@ -148,25 +148,25 @@ returns-3 c =
     let own = take (A.progress.count - 0) (drop 0 A.progress.words) in
     let other = take (A.theirs.count - 0) (drop 0 A.theirs.words) in
     let few2 = reading.few_words _ _ planned.0 A.theirs.count counts.1 in
-    let opened = lines.away-none-for p A.source.now A.tenant (momentOf A.hours.now A.minute)
-    (tenantAreas (state_of A.memories.now A.buffer.now own A.status.now) A.engaged.now)
+    let opened = lines.away_none_for p A.source.now A.tenant (moment_of A.hours.now A.minute)
+    (tenant_areas (state_of A.memories.now A.buffer.now own A.status.now) A.engaged.now)
     other A.processor at-refusal-of-tenant-turn.refusal-of-tenant-turn.result (at-refusal-of-tenant-turn.refusal-of-tenant-turn.ensures.0 own other
-    (reading.part-carries A.progress S.requires.0 few)
-    (reading.part-carries A.theirs S.requires.1 few2)) at-if2.if2.false in
-    λ l q h k. plain.turn-as A.encoded.now A.route A.source.now A.tenant A.memories.now A.buffer.now A.status.now A.engaged.now
-    own l other q A.processor (reading.part-is A.progress l few h) (reading.part-is A.theirs q few2 k) step-for.result
+    (reading.part_carries A.progress S.requires.0 few)
+    (reading.part_carries A.theirs S.requires.1 few2)) at-if2.if2.false in
+    λ l q h k. plain.turn_as A.encoded.now A.route A.source.now A.tenant A.memories.now A.buffer.now A.status.now A.engaged.now
+    own l other q A.processor (reading.part_is A.progress l few h) (reading.part_is A.theirs q few2 k) step-for.result
     step-for.new.1.1.1.1.0 step-for.new.1.1.1.1.1.0
     step-for.new.1.1.1.1.1.1.1.0 step-for.new.1.1.1.1.1.1.1.1.0
-    (plain.turn-steps A.encoded.now A.route A.source.now A.tenant (tenantAreas (state_of A.memories.now A.buffer.now own A.status.now)
+    (plain.turn_steps A.encoded.now A.route A.source.now A.tenant (tenant_areas (state_of A.memories.now A.buffer.now own A.status.now)
     A.engaged.now) other
     A.processor p opened-as opened.free step-for.result step-for.new.1.1.1.1.0
     step-for.new.1.1.1.1.1.0
     step-for.new.1.1.1.1.1.1.1.0 step-for.new.1.1.1.1.1.1.1.1.0
-    step-for.ensures.0 step-for.ensures.1) ∙ lines.plainly-for A.encoded.now A.route A.source.now A.tenant
-    (momentOf A.hours.now A.minute)
-    (tenantAreas (state_of A.memories.now A.buffer.now l A.status.now) A.engaged.now) q A.processor p
+    step-for.ensures.0 step-for.ensures.1) ∙ lines.plainly_for A.encoded.now A.route A.source.now A.tenant
+    (moment_of A.hours.now A.minute)
+    (tenant_areas (state_of A.memories.now A.buffer.now l A.status.now) A.engaged.now) q A.processor p
     opened-as
-    opened.long (opened.hours.fair, opened.hours.open-then)
+    opened.long (opened.hours.fair, opened.hours.open_then)
 
 pub turn-for-spec : {M : Type 1} → statement M
 turn-for-spec =

@@ -7,10 +7,10 @@ use Rattle.calendar_calls.proofs.windows.covers.Reads as reads
 use Rattle.calendar_calls.proofs.windows.covers.Lts as lts
 
 returns : tie.Need-returns
-returns c = W.covers-before _ _ _ c.if1.true
+returns c = W.covers_before _ _ _ c.if1.true
 
 returns-2 : tie.Need-returns-2
-returns-2 c = W.covers-then _ _ _ c.if1.false
+returns-2 c = W.covers_then _ _ _ c.if1.false
 
 pub covers-spec : {M : Type 1} → statement M
 covers-spec = tie.close (tie.spec returns returns-2)

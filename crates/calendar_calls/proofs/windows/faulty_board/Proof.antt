@@ -5,8 +5,8 @@ use native.Mathlib.Omega.{arith}
 use borrow.Author.Rules.{rules}
 use Rattle.base.specs.Tests.{some}
 use Rattle.base.proofs.Tests.{some_one}
-use Rattle.base.proofs.Loops.{some-start, some-step, some_end}
-use Rattle.calendar.specs.Windows.{faultyPair, faultyBoard}
+use Rattle.base.proofs.Loops.{some_start, some_step, some_end}
+use Rattle.calendar.specs.Windows.{faulty_pair, faulty_board}
 use Rattle.calendar_calls.proofs.windows.faulty_board.Statement.{statement}
 use Rattle.calendar_calls.proofs.windows.faulty_board.Tie as tie
 use Rattle.calendar_calls.proofs.windows.faulty_board.Reads as reads
@@ -14,13 +14,13 @@ use Rattle.calendar_calls.proofs.windows.faulty_board.Lts as lts
 use Rattle.calendar_calls.proofs.windows.faulty_pair.Reads as faulty-pair-reads
 
 abbrev invariant-loop : tie.invariant-loop
-invariant-loop calendar b w₀ w = (w ≤ 14) × (some (faultyPair calendar b) w ≡ false)
+invariant-loop calendar b w₀ w = (w ≤ 14) × (some (faulty_pair calendar b) w ≡ false)
 
 abbrev decreases-loop : tie.decreases-loop
 decreases-loop calendar b w₀ w = 14 - w
 
 loop-holds : tie.Need-loop-init invariant-loop decreases-loop
-loop-holds c = (omega arith, some-start _)
+loop-holds c = (omega arith, some_start _)
 
 mul_at : tie.Need-overflow-mul-at invariant-loop decreases-loop
 mul_at c = search rules
@@ -50,7 +50,7 @@ faulty-pair-requires : tie.Need-faulty-pair-requires invariant-loop decreases-lo
 faulty-pair-requires c κs = search rules
 
 returns : tie.Need-returns invariant-loop decreases-loop
-unfolding faultyBoard
+unfolding faulty_board
 returns c =
     let at-loop-test = c.before.before.before.before in
     let at-loop = at-loop-test.before in
@@ -63,10 +63,10 @@ loop-less : tie.Need-loop-smaller invariant-loop decreases-loop
 loop-less c = search rules
 
 loop-again : tie.Need-loop-preserved invariant-loop decreases-loop
-loop-again c = (omega arith, some-step _ _ c.before.before.before.before.before.loop.invariant.1 (sym c.before.faulty-pair.ensures ∙ c.if1.false))
+loop-again c = (omega arith, some_step _ _ c.before.before.before.before.before.loop.invariant.1 (sym c.before.faulty-pair.ensures ∙ c.if1.false))
 
 returns-2 : tie.Need-returns-2 invariant-loop decreases-loop
-unfolding faultyBoard
+unfolding faulty_board
 returns-2 c = sym (some_end _ _ _ c.before.loop.invariant.0 c.loop-test.false c.before.loop.invariant.1)
 
 pub faulty-board-spec : {M : Type 1} → statement M

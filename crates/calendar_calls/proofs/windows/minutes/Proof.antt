@@ -17,7 +17,7 @@ abbrev decreases-loop : tie.decreases-loop
 decreases-loop calendar b minute soonest₀ w₀ soonest w = 14 - w
 
 loop-holds : tie.Need-loop-init invariant-loop decreases-loop
-loop-holds c = (omega arith, S.soonest-none _)
+loop-holds c = (omega arith, S.soonest_none _)
 
 mul_at : tie.Need-overflow-mul-at invariant-loop decreases-loop
 mul_at c = search rules
@@ -47,7 +47,7 @@ wait-requires : tie.Need-wait-requires invariant-loop decreases-loop
 wait-requires c κs =
     let at-loop = c.before.before.before in
     let start = at-loop.before.before in
-    (start.requires.1.1.0, W.fair-at _ _ start.requires.1.1.1 at-loop.loop.w c.before.before.loop-test.true)
+    (start.requires.1.1.0, W.fair_at _ _ start.requires.1.1.1 at-loop.loop.w c.before.before.loop-test.true)
 
 least-word-requires : tie.Need-least-word-requires invariant-loop decreases-loop
 least-word-requires c κs = search rules
@@ -59,10 +59,10 @@ loop-less : tie.Need-loop-smaller invariant-loop decreases-loop
 loop-less c = search rules
 
 loop-again : tie.Need-loop-preserved invariant-loop decreases-loop
-loop-again c = (omega arith, S.soonest-turn _ _ _ _ _ c.before.before.before.before.before.loop.invariant.1 c.before.wait.ensures c.least-word.ensures)
+loop-again c = (omega arith, S.soonest_turn _ _ _ _ _ c.before.before.before.before.before.loop.invariant.1 c.before.wait.ensures c.least-word.ensures)
 
 returns : tie.Need-returns invariant-loop decreases-loop
-returns c = S.told-never _ _ _ _ _ c.before.before.loop.invariant.1 c.before.before.loop.invariant.0 c.before.loop-test.false c.if1.true
+returns c = S.told_never _ _ _ _ _ c.before.before.loop.invariant.1 c.before.before.loop.invariant.0 c.before.loop-test.false c.if1.true
 
 returns-2 : tie.Need-returns-2 invariant-loop decreases-loop
 returns-2 c = S.told_in _ _ _ _ _ c.before.before.loop.invariant.1 c.before.before.loop.invariant.0 c.before.loop-test.false c.if1.false

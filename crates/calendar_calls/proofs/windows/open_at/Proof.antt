@@ -5,8 +5,8 @@ use native.Mathlib.Omega.{arith}
 use borrow.Author.Rules.{rules}
 use Rattle.base.specs.Tests.{some}
 use Rattle.base.proofs.Tests.{some_one}
-use Rattle.base.proofs.Loops.{some-start, some-step, some_end}
-use Rattle.calendar.specs.Windows.{inWindow, open_at}
+use Rattle.base.proofs.Loops.{some_start, some_step, some_end}
+use Rattle.calendar.specs.Windows.{in_window, open_at}
 use Rattle.calendar_calls.proofs.windows.open_at.Statement.{statement}
 use Rattle.calendar_calls.proofs.windows.open_at.Tie as tie
 use Rattle.calendar_calls.proofs.windows.open_at.Reads as reads
@@ -14,13 +14,13 @@ use Rattle.calendar_calls.proofs.windows.open_at.Lts as lts
 use Rattle.calendar_calls.proofs.windows.covers.Reads as covers-reads
 
 abbrev invariant-loop : tie.invariant-loop
-invariant-loop calendar b minute w₀ w = (w ≤ 14) × (some (inWindow calendar b minute) w ≡ false)
+invariant-loop calendar b minute w₀ w = (w ≤ 14) × (some (in_window calendar b minute) w ≡ false)
 
 abbrev decreases-loop : tie.decreases-loop
 decreases-loop calendar b minute w₀ w = 14 - w
 
 loop-holds : tie.Need-loop-init invariant-loop decreases-loop
-loop-holds c = (omega arith, some-start _)
+loop-holds c = (omega arith, some_start _)
 
 mul_at : tie.Need-overflow-mul-at invariant-loop decreases-loop
 mul_at c = search rules
@@ -63,7 +63,7 @@ loop-less : tie.Need-loop-smaller invariant-loop decreases-loop
 loop-less c = search rules
 
 loop-again : tie.Need-loop-preserved invariant-loop decreases-loop
-loop-again c = (omega arith, some-step _ _ c.before.before.before.before.before.loop.invariant.1 (sym c.before.covers.ensures ∙ c.if1.false))
+loop-again c = (omega arith, some_step _ _ c.before.before.before.before.before.loop.invariant.1 (sym c.before.covers.ensures ∙ c.if1.false))
 
 returns-2 : tie.Need-returns-2 invariant-loop decreases-loop
 unfolding open_at

@@ -10,13 +10,13 @@ sub-result : tie.Need-overflow-sub-result
 sub-result c = search rules
 
 returns : tie.Need-returns
-returns c = W.wait-later _ _ _ c.before.requires.0 c.before.requires.1 c.if1.true
+returns c = W.wait_later _ _ _ c.before.requires.0 c.before.requires.1 c.if1.true
 
 returns-2 : tie.Need-returns-2
-returns-2 c = W.wait-now _ _ _ c.before.before.requires.0 c.before.before.requires.1 c.before.if1.false c.if2.true
+returns-2 c = W.wait_now _ _ _ c.before.before.requires.0 c.before.before.requires.1 c.before.if1.false c.if2.true
 
 returns-3 : tie.Need-returns-3
-returns-3 c = W.wait-never _ _ _ c.before.before.before.requires.0 c.before.before.before.requires.1 c.if3.true
+returns-3 c = W.wait_never _ _ _ c.before.before.before.requires.0 c.before.before.before.requires.1 c.if3.true
 
 add-result : tie.Need-overflow-add-result
 add-result c = search rules
@@ -26,7 +26,7 @@ sub-result-2 c = search rules
 
 returns-4 : tie.Need-returns-4
 returns-4 c =
-    W.wait-week _ _ _ c.before.before.before.requires.0 c.before.before.before.requires.1 c.before.before.if1.false c.before.if2.false
+    W.wait_week _ _ _ c.before.before.before.requires.0 c.before.before.before.requires.1 c.before.before.if1.false c.before.if2.false
     c.if3.false
 
 pub wait_spec : {M : Type 1} → statement M

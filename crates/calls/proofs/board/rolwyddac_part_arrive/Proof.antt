@@ -35,8 +35,8 @@ use denote.Triple.Table.{entered, cited}
 use denote.Triple.Walked.{says, Stays, walk_of, ends_at, walked, walk_Meets}
 use Rattle.machine.specs.Machine.{state_of}
 use Rattle.engine.specs.Calls.{answer}
-use Rattle.part_calls.specs.front.Calls.{partArriveCall}
-use Rattle.records.specs.Records.{flatWords, Flattens}
+use Rattle.part_calls.specs.front.Calls.{part_arrive_call}
+use Rattle.records.specs.Records.{flat_words, Flattens}
 use Rattle.records.specs.declared.Progress.{Progress}
 use Rattle.records.specs.declared.Flat.{Flat}
 use Rattle.records.proofs.Locals.{rooms, holds, free_all}
@@ -51,11 +51,11 @@ use Rattle.part_calls.proofs.core.arrive.Symbol.{name as #words}
 use Rattle.part_calls.proofs.core.arrive.Met as words-thm
 use Rattle.calls.proofs.Walking.{R, F, low, word, bytes, words32, records}
 use Rattle.calls.proofs.Params.{Param, number32, flat, reads, changes, Lent, stays, go, spells, tell, values, row, tokens, owning, slices}
-use Rattle.calls.proofs.Params.{had, env, held, takes-in, comes_back}
-use Rattle.calls.proofs.Lending.{lends-on}
+use Rattle.calls.proofs.Params.{had, env, held, takes_in, comes_back}
+use Rattle.calls.proofs.Lending.{lends_on}
 use Rattle.calls.proofs.Orders.{forgets, sorts, fronts, turned}
 use Rattle.calls.proofs.Entering.{allots}
-use Rattle.calls.proofs.Walking.{local, sepAll, fsepAll, splits, joins, fsplits, fjoins, Flatten, flattens}
+use Rattle.calls.proofs.Walking.{local, sep_all, fsep_all, splits, joins, fsplits, fjoins, Flatten, flattens}
 use Rattle.calls.specs.contracts.board.rolwyddac_part_arrive.Key.{name as #call}
 use Rattle.calls.specs.contracts.board.rolwyddac_part_arrive as arrive
 use Rattle.calls.proofs.board.rolwyddac_part_arrive.Statement as stated
@@ -67,8 +67,8 @@ abbrev params : List (Param 6)
 params =
     reads 0 tt u8 ∷ number32 ∷ reads 1 tt u32 ∷ changes 2 tt u32 ∷ reads 3 tt R ∷ changes 4 tt u8 ∷ number32 ∷ number32 ∷ reads 5 tt u32 ∷ []
 
-abbrev in-words : List (Param 5)
-in-words =
+abbrev in_words_lem : List (Param 5)
+in_words_lem =
     reads 0 tt u8 ∷ number32 ∷ reads 1 tt u32 ∷ changes 2 tt u32 ∷ flat ∷ changes 3 tt u8 ∷ number32 ∷ number32 ∷ reads 4 tt u32 ∷ []
 
 abbrev stayed : Stays (arrive.ended).signature.params (arrive.ended).kept
@@ -87,7 +87,7 @@ module _ {M : Type 1} {𝓤 : Ura M} (𝓛 : Logic 𝓤) (mem : Memory → SProp
     (κ3 : Lft) (q3 : Share) (x3 : Bor (List Progress)) (g3 : Room R (length x3.now))
     (κ4 : Lft) (q4 : Share) (x4 : Bor (List ℕ)) (g4 : Room u8 (length x4.now))
     (processor : ℕ) (processor-fits : processor < 2 ^ 32)
-    (message : ℕ) (message-fits : message < 2 ^ 32)
+    (message : ℕ) (message_fits : message < 2 ^ 32)
     (κ5 : Lft) (q5 : Share) (x5 : Bor (List ℕ)) (g5 : Room u32 (length x5.now))
     (bounds : AllOutlive 6 (arrive.signature).outlives (κ0, (κ1, (κ2, (κ3, (κ4, (κ5, tt))))))) where
   -- the lifetimes, all of them and those that the call over words is lent; the arguments, f being the record's words
@@ -108,7 +108,7 @@ module _ {M : Type 1} {𝓤 : Ura M} (𝓛 : Logic 𝓤) (mem : Memory → SProp
   abbrev given : Lent κs params
   given = (x0, (route, (x1, (x2, (x3, (x4, (processor, (message, (x5, tt)))))))))
 
-  abbrev given-words : Flat → Lent κw in-words
+  abbrev given-words : Flat → Lent κw in_words_lem
   given-words f = (x0, (route, (x1, (x2, (f, (x4, (processor, (message, (x5, tt)))))))))
 
   abbrev entry : (walk_of 𝓛 arrive.ended stayed (arrive.clauses 𝓛 mem run)).Ghost
@@ -124,19 +124,19 @@ module _ {M : Type 1} {𝓤 : Ura M} (𝓛 : Logic 𝓤) (mem : Memory → SProp
   Lives = tokens 𝓤 5 κw qw
 
   abbrev to-words : Flat → (Words 𝓛 mem run).Ghost
-  to-words f = ((κw, qw, tt, given-words f, values in-words κw (given-words f)), tt)
+  to-words f = ((κw, qw, tt, given-words f, values in_words_lem κw (given-words f)), tt)
 
   goes-words : (f : Flat) → length f.words ≡ 192
-      → ent 𝓤 (⋆ 𝓛 (sepAll 𝓤 Lives ∷ ‵ (fsepAll (owning in-words κw (given-words f))) ∷ [])) ((Words 𝓛 mem run).pre (to-words f))
-  goes-words f w = qed 𝓛 (sepAll 𝓤 Lives ∷ ‵ (fsepAll (owning in-words κw (given-words f))) ∷ []) ∵ says ! w $ done !
+      → ent 𝓤 (⋆ 𝓛 (sep_all 𝓤 Lives ∷ ‵ (fsep_all (owning in_words_lem κw (given-words f))) ∷ [])) ((Words 𝓛 mem run).pre (to-words f))
+  goes-words f w = qed 𝓛 (sep_all 𝓤 Lives ∷ ‵ (fsep_all (owning in_words_lem κw (given-words f))) ∷ []) ∵ says ! w $ done !
 
   exits : (r : ℕ) (y2 y4 : List ℕ) → r < 2 ^ 32
       → length y2 ≡ length x2.now → length y4 ≡ length x4.now
-      → answer r (state_of x1.now y2 (flatWords x3.now) y4)
-      ≡ partArriveCall x0.now route (state_of x1.now x2.now (flatWords x3.now) x4.now) processor message x5.now
-      → ent 𝓤 (⋆ 𝓛 (sepAll 𝓤 Lives ∷ ‵ (flft κ3 q3) ∷ ‵ (finally u32 x2.name y2) ∷ ‵ (finally u8 x4.name y4) ∷ [])) (Post (vint w32 r))
+      → answer r (state_of x1.now y2 (flat_words x3.now) y4)
+      ≡ part_arrive_call x0.now route (state_of x1.now x2.now (flat_words x3.now) x4.now) processor message x5.now
+      → ent 𝓤 (⋆ 𝓛 (sep_all 𝓤 Lives ∷ ‵ (flft κ3 q3) ∷ ‵ (finally u32 x2.name y2) ∷ ‵ (finally u8 x4.name y4) ∷ [])) (Post (vint w32 r))
   exits r y2 y4 fits e2 e4 said =
-      qed 𝓛 (sepAll 𝓤 Lives ∷ ‵ (flft κ3 q3) ∷ ‵ (finally u32 x2.name y2) ∷ ‵ (finally u8 x4.name y4) ∷ []) ∵
+      qed 𝓛 (sep_all 𝓤 Lives ∷ ‵ (flft κ3 q3) ∷ ‵ (finally u32 x2.name y2) ∷ ‵ (finally u8 x4.name y4) ∷ []) ∵
       suffices ! _ (ends_at 𝓛 arrive.ended stayed (arrive.clauses 𝓛 mem run) entry (vint w32 r) r
       (tt, (tt, (tt, (y2, (tt, (y4, (tt, (tt, (tt, tt)))))))))
       (tt, (tt, (tt, (e2, (tt, (e4, (tt, (tt, (tt, tt)))))))))) $ says ! said $
@@ -162,18 +162,18 @@ module _ {M : Type 1} {𝓤 : Ura M} (𝓛 : Logic 𝓤) (mem : Memory → SProp
         (rooms 𝓤 ((word, l0) ∷ []) more))
 
     worded : Triple 𝓤 (C #words) (Words 𝓛 mem run)
-        → (f : Flat) → Is F f (low f ∷ []) → Flattens f (flatWords x3.now)
-        → Sq 𝓛 (At (‵ (fat full_share S'.mir l10 0 (low f))) (Toks ++ slices 𝓤 in-words κw (given-words f)))
+        → (f : Flat) → Is F f (low f ∷ []) → Flattens f (flat_words x3.now)
+        → Sq 𝓛 (At (‵ (fat full_share S'.mir l10 0 (low f))) (Toks ++ slices 𝓤 in_words_lem κw (given-words f)))
         (runs C Λ En mir'.t-2 (at_ret En Post))
     worded known₁ f is_f e-f =
-        lends-on ! 20 6 4 refl refl refl refl refl (sub ! 0 refl (whole !)) (sub ! 1 refl (whole !)) (tt, tt) (tt, (tt, (record { fits = g2.0 }, tt))) $
-        lends-on ! 16 2 0 refl refl refl refl refl (sub ! 0 refl (whole !)) (sub ! 1 refl (whole !)) (tt, tt) (tt, (tt, (record { fits = g4.0 }, tt))) $
+        lends_on ! 20 6 4 refl refl refl refl refl (sub ! 0 refl (whole !)) (sub ! 1 refl (whole !)) (tt, tt) (tt, (tt, (record { fits = g2.0 }, tt))) $
+        lends_on ! 16 2 0 refl refl refl refl refl (sub ! 0 refl (whole !)) (sub ! 1 refl (whole !)) (tt, tt) (tt, (tt, (record { fits = g4.0 }, tt))) $
         owned ! u32 (Is u32) (uint_Makes 𝓛 w32) route _ (refl, route-fits) $
         owned ! F (Is F) (LL.makes S.the_type S'.the_plain 𝓛) f _ is_f $
         owned ! u32 (Is u32) (uint_Makes 𝓛 w32) processor _ (refl, processor-fits) $
-        owned ! u32 (Is u32) (uint_Makes 𝓛 w32) message _ (refl, message-fits) $
+        owned ! u32 (Is u32) (uint_Makes 𝓛 w32) message _ (refl, message_fits) $
         move ! (44 ∷ 0 ∷ 1 ∷ 43 ∷ 2 ∷ 42 ∷ 41 ∷ 3 ∷ 40 ∷ []) $
-        fjoins ! (owning in-words κw (given-words f)) $ move ! (36 ∷ 35 ∷ 33 ∷ 32 ∷ 31 ∷ []) $ joins ! Lives $
+        fjoins ! (owning in_words_lem κw (given-words f)) $ move ! (36 ∷ 35 ∷ 33 ∷ 32 ∷ 31 ∷ []) $ joins ! Lives $
         use2 𝓛 (raw ((Words 𝓛 mem run).pre (to-words f))) (goes-words f e-f.room) $
         calls_at ! fm (Words 𝓛 mem run) known₁ (to-words f)
         (and_then ! (local ! 27 refl)
@@ -182,8 +182,8 @@ module _ {M : Type 1} {𝓤 : Ura M} (𝓛 : Logic 𝓤) (mem : Memory → SProp
         (and_then ! (local ! 5 refl)
         (and_then ! (local ! 9 refl)
         (and_then ! (local ! 1 refl) (and_then ! (local ! 15 refl) (and_then ! (local ! 13 refl) (and_then ! (local ! 11 refl) (no_more !)))))))))) (λ w.
-        comes_back in-words κw (given-words f) ! u32 Lives w _ (ensured 𝓛 words.ended (words.clauses 𝓛 mem run) κw (given-words f) tt)
-        (λ r us. (l : List ℕ) → Flattens f l → answer r (state_of x1.now us.1.1.1.0 l us.1.1.1.1.1.0) ≡ partArriveCall x0.now route
+        comes_back in_words_lem κw (given-words f) ! u32 Lives w _ (ensured 𝓛 words.ended (words.clauses 𝓛 mem run) κw (given-words f) tt)
+        (λ r us. (l : List ℕ) → Flattens f l → answer r (state_of x1.now us.1.1.1.0 l us.1.1.1.1.1.0) ≡ part_arrive_call x0.now route
         (state_of x1.now x2.now l x4.now) processor message x5.now)
         (id⊢ 𝓤 _) (λ r. id⊢ 𝓤 _) (λ r us said.
         move ! (5 ∷ []) $ split ! $ move ! (1 ∷ []) $ feq_l ! (λ e2.
@@ -196,7 +196,7 @@ module _ {M : Type 1} {𝓤 : Ura M} (𝓛 : Logic 𝓤) (mem : Memory → SProp
         forgets ! 11 (((_, _), _) ∷ ((_, _), _) ∷ ((_, _), _) ∷ ((_, _), _) ∷ ((_, _), _) ∷ ((_, _), _) ∷ ((_, _), _) ∷ ((_, _), _) ∷ ((_, _), _)
         ∷ ((_, _), _) ∷ ((_, _), _) ∷ ((_, _), _) ∷ ((_, _), _) ∷ ((_, _), _) ∷ ((_, _), _) ∷ []) refl $
         sorts ! 11 30 (keep ! (1 ∷ 11 ∷ 3 ∷ 2 ∷ [])) $ turned ! 15 $
-        free_all ! _ $ by ! (exits r us.1.1.1.0 us.1.1.1.1.1.0 is'.1 e2 e4 (said (flatWords x3.now) e-f)))))))
+        free_all ! _ $ by ! (exits r us.1.1.1.0 us.1.1.1.1.1.0 is'.1 e2 e4 (said (flat_words x3.now) e-f)))))))
 
     begun : Triple 𝓤 (C #records·flatten) (Flatten 𝓛 mem run) → Triple 𝓤 (C #words) (Words 𝓛 mem run)
         → Sq 𝓛 (At (‵ (froom S'.mir l10 0)) (Toks ++ slices 𝓤 params κs given))
@@ -213,11 +213,11 @@ module _ {M : Type 1} {𝓤 : Ura M} (𝓛 : Logic 𝓤) (mem : Memory → SProp
       → Triple 𝓤 (C #words) (Words 𝓛 mem run)
       → ent 𝓤 (on_entry 𝓛 arrive.signature κs qs given (values params κs given)) (WpFn 𝓤 H C Λ code.function (row params κs given) Post)
   walk C Λ fm known₀ known₁ =
-      qed 𝓛 (sepAll 𝓤 Toks ∷ ‵ (fsepAll (owning params κs given)) ∷ []) ∵
+      qed 𝓛 (sep_all 𝓤 Toks ∷ ‵ (fsep_all (owning params κs given)) ∷ []) ∵
       enter ! C Λ code.function (row params κs given) _ $
       allots ! _ (λ l0 l1 l2 l3 l4 l5 l6 l7 l8 l9 l10 l11 l12 l13 l14.
-      takes-in params κs given (l1 ∷ l2 ∷ l3 ∷ l4 ∷ l5 ∷ l6 ∷ l7 ∷ l8 ∷ l9 ∷ []) !
-      (g0.0, (route-fits, (g1.0, (g2.0, (g3.0, (g4.0, (processor-fits, (message-fits, (g5.0, tt))))))))) _ _ $
+      takes_in params κs given (l1 ∷ l2 ∷ l3 ∷ l4 ∷ l5 ∷ l6 ∷ l7 ∷ l8 ∷ l9 ∷ []) !
+      (g0.0, (route-fits, (g1.0, (g2.0, (g3.0, (g4.0, (processor-fits, (message_fits, (g5.0, tt))))))))) _ _ $
       fronts ! 20 10 $ turned ! 5 $ move ! (31 ∷ []) $ fsplits ! (owning params κs given) $ move ! (39 ∷ []) $ splits ! Toks $
       sorts ! 15 30 (keep ! (5 ∷ 4 ∷ 3 ∷ 2 ∷ 1 ∷ 0 ∷ 14 ∷ 12 ∷ 11 ∷ 10 ∷ 9 ∷ 6 ∷ [])) $
       begun C Λ fm l0 l1 l2 l3 l4 l5 l6 l7 l8 l9 l10 l11 l12 l13 l14 known₀ known₁)

@@ -35,8 +35,8 @@ use denote.Triple.Table.{entered, cited}
 use denote.Triple.Walked.{says, Stays, walk_of, ends_at, walked, walk_Meets}
 use Rattle.machine.specs.Machine.{state_of}
 use Rattle.engine.specs.Calls.{answer}
-use Rattle.part_calls.specs.front.Calls.{partCollectCall}
-use Rattle.records.specs.Records.{flatWords, Flattens}
+use Rattle.part_calls.specs.front.Calls.{part_collect_call}
+use Rattle.records.specs.Records.{flat_words, Flattens}
 use Rattle.records.specs.declared.Progress.{Progress}
 use Rattle.records.specs.declared.Flat.{Flat}
 use Rattle.records.proofs.Locals.{rooms, holds, free_all}
@@ -51,11 +51,11 @@ use Rattle.part_calls.proofs.core.collect.Symbol.{name as #words}
 use Rattle.part_calls.proofs.core.collect.Met as words-thm
 use Rattle.calls.proofs.Walking.{R, F, low, word, words32, records}
 use Rattle.calls.proofs.Params.{Param, number32, flat, reads, changes, Lent, stays, go, spells, tell, values, row, tokens, owning, slices}
-use Rattle.calls.proofs.Params.{had, env, held, takes-in, comes_back}
-use Rattle.calls.proofs.Lending.{lends-on}
+use Rattle.calls.proofs.Params.{had, env, held, takes_in, comes_back}
+use Rattle.calls.proofs.Lending.{lends_on}
 use Rattle.calls.proofs.Orders.{forgets, sorts, fronts, turned}
 use Rattle.calls.proofs.Entering.{allots}
-use Rattle.calls.proofs.Walking.{local, sepAll, fsepAll, splits, joins, fsplits, fjoins, Flatten, flattens}
+use Rattle.calls.proofs.Walking.{local, sep_all, fsep_all, splits, joins, fsplits, fjoins, Flatten, flattens}
 use Rattle.calls.specs.contracts.board.rolwyddac_part_collect.Key.{name as #call}
 use Rattle.calls.specs.contracts.board.rolwyddac_part_collect as collect
 use Rattle.calls.proofs.board.rolwyddac_part_collect.Statement as stated
@@ -67,8 +67,8 @@ abbrev params : List (Param 4)
 params =
     reads 0 tt u8 ∷ number32 ∷ reads 1 tt u32 ∷ reads 2 tt R ∷ number32 ∷ changes 3 tt u32 ∷ []
 
-abbrev in-words : List (Param 3)
-in-words =
+abbrev in_words_lem : List (Param 3)
+in_words_lem =
     reads 0 tt u8 ∷ number32 ∷ reads 1 tt u32 ∷ flat ∷ number32 ∷ changes 2 tt u32 ∷ []
 
 abbrev stayed : Stays (collect.ended).signature.params (collect.ended).kept
@@ -105,7 +105,7 @@ module _ {M : Type 1} {𝓤 : Ura M} (𝓛 : Logic 𝓤) (mem : Memory → SProp
   abbrev given : Lent κs params
   given = (x0, (route, (x1, (x2, (processor, (x3, tt))))))
 
-  abbrev given-words : Flat → Lent κw in-words
+  abbrev given-words : Flat → Lent κw in_words_lem
   given-words f = (x0, (route, (x1, (f, (processor, (x3, tt))))))
 
   abbrev entry : (walk_of 𝓛 collect.ended stayed (collect.clauses 𝓛 mem run)).Ghost
@@ -121,19 +121,19 @@ module _ {M : Type 1} {𝓤 : Ura M} (𝓛 : Logic 𝓤) (mem : Memory → SProp
   Lives = tokens 𝓤 3 κw qw
 
   abbrev to-words : Flat → (Words 𝓛 mem run).Ghost
-  to-words f = ((κw, qw, tt, given-words f, values in-words κw (given-words f)), tt)
+  to-words f = ((κw, qw, tt, given-words f, values in_words_lem κw (given-words f)), tt)
 
   goes-words : (f : Flat) → length f.words ≡ 192
-      → ent 𝓤 (⋆ 𝓛 (sepAll 𝓤 Lives ∷ ‵ (fsepAll (owning in-words κw (given-words f))) ∷ [])) ((Words 𝓛 mem run).pre (to-words f))
-  goes-words f w = qed 𝓛 (sepAll 𝓤 Lives ∷ ‵ (fsepAll (owning in-words κw (given-words f))) ∷ []) ∵ says ! w $ done !
+      → ent 𝓤 (⋆ 𝓛 (sep_all 𝓤 Lives ∷ ‵ (fsep_all (owning in_words_lem κw (given-words f))) ∷ [])) ((Words 𝓛 mem run).pre (to-words f))
+  goes-words f w = qed 𝓛 (sep_all 𝓤 Lives ∷ ‵ (fsep_all (owning in_words_lem κw (given-words f))) ∷ []) ∵ says ! w $ done !
 
   exits : (r : ℕ) (y3 : List ℕ) → r < 2 ^ 32
       → length y3 ≡ length x3.now
       → answer r y3
-      ≡ partCollectCall x0.now route (state_of x1.now [] (flatWords x2.now) []) processor x3.now
-      → ent 𝓤 (⋆ 𝓛 (sepAll 𝓤 Lives ∷ ‵ (flft κ2 q2) ∷ ‵ (finally u32 x3.name y3) ∷ [])) (Post (vint w32 r))
+      ≡ part_collect_call x0.now route (state_of x1.now [] (flat_words x2.now) []) processor x3.now
+      → ent 𝓤 (⋆ 𝓛 (sep_all 𝓤 Lives ∷ ‵ (flft κ2 q2) ∷ ‵ (finally u32 x3.name y3) ∷ [])) (Post (vint w32 r))
   exits r y3 fits e3 said =
-      qed 𝓛 (sepAll 𝓤 Lives ∷ ‵ (flft κ2 q2) ∷ ‵ (finally u32 x3.name y3) ∷ []) ∵
+      qed 𝓛 (sep_all 𝓤 Lives ∷ ‵ (flft κ2 q2) ∷ ‵ (finally u32 x3.name y3) ∷ []) ∵
       suffices ! _ (ends_at 𝓛 collect.ended stayed (collect.clauses 𝓛 mem run) entry (vint w32 r) r (tt, (tt, (tt, (tt, (tt, (y3, tt))))))
       (tt, (tt, (tt, (tt, (tt, (e3, tt))))))) $ says ! said $
       splits ! Lives $ move ! (0 ∷ 3 ∷ 1 ∷ 2 ∷ []) $ joins ! Toks $ frame ! $ nothing ! $ nothing ! $ nothing ! $ nothing ! $ nothing ! $
@@ -157,23 +157,23 @@ module _ {M : Type 1} {𝓤 : Ura M} (𝓛 : Logic 𝓤) (mem : Memory → SProp
         (rooms 𝓤 ((word, l0) ∷ []) more))
 
     worded : Triple 𝓤 (C #words) (Words 𝓛 mem run)
-        → (f : Flat) → Is F f (low f ∷ []) → Flattens f (flatWords x2.now)
-        → Sq 𝓛 (At (‵ (fat full_share S'.mir l7 0 (low f))) (Toks ++ slices 𝓤 in-words κw (given-words f)))
+        → (f : Flat) → Is F f (low f ∷ []) → Flattens f (flat_words x2.now)
+        → Sq 𝓛 (At (‵ (fat full_share S'.mir l7 0 (low f))) (Toks ++ slices 𝓤 in_words_lem κw (given-words f)))
         (runs C Λ En mir'.t-2 (at_ret En Post))
     worded known₁ f is_f e-f =
-        lends-on ! 6 2 0 refl refl refl refl refl (sub ! 0 refl (whole !)) (sub ! 1 refl (whole !)) (tt, tt) (tt, (tt, (record { fits = g3.0 }, tt))) $
+        lends_on ! 6 2 0 refl refl refl refl refl (sub ! 0 refl (whole !)) (sub ! 1 refl (whole !)) (tt, tt) (tt, (tt, (record { fits = g3.0 }, tt))) $
         owned ! u32 (Is u32) (uint_Makes 𝓛 w32) route _ (refl, route-fits) $
         owned ! F (Is F) (LL.makes S.the_type S'.the_plain 𝓛) f _ is_f $
         owned ! u32 (Is u32) (uint_Makes 𝓛 w32) processor _ (refl, processor-fits) $
         move ! (29 ∷ 0 ∷ 1 ∷ 28 ∷ 2 ∷ 27 ∷ []) $
-        fjoins ! (owning in-words κw (given-words f)) $ move ! (24 ∷ 22 ∷ 21 ∷ []) $ joins ! Lives $
+        fjoins ! (owning in_words_lem κw (given-words f)) $ move ! (24 ∷ 22 ∷ 21 ∷ []) $ joins ! Lives $
         use2 𝓛 (raw ((Words 𝓛 mem run).pre (to-words f))) (goes-words f e-f.room) $
         calls_at ! fm (Words 𝓛 mem run) known₁ (to-words f)
         (and_then ! (local ! 17 refl)
         (and_then ! (local ! 15 refl)
         (and_then ! (local ! 13 refl) (and_then ! (local ! 5 refl) (and_then ! (local ! 9 refl) (and_then ! (local ! 1 refl) (no_more !))))))) (λ w.
-        comes_back in-words κw (given-words f) ! u32 Lives w _ (ensured 𝓛 words.ended (words.clauses 𝓛 mem run) κw (given-words f) tt)
-        (λ r us. (l : List ℕ) → Flattens f l → answer r us.1.1.1.1.1.0 ≡ partCollectCall x0.now route (state_of x1.now [] l []) processor x3.now)
+        comes_back in_words_lem κw (given-words f) ! u32 Lives w _ (ensured 𝓛 words.ended (words.clauses 𝓛 mem run) κw (given-words f) tt)
+        (λ r us. (l : List ℕ) → Flattens f l → answer r us.1.1.1.1.1.0 ≡ part_collect_call x0.now route (state_of x1.now [] l []) processor x3.now)
         (id⊢ 𝓤 _) (λ r. id⊢ 𝓤 _) (λ r us said.
         move ! (0 ∷ []) $ split ! $ move ! (1 ∷ []) $ feq_l ! (λ e3.
         move ! (6 ∷ []) $ split ! $ move ! (1 ∷ []) $
@@ -184,7 +184,7 @@ module _ {M : Type 1} {𝓤 : Ura M} (𝓛 : Logic 𝓤) (mem : Memory → SProp
         forgets ! 8 (((_, _), _) ∷ ((_, _), _) ∷ ((_, _), _) ∷ ((_, _), _) ∷ ((_, _), _) ∷ ((_, _), _) ∷ ((_, _), _) ∷ ((_, _), _) ∷ ((_, _), _)
         ∷ ((_, _), _) ∷ []) refl $
         sorts ! 8 20 (keep ! (1 ∷ 8 ∷ 2 ∷ [])) $ turned ! 10 $
-        free_all ! _ $ by ! (exits r us.1.1.1.1.1.0 is'.1 e3 (said (flatWords x2.now) e-f))))))
+        free_all ! _ $ by ! (exits r us.1.1.1.1.1.0 is'.1 e3 (said (flat_words x2.now) e-f))))))
 
     begun : Triple 𝓤 (C #records·flatten) (Flatten 𝓛 mem run) → Triple 𝓤 (C #words) (Words 𝓛 mem run)
         → Sq 𝓛 (At (‵ (froom S'.mir l7 0)) (Toks ++ slices 𝓤 params κs given))
@@ -201,10 +201,10 @@ module _ {M : Type 1} {𝓤 : Ura M} (𝓛 : Logic 𝓤) (mem : Memory → SProp
       → Triple 𝓤 (C #words) (Words 𝓛 mem run)
       → ent 𝓤 (on_entry 𝓛 collect.signature κs qs given (values params κs given)) (WpFn 𝓤 H C Λ code.function (row params κs given) Post)
   walk C Λ fm known₀ known₁ =
-      qed 𝓛 (sepAll 𝓤 Toks ∷ ‵ (fsepAll (owning params κs given)) ∷ []) ∵
+      qed 𝓛 (sep_all 𝓤 Toks ∷ ‵ (fsep_all (owning params κs given)) ∷ []) ∵
       enter ! C Λ code.function (row params κs given) _ $
       allots ! _ (λ l0 l1 l2 l3 l4 l5 l6 l7 l8 l9.
-      takes-in params κs given (l1 ∷ l2 ∷ l3 ∷ l4 ∷ l5 ∷ l6 ∷ []) !
+      takes_in params κs given (l1 ∷ l2 ∷ l3 ∷ l4 ∷ l5 ∷ l6 ∷ []) !
       (g0.0, (route-fits, (g1.0, (g2.0, (processor-fits, (g3.0, tt)))))) _ _ $
       fronts ! 14 6 $ turned ! 3 $ move ! (21 ∷ []) $ fsplits ! (owning params κs given) $ move ! (26 ∷ []) $ splits ! Toks $
       sorts ! 10 20 (keep ! (3 ∷ 2 ∷ 1 ∷ 0 ∷ 9 ∷ 7 ∷ 6 ∷ 4 ∷ [])) $

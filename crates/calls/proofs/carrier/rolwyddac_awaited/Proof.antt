@@ -40,10 +40,10 @@ use denote.Exit.{yes}
 use Rattle.machine.specs.Machine.{state_of}
 use Rattle.engine.specs.Calls.{answer}
 use Rattle.transport.specs.declared.Waiting.{Waiting}
-use Rattle.transport.specs.Calls.{waitsOf, awaitedCall}
+use Rattle.transport.specs.Calls.{waits_of, awaited_call}
 use Rattle.transport.specs.contracts.Waiting as U
 use Rattle.transport.proofs.Waiting.TheLaws as U'
-use Rattle.records.specs.Records.{flatWords, Flattens}
+use Rattle.records.specs.Records.{flat_words, Flattens}
 use Rattle.records.specs.declared.Progress.{Progress}
 use Rattle.records.specs.declared.Flat.{Flat}
 use Rattle.records.proofs.Locals.{rooms, holds, free_all}
@@ -57,7 +57,7 @@ use Rattle.transport.proofs.core.awaited.Symbol as words-def
 use Rattle.transport.proofs.core.awaited.Symbol.{name as #transport·core·awaited}
 use Rattle.transport.proofs.core.awaited.Met as words-thm
 use Rattle.calls.proofs.Walking.{R, F, low, word, bytes, words32, records, slice}
-use Rattle.calls.proofs.Walking.{sepAll, fsepAll, splits, joins, fsplits, fjoins, Flatten, flattens}
+use Rattle.calls.proofs.Walking.{sep_all, fsep_all, splits, joins, fsplits, fjoins, Flatten, flattens}
 use Rattle.calls.proofs.Orders.{forgets, sorts, turned}
 use Rattle.calls.specs.contracts.carrier.rolwyddac_awaited.Key.{name as #calls·asking}
 use Rattle.calls.specs.contracts.carrier.rolwyddac_awaited as asking
@@ -163,19 +163,19 @@ module _ {M : Type 1} {𝓤 : Ura M} (𝓛 : Logic 𝓤) (mem : Memory → SProp
     tt,
   )
 
-  goes-words : (f : Flat) → length f.words ≡ 192 → ent 𝓤 (⋆ 𝓛 (sepAll 𝓤 Lives ∷ ‵ (fsepAll (Args f)) ∷ [])) ((Words 𝓛 mem run).pre (to-words f))
-  goes-words f w = qed 𝓛 (sepAll 𝓤 Lives ∷ ‵ (fsepAll (Args f)) ∷ []) ∵ says ! w $ done !
+  goes-words : (f : Flat) → length f.words ≡ 192 → ent 𝓤 (⋆ 𝓛 (sep_all 𝓤 Lives ∷ ‵ (fsep_all (Args f)) ∷ [])) ((Words 𝓛 mem run).pre (to-words f))
+  goes-words f w = qed 𝓛 (sep_all 𝓤 Lives ∷ ‵ (fsep_all (Args f)) ∷ []) ∵ says ! w $ done !
 
   -- what the call over words says, for these words of records
   abbrev Said : Waiting → List ℕ → List ℕ → Type 0
-  Said r y3 l = answer r.number (waitsOf y3 r.tile) ≡ awaitedCall x0.now route (state_of [] [] l x2.now) processor x3.now
+  Said r y3 l = answer r.number (waits_of y3 r.tile) ≡ awaited_call x0.now route (state_of [] [] l x2.now) processor x3.now
 
   exits : (r : Waiting) (y3 : List ℕ) → Is E r (high r ∷ [])
       → length y3 ≡ length x3.now
-      → Said r y3 (flatWords x1.now)
-      → ent 𝓤 (⋆ 𝓛 (sepAll 𝓤 Lives ∷ ‵ (flft κ1 q1) ∷ ‵ (finally u8 x3.name y3) ∷ [])) (Post (high r))
+      → Said r y3 (flat_words x1.now)
+      → ent 𝓤 (⋆ 𝓛 (sep_all 𝓤 Lives ∷ ‵ (flft κ1 q1) ∷ ‵ (finally u8 x3.name y3) ∷ [])) (Post (high r))
   exits r y3 is e3 said =
-      qed 𝓛 (sepAll 𝓤 Lives ∷ ‵ (flft κ1 q1) ∷ ‵ (finally u8 x3.name y3) ∷ []) ∵
+      qed 𝓛 (sep_all 𝓤 Lives ∷ ‵ (flft κ1 q1) ∷ ‵ (finally u8 x3.name y3) ∷ []) ∵
       suffices ! _ (ends_at 𝓛 asking.ended stayed (asking.clauses 𝓛 mem run)
       (((κ0, (κ1, (κ2, (κ3, tt)))), (q0, (q1, (q2, (q3, tt)))), bounds, (x0, (route, (x1, (x2, (processor, (x3, tt)))))), at), tt)
       (high r) r (tt, (tt, (tt, (tt, (tt, (y3, tt))))))
@@ -223,7 +223,7 @@ module _ {M : Type 1} {𝓤 : Ura M} (𝓛 : Logic 𝓤) (mem : Memory → SProp
         ∷ (‵ (finally u8 x3.ghost_name us.1.1.1.1.1.0) ⊛ ‵ (feq ℕ (length us.1.1.1.1.1.0) (length x3.now))) ∷ []
 
     worded : Triple 𝓤 (C #transport·core·awaited) (Words 𝓛 mem run)
-        → (f : Flat) → Is F f (low f ∷ []) → Flattens f (flatWords x1.now)
+        → (f : Flat) → Is F f (low f ∷ []) → Flattens f (flat_words x1.now)
         → Sq 𝓛 (At (‵ (fat full_share S'.mir l7 0 (low f))) (‵ (flft κ0 q0) ∷ ‵ (flft κ1 q1) ∷ ‵ (flft κ2 q2) ∷ ‵ (flft κ3 q3) ∷ ‵
         ((ShrSlice (named 0) κ0 u8).own_val x0 (slice x0 ∷ [])) ∷ ‵ ((ShrSlice (named 2) κ2 u8).own_val x2 (slice x2 ∷ [])) ∷ ‵
         ((MutSlice (named 3) κ3 u8).own_val x3 (slice x3 ∷ [])) ∷ []))
@@ -243,10 +243,10 @@ module _ {M : Type 1} {𝓤 : Ura M} (𝓛 : Logic 𝓤) (mem : Memory → SProp
         (and_then ! (load ! (from ! (stop !)) (look ! 15 refl)) (and_then ! (load ! (from ! (stop !)) (look ! 5 refl))
         (and_then ! (load ! (from ! (stop !)) (look ! 11 refl)) (and_then ! (load ! (from ! (stop !)) (look ! 9 refl))
         (and_then ! (load ! (from ! (stop !)) (look ! 1 refl)) (no_more !))))))) (λ w.
-        use1 𝓛 (later (some (λ (r : Waiting). (sepAll 𝓤 Lives ⊛ ‵ (E.own r (w ∷ []))) ⊛ raw
+        use1 𝓛 (later (some (λ (r : Waiting). (sep_all 𝓤 Lives ⊛ ‵ (E.own r (w ∷ []))) ⊛ raw
         (ensured 𝓛 words.ended (words.clauses 𝓛 mem run) κw (xw f) tt r)))) (id⊢ 𝓤 _) $
         await ! tt $ pick ! (λ r. split ! $ move ! (1 ∷ []) $
-        use1 𝓛 (some (λ (us : Unit {0} × (Unit {0} × (Unit {0} × (Unit {0} × (Unit {0} × (List ℕ × Unit {0})))))). sepAll 𝓤 (Lasts us) ⊛
+        use1 𝓛 (some (λ (us : Unit {0} × (Unit {0} × (Unit {0} × (Unit {0} × (Unit {0} × (List ℕ × Unit {0})))))). sep_all 𝓤 (Lasts us) ⊛
         raw (fact 𝓤 ((l : List ℕ) → Flattens f l → Said r us.1.1.1.1.1.0 l)))) (id⊢ 𝓤 _) $
         pick ! (λ us. split ! $ move ! (1 ∷ []) $
         heard ! ((l : List ℕ) → Flattens f l → Said r us.1.1.1.1.1.0 l) (λ said.
@@ -260,7 +260,7 @@ module _ {M : Type 1} {𝓤 : Ura M} (𝓛 : Logic 𝓤) (mem : Memory → SProp
         ∷ ((_, _), _) ∷ []) refl $
         sorts ! 8 20 (keep ! (1 ∷ 8 ∷ 2 ∷ [])) $ turned ! 10 $
         free_all ! _ $ by ! (exits r us.1.1.1.1.1.0 (subst (λ (vs : List Val). Is E r vs) (LL.tells U.the_type U'.the_laws r (w ∷ []) is') is') e3
-        (said (flatWords x1.now) e-f))))))))
+        (said (flat_words x1.now) e-f))))))))
 
     begun : Triple 𝓤 (C #records·flatten) (Flatten 𝓛 mem run) → Triple 𝓤 (C #transport·core·awaited) (Words 𝓛 mem run)
         → Sq 𝓛 (At (‵ (froom S'.mir l7 0)) (‵ (flft κ0 q0) ∷ ‵ (flft κ1 q1) ∷ ‵ (flft κ2 q2) ∷ ‵ (flft κ3 q3) ∷ ‵
@@ -281,7 +281,7 @@ module _ {M : Type 1} {𝓤 : Ura M} (𝓛 : Logic 𝓤) (mem : Memory → SProp
       (x0, (route, (x1, (x2, (processor, (x3, tt)))))) at)
       (WpFn 𝓤 H C Λ code.function (slice x0 ∷ vint w32 route ∷ slice x1 ∷ slice x2 ∷ vint w32 processor ∷ slice x3 ∷ []) Post)
   walk C Λ fm known₀ known₁ =
-      qed 𝓛 (sepAll 𝓤 Toks ∷ ‵ (fsepAll Own) ∷ []) ∵
+      qed 𝓛 (sep_all 𝓤 Toks ∷ ‵ (fsep_all Own) ∷ []) ∵
       enter ! C Λ code.function (slice x0 ∷ vint w32 route ∷ slice x1 ∷ slice x2 ∷ vint w32 processor ∷ slice x3 ∷ []) _ $
       alloc1 ! (λ l0. alloc1 ! (λ l1. alloc1 ! (λ l2. alloc1 ! (λ l3. alloc1 !
       (λ l4. alloc1 ! (λ l5. alloc1 ! (λ l6. alloc1 ! (λ l7. alloc1 ! (λ l8. alloc1 !

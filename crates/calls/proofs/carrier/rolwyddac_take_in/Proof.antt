@@ -38,8 +38,8 @@ use denote.Triple.Walked.{says, Stays, stay_dropped, gave_slice, walk_of, Goes-d
 use denote.Exit.{yes}
 use Rattle.machine.specs.Machine.{state_of}
 use Rattle.engine.specs.Calls.{answer}
-use Rattle.transport.specs.Calls.{takeInCall}
-use Rattle.records.specs.Records.{flatWords, Flattens}
+use Rattle.transport.specs.Calls.{take_in_call}
+use Rattle.records.specs.Records.{flat_words, Flattens}
 use Rattle.records.specs.declared.Progress.{Progress}
 use Rattle.records.specs.declared.Flat.{Flat}
 use Rattle.records.proofs.Locals.{rooms, holds, free_all}
@@ -53,7 +53,7 @@ use Rattle.transport.proofs.core.take_in.Symbol as words-def
 use Rattle.transport.proofs.core.take_in.Symbol.{name as #transport·core·taken}
 use Rattle.transport.proofs.core.take_in.Met as words-thm
 use Rattle.calls.proofs.Walking.{R, F, low, word, bytes, words32, records, slice}
-use Rattle.calls.proofs.Walking.{sepAll, fsepAll, splits, joins, fsplits, fjoins, Flatten, flattens}
+use Rattle.calls.proofs.Walking.{sep_all, fsep_all, splits, joins, fsplits, fjoins, Flatten, flattens}
 use Rattle.calls.proofs.Orders.{forgets, sorts, turned}
 use Rattle.calls.specs.contracts.carrier.rolwyddac_take_in.Key.{name as #calls·taking}
 use Rattle.calls.specs.contracts.carrier.rolwyddac_take_in as taking
@@ -102,7 +102,7 @@ module _ {M : Type 1} {𝓤 : Ura M} (𝓛 : Logic 𝓤) (mem : Memory → SProp
     (κ4 : Lft) (q4 : Share) (x4 : Bor (List Progress)) (g4 : Room R (length x4.now))
     (κ5 : Lft) (q5 : Share) (x5 : Bor (List ℕ)) (g5 : Room u8 (length x5.now))
     (processor : ℕ) (processor-fits : processor < 2 ^ 32)
-    (message : ℕ) (message-fits : message < 2 ^ 32)
+    (message : ℕ) (message_fits : message < 2 ^ 32)
     (κ6 : Lft) (q6 : Share) (x6 : Bor (List ℕ)) (g6 : Room u32 (length x6.now))
     (bounds : AllOutlive 7 (taking.signature).outlives (κ0, (κ1, (κ2, (κ3, (κ4, (κ5, (κ6, tt)))))))) where
   open 𝓛 use {H}
@@ -205,20 +205,20 @@ module _ {M : Type 1} {𝓤 : Ura M} (𝓛 : Logic 𝓤) (mem : Memory → SProp
     tt,
   )
 
-  goes-words : (f : Flat) → length f.words ≡ 192 → ent 𝓤 (⋆ 𝓛 (sepAll 𝓤 Lives ∷ ‵ (fsepAll (Args f)) ∷ [])) ((Words 𝓛 mem run).pre (to-words f))
-  goes-words f w = qed 𝓛 (sepAll 𝓤 Lives ∷ ‵ (fsepAll (Args f)) ∷ []) ∵ says ! w $ done !
+  goes-words : (f : Flat) → length f.words ≡ 192 → ent 𝓤 (⋆ 𝓛 (sep_all 𝓤 Lives ∷ ‵ (fsep_all (Args f)) ∷ [])) ((Words 𝓛 mem run).pre (to-words f))
+  goes-words f w = qed 𝓛 (sep_all 𝓤 Lives ∷ ‵ (fsep_all (Args f)) ∷ []) ∵ says ! w $ done !
 
   -- what the call over words says, for these words of records
   abbrev Said : ℕ → List ℕ → List ℕ → List ℕ → Type 0
-  Said r y3 y5 l = answer r (state_of x2.now y3 l y5) ≡ takeInCall x0.now route x1.now (state_of x2.now x3.now l x5.now) processor message x6.now
+  Said r y3 y5 l = answer r (state_of x2.now y3 l y5) ≡ take_in_call x0.now route x1.now (state_of x2.now x3.now l x5.now) processor message x6.now
 
   exits : (r : ℕ) (y3 : List ℕ) (y5 : List ℕ) → r < 2 ^ 32
       → length y3 ≡ length x3.now
       → length y5 ≡ length x5.now
-      → Said r y3 y5 (flatWords x4.now)
-      → ent 𝓤 (⋆ 𝓛 (sepAll 𝓤 Lives ∷ ‵ (flft κ4 q4) ∷ ‵ (finally u32 x3.name y3) ∷ ‵ (finally u8 x5.name y5) ∷ [])) (Post (vint w32 r))
+      → Said r y3 y5 (flat_words x4.now)
+      → ent 𝓤 (⋆ 𝓛 (sep_all 𝓤 Lives ∷ ‵ (flft κ4 q4) ∷ ‵ (finally u32 x3.name y3) ∷ ‵ (finally u8 x5.name y5) ∷ [])) (Post (vint w32 r))
   exits r y3 y5 fits e3 e5 said =
-      qed 𝓛 (sepAll 𝓤 Lives ∷ ‵ (flft κ4 q4) ∷ ‵ (finally u32 x3.name y3) ∷ ‵ (finally u8 x5.name y5) ∷ []) ∵
+      qed 𝓛 (sep_all 𝓤 Lives ∷ ‵ (flft κ4 q4) ∷ ‵ (finally u32 x3.name y3) ∷ ‵ (finally u8 x5.name y5) ∷ []) ∵
       suffices ! _ (ends_at 𝓛 taking.ended stayed (taking.clauses 𝓛 mem run) (
         (
           (κ0, (κ1, (κ2, (κ3, (κ4, (κ5, (κ6, tt))))))),
@@ -290,7 +290,7 @@ module _ {M : Type 1} {𝓤 : Ura M} (𝓛 : Logic 𝓤) (mem : Memory → SProp
         ∷ ‵ ftrue ∷ []
 
     worded : Triple 𝓤 (C #transport·core·taken) (Words 𝓛 mem run)
-        → (f : Flat) → Is F f (low f ∷ []) → Flattens f (flatWords x4.now)
+        → (f : Flat) → Is F f (low f ∷ []) → Flattens f (flat_words x4.now)
         → Sq 𝓛 (At (‵ (fat full_share S'.mir l11 0 (low f))) (‵ (flft κ0 q0) ∷ ‵ (flft κ1 q1) ∷ ‵ (flft κ2 q2) ∷ ‵ (flft κ3 q3) ∷ ‵ (flft κ4 q4) ∷ ‵
         (flft κ5 q5) ∷ ‵ (flft κ6 q6) ∷ ‵ ((ShrSlice (named 0) κ0 u8).own_val x0 (slice x0 ∷ [])) ∷ ‵ ((ShrSlice (named 1) κ1 u32).own_val x1 (slice x1 ∷ [])) ∷
         ‵ ((ShrSlice (named 2) κ2 u32).own_val x2 (slice x2 ∷ [])) ∷ ‵ ((MutSlice (named 3) κ3 u32).own_val x3 (slice x3 ∷ [])) ∷ ‵
@@ -308,7 +308,7 @@ module _ {M : Type 1} {𝓤 : Ura M} (𝓛 : Logic 𝓤) (mem : Memory → SProp
         owned ! u32 (Is u32) (uint_Makes 𝓛 w32) route _ (refl, route-fits) $
         owned ! F (Is F) (LL.makes S.the_type S'.the_plain 𝓛) f _ is_f $
         owned ! u32 (Is u32) (uint_Makes 𝓛 w32) processor _ (refl, processor-fits) $
-        owned ! u32 (Is u32) (uint_Makes 𝓛 w32) message _ (refl, message-fits) $
+        owned ! u32 (Is u32) (uint_Makes 𝓛 w32) message _ (refl, message_fits) $
         move ! (48 ∷ 0 ∷ 1 ∷ 47 ∷ 2 ∷ 46 ∷ 45 ∷ 44 ∷ 3 ∷ 43 ∷ []) $
         fjoins ! (Args f) $ move ! (39 ∷ 38 ∷ 36 ∷ 35 ∷ 34 ∷ 33 ∷ []) $ joins ! Lives $
         use2 𝓛 (raw ((Words 𝓛 mem run).pre (to-words f))) (goes-words f e-f.room) $
@@ -318,11 +318,11 @@ module _ {M : Type 1} {𝓤 : Ura M} (𝓛 : Logic 𝓤) (mem : Memory → SProp
         (and_then ! (load ! (from ! (stop !)) (look ! 9 refl)) (and_then ! (load ! (from ! (stop !)) (look ! 1 refl))
         (and_then ! (load ! (from ! (stop !)) (look ! 15 refl)) (and_then ! (load ! (from ! (stop !)) (look ! 13 refl))
         (and_then ! (load ! (from ! (stop !)) (look ! 11 refl)) (no_more !))))))))))) (λ w.
-        use1 𝓛 (later (some (λ (r : ℕ). (sepAll 𝓤 Lives ⊛ ‵ (u32.own_val r (w ∷ []))) ⊛ raw
+        use1 𝓛 (later (some (λ (r : ℕ). (sep_all 𝓤 Lives ⊛ ‵ (u32.own_val r (w ∷ []))) ⊛ raw
         (ensured 𝓛 words.ended (words.clauses 𝓛 mem run) κw (xw f) tt r)))) (id⊢ 𝓤 _) $
         await ! tt $ pick ! (λ r. split ! $ move ! (1 ∷ []) $
         use1 𝓛 (some (λ (us : Unit {0} × (Unit {0} × (Unit {0} × (Unit {0} ×
-        (List ℕ × (Unit {0} × (List ℕ × (Unit {0} × (Unit {0} × (Unit {0} × Unit {0})))))))))). sepAll 𝓤 (Lasts us) ⊛ raw
+        (List ℕ × (Unit {0} × (List ℕ × (Unit {0} × (Unit {0} × (Unit {0} × Unit {0})))))))))). sep_all 𝓤 (Lasts us) ⊛ raw
         (fact 𝓤 ((l : List ℕ) → Flattens f l → Said r us.1.1.1.1.0 us.1.1.1.1.1.1.0 l)))) (id⊢ 𝓤 _) $
         pick ! (λ us. split ! $ move ! (1 ∷ []) $
         heard ! ((l : List ℕ) → Flattens f l → Said r us.1.1.1.1.0 us.1.1.1.1.1.1.0 l) (λ said.
@@ -335,7 +335,7 @@ module _ {M : Type 1} {𝓤 : Ura M} (𝓛 : Logic 𝓤) (mem : Memory → SProp
         forgets ! 12 (((_, _), _) ∷ ((_, _), _) ∷ ((_, _), _) ∷ ((_, _), _) ∷ ((_, _), _) ∷ ((_, _), _) ∷ ((_, _), _) ∷ ((_, _), _) ∷ ((_, _), _)
         ∷ ((_, _), _) ∷ ((_, _), _) ∷ ((_, _), _) ∷ ((_, _), _) ∷ ((_, _), _) ∷ ((_, _), _) ∷ ((_, _), _) ∷ []) refl $
         sorts ! 12 32 (keep ! (1 ∷ 12 ∷ 3 ∷ 2 ∷ [])) $ turned ! 16 $
-        free_all ! _ $ by ! (exits r us.1.1.1.1.0 us.1.1.1.1.1.1.0 is'.1 e3 e5 (said (flatWords x4.now) e-f)))))))))
+        free_all ! _ $ by ! (exits r us.1.1.1.1.0 us.1.1.1.1.1.1.0 is'.1 e3 e5 (said (flat_words x4.now) e-f)))))))))
 
     begun : Triple 𝓤 (C #records·flatten) (Flatten 𝓛 mem run) → Triple 𝓤 (C #transport·core·taken) (Words 𝓛 mem run)
         → Sq 𝓛 (At (‵ (froom S'.mir l11 0)) (‵ (flft κ0 q0) ∷ ‵ (flft κ1 q1) ∷ ‵ (flft κ2 q2) ∷ ‵ (flft κ3 q3) ∷ ‵ (flft κ4 q4) ∷ ‵ (flft κ5 q5) ∷ ‵
@@ -359,7 +359,7 @@ module _ {M : Type 1} {𝓤 : Ura M} (𝓛 : Logic 𝓤) (mem : Memory → SProp
       (WpFn 𝓤 H C Λ code.function (slice x0 ∷ vint w32 route ∷ slice x1 ∷ slice x2 ∷ slice x3 ∷ slice x4 ∷ slice x5 ∷ vint w32 processor ∷ vint w32
       message ∷ slice x6 ∷ []) Post)
   walk C Λ fm known₀ known₁ =
-      qed 𝓛 (sepAll 𝓤 Toks ∷ ‵ (fsepAll Own) ∷ []) ∵
+      qed 𝓛 (sep_all 𝓤 Toks ∷ ‵ (fsep_all Own) ∷ []) ∵
       enter ! C Λ code.function (slice x0 ∷ vint w32 route ∷ slice x1 ∷ slice x2 ∷ slice x3 ∷ slice x4 ∷ slice x5 ∷ vint w32 processor ∷ vint w32
       message ∷ slice x6 ∷ []) _ $
       alloc1 ! (λ l0. alloc1 ! (λ l1. alloc1 ! (λ l2. alloc1 ! (λ l3. alloc1 !
@@ -373,7 +373,7 @@ module _ {M : Type 1} {𝓤 : Ura M} (𝓛 : Logic 𝓤) (mem : Memory → SProp
       pass1 ! (init ! 18 refl (tt, (tt, (record { fits = g4.0 }, tt)))) $
       pass1 ! (init ! 16 refl (tt, (tt, (record { fits = g5.0 }, tt)))) $
       pass1 ! (init ! 14 refl (tt, record { fits = processor-fits })) $
-      pass1 ! (init ! 12 refl (tt, record { fits = message-fits })) $
+      pass1 ! (init ! 12 refl (tt, record { fits = message_fits })) $
       pass1 ! (init ! 10 refl (tt, (tt, (record { fits = g6.0 }, tt)))) $
       pass0 ! $ move ! (33 ∷ []) $ fsplits ! Own $ move ! (42 ∷ []) $ splits ! Toks $
       sorts ! 17 32 (keep ! (6 ∷ 5 ∷ 4 ∷ 3 ∷ 2 ∷ 1 ∷ 0 ∷ 16 ∷ 14 ∷ 13 ∷ 12 ∷ 11 ∷ 10 ∷ 7 ∷ [])) $

@@ -13,7 +13,7 @@ same_length c = search rules
 returns : tie.Need-returns
 returns c =
     let start = c.before.before.before.before.before.before.before in
-    L.write-back start.args.encoded.now start.args.grid.now start.args.x start.args.y start.args.cell-size start.ranges.x
+    L.write_back start.args.encoded.now start.args.grid.now start.args.x start.args.y start.args.cell-size start.ranges.x
     start.ranges.y start.args.space.now c.before.before.write.result _ c.before.before.write.ensures
 
 pub rolwyddac-chart-spec : {M : Type 1} → statement M

@@ -11,7 +11,7 @@ returns : tie.Need-returns
 returns c =
     let start = c.before.before.before in
     L.length_back start.args.encoded.now start.args.grid.now start.args.x start.args.y start.args.cell-size start.ranges.x
-    start.ranges.y c.length-of.result c.length-of.ensures
+    start.ranges.y c.length_of.result c.length_of.ensures
 
 pub rolwyddac-chart-length-spec : {M : Type 1} → statement M
 rolwyddac-chart-length-spec = tie.close (tie.spec length-of-requires returns)

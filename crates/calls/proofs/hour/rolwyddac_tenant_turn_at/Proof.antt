@@ -37,8 +37,8 @@ use denote.Triple.Table.{entered, cited}
 use denote.Triple.Walked.{says, Stays, walk_of, ends_at, walked, walk_Meets}
 use Rattle.machine.specs.Machine.{state_of}
 use Rattle.engine.specs.Calls.{answer}
-use Rattle.tenants.specs.Tenants.{tenantAreas}
-use Rattle.records.specs.Records.{flatWords, Flattens}
+use Rattle.tenants.specs.Tenants.{tenant_areas}
+use Rattle.records.specs.Records.{flat_words, Flattens}
 use Rattle.records.specs.declared.Progress.{Progress}
 use Rattle.records.specs.declared.Flat.{Flat}
 use Rattle.records.proofs.Locals.{rooms, holds, free_all}
@@ -50,25 +50,25 @@ use Rattle.records.proofs.flatten.Met as flatten-thm
 use Rattle.records.proofs.put.Symbol as put-def
 use Rattle.records.proofs.put.Symbol.{name as #records·put}
 use Rattle.records.proofs.put.Met as put-thm
-use Rattle.engine.specs.Given.{recordsAfter}
+use Rattle.engine.specs.Given.{records_after}
 use Rattle.engine.specs.declared.core.Turned.{Turned}
 use Rattle.engine.specs.contracts.core.Turned as U
 use Rattle.engine.proofs.core.Turned.TheLaws as U'
-use Rattle.engine.proofs.Reading.{stored-after}
+use Rattle.engine.proofs.Reading.{stored_after}
 use Rattle.calendar_calls.specs.contracts.core.turn_for as words
 use Rattle.calendar_calls.proofs.core.turn_for.Symbol as words-def
 use Rattle.calendar_calls.proofs.core.turn_for.Symbol.{name as #calendar_calls·core·turn_for}
 use Rattle.calendar_calls.proofs.core.turn_for.Met as words-thm
-use Rattle.calendar.specs.Windows.{momentOf}
-use Rattle.calendar_calls.specs.Calls.{turnCallAtFor}
-use Rattle.calls.proofs.Opens.{record-there-at-for}
-use Rattle.calls.proofs.Walking.{R, F, E, low, high, progress-is, number_fits, word, ref, bytes, words32, records, slice}
+use Rattle.calendar.specs.Windows.{moment_of}
+use Rattle.calendar_calls.specs.Calls.{turn_call_at_for}
+use Rattle.calls.proofs.Opens.{record_there_at_for}
+use Rattle.calls.proofs.Walking.{R, F, E, low, high, progress_is, number_fits, word, ref, bytes, words32, records, slice}
 use Rattle.calls.proofs.Params.{Param, number32, flat, reads, changes, Lent, stays, go, spells, tell, values, row, tokens, owning, slices}
-use Rattle.calls.proofs.Params.{had, env, held, takes-in, comes_back}
-use Rattle.calls.proofs.Lending.{lends-on}
+use Rattle.calls.proofs.Params.{had, env, held, takes_in, comes_back}
+use Rattle.calls.proofs.Lending.{lends_on}
 use Rattle.calls.proofs.Orders.{forgets, sorts, fronts, turned}
 use Rattle.calls.proofs.Entering.{allots}
-use Rattle.calls.proofs.Walking.{local, sepAll, fsepAll, splits, joins, fsplits, fjoins, Flatten, Put, flattens, flattens-lent, puts-at}
+use Rattle.calls.proofs.Walking.{local, sep_all, fsep_all, splits, joins, fsplits, fjoins, Flatten, Put, flattens, flattens_lent, puts_at}
 use Rattle.calls.specs.contracts.hour.rolwyddac_tenant_turn_at.Key.{name as #calls·turn}
 use Rattle.calls.specs.contracts.hour.rolwyddac_tenant_turn_at as turn
 use Rattle.calls.proofs.hour.rolwyddac_tenant_turn_at.Statement as stated
@@ -81,8 +81,8 @@ params =
     reads 0 tt u8 ∷ number32 ∷ reads 1 tt u32 ∷ changes 2 tt u32 ∷ changes 3 tt u32 ∷ changes 4 tt R ∷ changes 5 tt u8 ∷ changes 6 tt u32 ∷ reads 7 tt R
     ∷ reads 8 tt u32 ∷ number32 ∷ number32 ∷ number32 ∷ []
 
-abbrev in-words : List (Param 7)
-in-words =
+abbrev in_words_lem : List (Param 7)
+in_words_lem =
     reads 0 tt u8 ∷ number32 ∷ reads 1 tt u32 ∷ changes 2 tt u32 ∷ changes 3 tt u32 ∷ flat ∷ changes 4 tt u8 ∷ changes 5 tt u32 ∷ flat ∷ reads 6 tt u32
     ∷ number32 ∷ number32 ∷ number32 ∷ []
 
@@ -127,7 +127,7 @@ module _ {M : Type 1} {𝓤 : Ura M} (𝓛 : Logic 𝓤) (mem : Memory → SProp
   abbrev given : Lent κs params
   given = (x0, (route, (x1, (x2, (x3, (x4, (x5, (x6, (x7, (x8, (minute, (tenant, (processor, tt)))))))))))))
 
-  abbrev given-words : Flat → Flat → Lent κw in-words
+  abbrev given-words : Flat → Flat → Lent κw in_words_lem
   given-words f g = (x0, (route, (x1, (x2, (x3, (f, (x5, (x6, (g, (x8, (minute, (tenant, (processor, tt)))))))))))))
 
   abbrev entry : (walk_of 𝓛 turn.ended stayed (turn.clauses 𝓛 mem run)).Ghost
@@ -143,21 +143,21 @@ module _ {M : Type 1} {𝓤 : Ura M} (𝓛 : Logic 𝓤) (mem : Memory → SProp
   Lives = tokens 𝓤 7 κw qw
 
   abbrev to-words : Flat → Flat → (Words 𝓛 mem run).Ghost
-  to-words f g = ((κw, qw, tt, given-words f g, values in-words κw (given-words f g)), tt)
+  to-words f g = ((κw, qw, tt, given-words f g, values in_words_lem κw (given-words f g)), tt)
 
   goes-words : (f : Flat) (g : Flat) → (length f.words ≡ 192) × (length g.words ≡ 192)
-      → ent 𝓤 (⋆ 𝓛 (sepAll 𝓤 Lives ∷ ‵ (fsepAll (owning in-words κw (given-words f g))) ∷ [])) ((Words 𝓛 mem run).pre (to-words f g))
-  goes-words f g w = qed 𝓛 (sepAll 𝓤 Lives ∷ ‵ (fsepAll (owning in-words κw (given-words f g))) ∷ []) ∵ says ! w $ done !
+      → ent 𝓤 (⋆ 𝓛 (sep_all 𝓤 Lives ∷ ‵ (fsep_all (owning in_words_lem κw (given-words f g))) ∷ [])) ((Words 𝓛 mem run).pre (to-words f g))
+  goes-words f g w = qed 𝓛 (sep_all 𝓤 Lives ∷ ‵ (fsep_all (owning in_words_lem κw (given-words f g))) ∷ []) ∵ says ! w $ done !
 
   exits : (r : ℕ) (y2 : List ℕ) (y3 : List ℕ) (y4 : List Progress) (y5 : List ℕ) (y6 : List ℕ) → r < 2 ^ 32
       → length y2 ≡ length x2.now → length y3 ≡ length x3.now → length y4 ≡ length x4.now → length y5 ≡ length x5.now → length y6 ≡ length x6.now
-      → answer r (tenantAreas (state_of y2 y3 (flatWords y4) y5) y6)
-      ≡ turnCallAtFor x0.now route x1.now tenant (momentOf x8.now minute)
-      (tenantAreas (state_of x2.now x3.now (flatWords x4.now) x5.now) x6.now) (flatWords x7.now) processor
-      → ent 𝓤 (⋆ 𝓛 (sepAll 𝓤 Lives ∷ ‵ (flft κ4 q4) ∷ ‵ (flft κ7 q7) ∷ ‵ (finally u32 x2.name y2) ∷ ‵ (finally u32 x3.name y3) ∷ ‵
+      → answer r (tenant_areas (state_of y2 y3 (flat_words y4) y5) y6)
+      ≡ turn_call_at_for x0.now route x1.now tenant (moment_of x8.now minute)
+      (tenant_areas (state_of x2.now x3.now (flat_words x4.now) x5.now) x6.now) (flat_words x7.now) processor
+      → ent 𝓤 (⋆ 𝓛 (sep_all 𝓤 Lives ∷ ‵ (flft κ4 q4) ∷ ‵ (flft κ7 q7) ∷ ‵ (finally u32 x2.name y2) ∷ ‵ (finally u32 x3.name y3) ∷ ‵
       (finally R x4.name y4) ∷ ‵ (finally u8 x5.name y5) ∷ ‵ (finally u32 x6.name y6) ∷ [])) (Post (vint w32 r))
   exits r y2 y3 y4 y5 y6 fits e2 e3 e4 e5 e6 said =
-      qed 𝓛 (sepAll 𝓤 Lives ∷ ‵ (flft κ4 q4) ∷ ‵ (flft κ7 q7) ∷ ‵ (finally u32 x2.name y2) ∷ ‵ (finally u32 x3.name y3) ∷ ‵
+      qed 𝓛 (sep_all 𝓤 Lives ∷ ‵ (flft κ4 q4) ∷ ‵ (flft κ7 q7) ∷ ‵ (finally u32 x2.name y2) ∷ ‵ (finally u32 x3.name y3) ∷ ‵
       (finally R x4.name y4) ∷ ‵ (finally u8 x5.name y5) ∷ ‵ (finally u32 x6.name y6) ∷ []) ∵
       suffices ! _ (ends_at 𝓛 turn.ended stayed (turn.clauses 𝓛 mem run) entry (vint w32 r) r
       (tt, (tt, (tt, (y2, (y3, (y4, (y5, (y6, (tt, (tt, (tt, (tt, (tt, tt)))))))))))))
@@ -170,8 +170,8 @@ module _ {M : Type 1} {𝓤 : Ura M} (𝓛 : Logic 𝓤) (mem : Memory → SProp
   -- what the call over words says, for these words of records
   abbrev Said : Turned → List ℕ → List ℕ → List ℕ → List ℕ → List ℕ → List ℕ → Type 0
   Said r y2 y3 y5 y6 l m =
-      answer r.number (tenantAreas (state_of y2 y3 (recordsAfter l processor r) y5) y6)
-      ≡ turnCallAtFor x0.now route x1.now tenant (momentOf x8.now minute) (tenantAreas (state_of x2.now x3.now l x5.now) x6.now) m processor
+      answer r.number (tenant_areas (state_of y2 y3 (records_after l processor r) y5) y6)
+      ≡ turn_call_at_for x0.now route x1.now tenant (moment_of x8.now minute) (tenant_areas (state_of x2.now x3.now l x5.now) x6.now) m processor
 
   module _ (C : Calls 𝓤 H) (Λ : Loops 𝓤 H) (fm : FmC 𝓤 H 𝓛.laws C)
       (l0 l1 l2 l3 l4 l5 l6 l7 l8 l9 l10 l11 l12 l13 l14 l15 l16 l17 l18 l19 l20 l21 l22 l23 l24 l25 l26 l27 l28 l29 : ℕ) where
@@ -197,16 +197,16 @@ module _ {M : Type 1} {𝓤 : Ura M} (𝓛 : Logic 𝓤) (mem : Memory → SProp
     stored-part : Triple 𝓤 (C #records·put) (Put 𝓛 mem run)
         → (r : Turned) → Is E r (high r ∷ []) → (y2 y3 y5 y6 : List ℕ)
         → length y2 ≡ length x2.now → length y3 ≡ length x3.now → length y5 ≡ length x5.now → length y6 ≡ length x6.now
-        → Said r y2 y3 y5 y6 (flatWords x4.now) (flatWords x7.now)
+        → Said r y2 y3 y5 y6 (flat_words x4.now) (flat_words x7.now)
         → Sq 𝓛 (At (‵ (froom S'.mir l14 0)) (‵ (froom S'.mir l15 0)) (‵ (fat full_share U'.mir l16 0 (high r)))
-        (sepAll 𝓤 Lives ∷ ‵ (flft κ4 q4) ∷ ‵ (flft κ7 q7) ∷ ‵ ((MutSlice (named 4) κ4 R).own_val x4 (slice x4 ∷ [])) ∷ ‵ (finally u32 x2.name y2) ∷
+        (sep_all 𝓤 Lives ∷ ‵ (flft κ4 q4) ∷ ‵ (flft κ7 q7) ∷ ‵ ((MutSlice (named 4) κ4 R).own_val x4 (slice x4 ∷ [])) ∷ ‵ (finally u32 x2.name y2) ∷
         ‵ (finally u32 x3.name y3) ∷ ‵ (finally u8 x5.name y5) ∷ ‵ (finally u32 x6.name y6) ∷ []))
         (runs C Λ En mir'.t-14 (at_ret En Post))
     stored-part known₂ r is y2 y3 y5 y6 e2 e3 e5 e6 said =
-        lends-on ! 46 2 0 refl refl refl refl refl (sub ! 0 refl (whole !)) (sub ! 1 refl (whole !)) (tt, tt) (tt, (tt, (record { fits = g4.0 }, tt))) $
-        move ! (61 ∷ 63 ∷ []) $ puts-at mem run κ4 q4 x4 ! fm known₂ (named 4) r.number processor r.progress
-        (number_fits r is) processor-fits (progress-is r is)
-        (record-there-at-for x0.now route x1.now tenant x8.now minute x2.now x3.now x5.now x6.now x4.now x7.now processor
+        lends_on ! 46 2 0 refl refl refl refl refl (sub ! 0 refl (whole !)) (sub ! 1 refl (whole !)) (tt, tt) (tt, (tt, (record { fits = g4.0 }, tt))) $
+        move ! (61 ∷ 63 ∷ []) $ puts_at mem run κ4 q4 x4 ! fm known₂ (named 4) r.number processor r.progress
+        (number_fits r is) processor-fits (progress_is r is)
+        (record_there_at_for x0.now route x1.now tenant x8.now minute x2.now x3.now x5.now x6.now x4.now x7.now processor
         r.number _ said)
         (and_then ! (local ! 1 refl)
         (and_then ! (load ! (from ! (fld ! refl (stop !))) (look_in ! 27 (sub ! 0 refl (whole !))))
@@ -221,11 +221,11 @@ module _ {M : Type 1} {𝓤 : Ura M} (𝓛 : Logic 𝓤) (mem : Memory → SProp
         forget ! 28 refl $ forgets ! 2 (((_, _), _) ∷ ((_, _), _) ∷ ((_, _), _) ∷ []) refl $
         sorts ! 2 60 (keep ! (2 ∷ 0 ∷ 3 ∷ 4 ∷ 5 ∷ 1 ∷ 6 ∷ 7 ∷ [])) $ turned ! 30 $
         free_all ! _ $ by ! (exits r.number y2 y3 y4 y5 y6 (number_fits r is) e2 e3 e4 e5 e6
-        (ap (λ (l : List Progress). answer r.number (tenantAreas (state_of y2 y3 (flatWords l) y5) y6)) put ∙ ap
-        (λ (l : List ℕ). answer r.number (tenantAreas (state_of y2 y3 l y5) y6)) (stored-after x4.now processor r) ∙ said)))
+        (ap (λ (l : List Progress). answer r.number (tenant_areas (state_of y2 y3 (flat_words l) y5) y6)) put ∙ ap
+        (λ (l : List ℕ). answer r.number (tenant_areas (state_of y2 y3 l y5) y6)) (stored_after x4.now processor r) ∙ said)))
 
     worded : Triple 𝓤 (C #calendar_calls·core·turn_for) (Words 𝓛 mem run) → Triple 𝓤 (C #records·put) (Put 𝓛 mem run)
-        → (f : Flat) → Is F f (low f ∷ []) → Flattens f (flatWords x4.now) → (g : Flat) → Is F g (low g ∷ []) → Flattens g (flatWords x7.now)
+        → (f : Flat) → Is F f (low f ∷ []) → Flattens f (flat_words x4.now) → (g : Flat) → Is F g (low g ∷ []) → Flattens g (flat_words x7.now)
         → Sq 𝓛 (At (‵ (fat full_share S'.mir l14 0 (low f))) (‵ (fat full_share S'.mir l15 0 (low g))) (‵ (froom U'.mir l16 0))
         (‵ (flft κ0 q0) ∷ ‵ (flft κ1 q1) ∷ ‵ (flft κ2 q2) ∷ ‵ (flft κ3 q3) ∷ ‵ (flft κ4 q4) ∷ ‵ (flft κ5 q5) ∷ ‵ (flft κ6 q6) ∷ ‵ (flft κ7 q7) ∷ ‵
         (flft κ8 q8) ∷ ‵ ((ShrSlice (named 0) κ0 u8).own_val x0 (slice x0 ∷ [])) ∷ ‵ ((ShrSlice (named 1) κ1 u32).own_val x1 (slice x1 ∷ [])) ∷ ‵
@@ -234,17 +234,17 @@ module _ {M : Type 1} {𝓤 : Ura M} (𝓛 : Logic 𝓤) (mem : Memory → SProp
         ((MutSlice (named 6) κ6 u32).own_val x6 (slice x6 ∷ [])) ∷ ‵ ((ShrSlice (named 8) κ8 u32).own_val x8 (slice x8 ∷ [])) ∷ []))
         (runs C Λ En mir'.t-5 (at_ret En Post))
     worded known₁ known₂ f is_f e-f g is-g e-g =
-        lends-on ! 50 20 18 refl refl refl refl refl (sub ! 0 refl (whole !)) (sub ! 1 refl (whole !)) (tt, tt) (tt, (tt, (record { fits = g2.0 }, tt))) $
-        lends-on ! 48 16 14 refl refl refl refl refl (sub ! 0 refl (whole !)) (sub ! 1 refl (whole !)) (tt, tt) (tt, (tt, (record { fits = g3.0 }, tt))) $
-        lends-on ! 44 12 10 refl refl refl refl refl (sub ! 0 refl (whole !)) (sub ! 1 refl (whole !)) (tt, tt) (tt, (tt, (record { fits = g5.0 }, tt))) $
-        lends-on ! 42 8 6 refl refl refl refl refl (sub ! 0 refl (whole !)) (sub ! 1 refl (whole !)) (tt, tt) (tt, (tt, (record { fits = g6.0 }, tt))) $
+        lends_on ! 50 20 18 refl refl refl refl refl (sub ! 0 refl (whole !)) (sub ! 1 refl (whole !)) (tt, tt) (tt, (tt, (record { fits = g2.0 }, tt))) $
+        lends_on ! 48 16 14 refl refl refl refl refl (sub ! 0 refl (whole !)) (sub ! 1 refl (whole !)) (tt, tt) (tt, (tt, (record { fits = g3.0 }, tt))) $
+        lends_on ! 44 12 10 refl refl refl refl refl (sub ! 0 refl (whole !)) (sub ! 1 refl (whole !)) (tt, tt) (tt, (tt, (record { fits = g5.0 }, tt))) $
+        lends_on ! 42 8 6 refl refl refl refl refl (sub ! 0 refl (whole !)) (sub ! 1 refl (whole !)) (tt, tt) (tt, (tt, (record { fits = g6.0 }, tt))) $
         owned ! u32 (Is u32) (uint_Makes 𝓛 w32) route _ (refl, route-fits) $
         owned ! F (Is F) (LL.makes S.the_type S'.the_plain 𝓛) f _ is_f $
         owned ! F (Is F) (LL.makes S.the_type S'.the_plain 𝓛) g _ is-g $
         owned ! u32 (Is u32) (uint_Makes 𝓛 w32) minute _ (refl, minute-fits) $
         owned ! u32 (Is u32) (uint_Makes 𝓛 w32) tenant _ (refl, tenant-fits) $
         owned ! u32 (Is u32) (uint_Makes 𝓛 w32) processor _ (refl, processor-fits) $
-        move ! (0 ∷ 1 ∷ 2 ∷ 82 ∷ 3 ∷ 81 ∷ 80 ∷ 4 ∷ 78 ∷ 77 ∷ 76 ∷ 5 ∷ 75 ∷ []) $ fjoins ! (owning in-words κw (given-words f g)) $
+        move ! (0 ∷ 1 ∷ 2 ∷ 82 ∷ 3 ∷ 81 ∷ 80 ∷ 4 ∷ 78 ∷ 77 ∷ 76 ∷ 5 ∷ 75 ∷ []) $ fjoins ! (owning in_words_lem κw (given-words f g)) $
         move ! (69 ∷ 67 ∷ 66 ∷ 64 ∷ 63 ∷ 62 ∷ 61 ∷ []) $ joins ! Lives $
         use2 𝓛 (raw ((Words 𝓛 mem run).pre (to-words f g))) (goes-words f g (e-f.room, e-g.room)) $
         calls_at ! fm (Words 𝓛 mem run) known₁ (to-words f g)
@@ -260,7 +260,7 @@ module _ {M : Type 1} {𝓤 : Ura M} (𝓛 : Logic 𝓤) (mem : Memory → SProp
         (and_then ! (local ! 39 refl)
         (and_then ! (local ! 37 refl)
         (and_then ! (local ! 35 refl) (and_then ! (local ! 33 refl) (no_more !)))))))))))))) (λ w.
-        comes_back in-words κw (given-words f g) ! E Lives w _ (ensured 𝓛 words.ended (words.clauses 𝓛 mem run) κw (given-words f g) tt)
+        comes_back in_words_lem κw (given-words f g) ! E Lives w _ (ensured 𝓛 words.ended (words.clauses 𝓛 mem run) κw (given-words f g) tt)
         (λ r us. (l m : List ℕ) → Flattens f l → Flattens g m → Said r us.1.1.1.0 us.1.1.1.1.0 us.1.1.1.1.1.1.0 us.1.1.1.1.1.1.1.0 l m)
         (id⊢ 𝓤 _) (λ r. id⊢ 𝓤 _) (λ r us said.
         move ! (9 ∷ []) $ split ! $ move ! (1 ∷ []) $ feq_l ! (λ e2. move ! (9 ∷ []) $ split ! $ move ! (1 ∷ []) $
@@ -273,7 +273,7 @@ module _ {M : Type 1} {𝓤 : Ura M} (𝓛 : Logic 𝓤) (mem : Memory → SProp
         sorts ! 15 60 (keep ! (1 ∷ 15 ∷ 16 ∷ 17 ∷ 5 ∷ 4 ∷ 3 ∷ 2 ∷ [])) $
         stored-part known₂ r (subst (λ (us : List Val). Is E r us) (LL.tells U.the_type U'.the_laws r (w ∷ []) is') is')
         us.1.1.1.0 us.1.1.1.1.0 us.1.1.1.1.1.1.0 us.1.1.1.1.1.1.1.0 e2 e3 e5 e6
-        (said (flatWords x4.now) (flatWords x7.now) e-f e-g))))))))
+        (said (flat_words x4.now) (flat_words x7.now) e-f e-g))))))))
 
     begun : Triple 𝓤 (C #records·flatten) (Flatten 𝓛 mem run) → Triple 𝓤 (C #calendar_calls·core·turn_for) (Words 𝓛 mem run) → Triple 𝓤
         (C #records·put) (Put 𝓛 mem run)
@@ -281,9 +281,9 @@ module _ {M : Type 1} {𝓤 : Ura M} (𝓛 : Logic 𝓤) (mem : Memory → SProp
         (Toks ++ slices 𝓤 params κs given))
         (runs C Λ En mir'.t-1 (at_ret En Post))
     begun known₀ known₁ known₂ =
-        lends-on ! 46 24 22 refl refl refl refl refl (sub ! 0 refl (whole !)) (sub ! 1 refl (whole !)) (tt, tt) (tt, (tt, (record { fits = g4.0 }, tt))) $
+        lends_on ! 46 24 22 refl refl refl refl refl (sub ! 0 refl (whole !)) (sub ! 1 refl (whole !)) (tt, tt) (tt, (tt, (record { fits = g4.0 }, tt))) $
         move ! (73 ∷ 64 ∷ []) $
-        flattens-lent mem run κ4 q4 x4 ! fm known₀ (named 4) g4 (λ ν δ. (and_then ! (local ! 24 refl) (no_more !))) (λ f is_f e-f.
+        flattens_lent mem run κ4 q4 x4 ! fm known₀ (named 4) g4 (λ ν δ. (and_then ! (local ! 24 refl) (no_more !))) (λ f is_f e-f.
         land ! (from ! (stop !)) (init ! 32 refl ((LL.lawful S.the_type S'.the_laws 𝓛).typed f _ is_f).0) $ forget ! 26 refl $
         forget ! 24 refl $ move ! (68 ∷ 76 ∷ []) $
         flattens mem run κ7 q7 x7 ! fm known₀ (named 7) (and_then ! (local ! 43 refl) (no_more !)) (λ g is-g e-g.
@@ -297,10 +297,10 @@ module _ {M : Type 1} {𝓤 : Ura M} (𝓛 : Logic 𝓤) (mem : Memory → SProp
       → Triple 𝓤 (C #records·put) (Put 𝓛 mem run)
       → ent 𝓤 (on_entry 𝓛 turn.signature κs qs given (values params κs given)) (WpFn 𝓤 H C Λ code.function (row params κs given) Post)
   walk C Λ fm known₀ known₁ known₂ =
-      qed 𝓛 (sepAll 𝓤 Toks ∷ ‵ (fsepAll (owning params κs given)) ∷ []) ∵
+      qed 𝓛 (sep_all 𝓤 Toks ∷ ‵ (fsep_all (owning params κs given)) ∷ []) ∵
       enter ! C Λ code.function (row params κs given) _ $
       allots ! _ (λ l0 l1 l2 l3 l4 l5 l6 l7 l8 l9 l10 l11 l12 l13 l14 l15 l16 l17 l18 l19 l20 l21 l22 l23 l24 l25 l26 l27 l28 l29.
-      takes-in params κs given (l1 ∷ l2 ∷ l3 ∷ l4 ∷ l5 ∷ l6 ∷ l7 ∷ l8 ∷ l9 ∷ l10 ∷ l11 ∷ l12 ∷ l13 ∷ []) !
+      takes_in params κs given (l1 ∷ l2 ∷ l3 ∷ l4 ∷ l5 ∷ l6 ∷ l7 ∷ l8 ∷ l9 ∷ l10 ∷ l11 ∷ l12 ∷ l13 ∷ []) !
       (g0.0, (route-fits, (g1.0, (g2.0, (g3.0, (g4.0, (g5.0, (g6.0, (g7.0, (g8.0, (minute-fits, (tenant-fits, (processor-fits, tt))))))))))))) _ _ $
       fronts ! 28 32 $ turned ! 16 $ move ! (61 ∷ []) $ fsplits ! (owning params κs given) $ move ! (73 ∷ []) $ splits ! Toks $
       sorts ! 22 60 (keep ! (8 ∷ 7 ∷ 6 ∷ 5 ∷ 4 ∷ 3 ∷ 2 ∷ 1 ∷ 0 ∷ 21 ∷ 19 ∷ 18 ∷ 17 ∷ 16 ∷ 15 ∷ 14 ∷ 13 ∷ 12 ∷ [])) $

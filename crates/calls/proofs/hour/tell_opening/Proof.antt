@@ -22,7 +22,7 @@ returns c =
     L.told_in known.0.0 c.before.before.before.before.args.opening known.1 _ c.tell.ensures
 
 returns-2 : tie.Need-returns-2
-returns-2 c = L.told-never c.before.before.before.args.opening c.before.enum_told.given.1 _ c.tell2.ensures
+returns-2 c = L.told_never c.before.before.before.args.opening c.before.enum_told.given.1 _ c.tell2.ensures
 
 pub tell-opening-spec : {M : Type 1} → statement M
 tell-opening-spec =

@@ -39,7 +39,7 @@ use denote.Triple.Walked.{says, Stays, stay_dropped, gave_slice, walk_of, Goes-d
 use denote.Exit.{yes}
 use Rattle.machine.specs.Machine.{state_of}
 use Rattle.engine.specs.Calls.{answer}
-use Rattle.records.specs.Records.{flatWords, Flattens}
+use Rattle.records.specs.Records.{flat_words, Flattens}
 use Rattle.records.specs.declared.Progress.{Progress}
 use Rattle.records.specs.declared.Flat.{Flat}
 use Rattle.records.proofs.Locals.{rooms, holds, free_all}
@@ -49,10 +49,10 @@ use Rattle.records.proofs.flatten.Symbol as flatten-def
 use Rattle.records.proofs.flatten.Symbol.{name as #records·flatten}
 use Rattle.records.proofs.flatten.Met as flatten-thm
 use Rattle.calls.proofs.Walking.{R, F, low, word, bytes, words32, records, slice}
-use Rattle.calls.proofs.Walking.{sepAll, fsepAll, splits, joins, fsplits, fjoins, Flatten, flattens}
+use Rattle.calls.proofs.Walking.{sep_all, fsep_all, splits, joins, fsplits, fjoins, Flatten, flattens}
 use Rattle.calls.proofs.Orders.{forgets, sorts, turned}
 use Rattle.wire.specs.declared.inbox.Received.{Received}
-use Rattle.wire.specs.Wire.{inboxOf, receivedAs, receiveCall}
+use Rattle.wire.specs.Wire.{inbox_of, received_as, receive_call}
 use Rattle.wire.specs.contracts.inbox.Received as U
 use Rattle.wire.proofs.inbox.Received.TheLaws as U'
 use Rattle.wire.specs.contracts.inbox.receive as words
@@ -261,25 +261,25 @@ module _ {M : Type 1} {𝓤 : Ura M} (𝓛 : Logic 𝓤) (mem : Memory → SProp
     tt,
   )
 
-  goes-words : (f : Flat) → length f.words ≡ 192 → ent 𝓤 (⋆ 𝓛 (sepAll 𝓤 Lives ∷ ‵ (fsepAll (Args f)) ∷ [])) ((Words 𝓛 mem run').pre (to-words f))
-  goes-words f w = qed 𝓛 (sepAll 𝓤 Lives ∷ ‵ (fsepAll (Args f)) ∷ []) ∵ says ! w $ done !
+  goes-words : (f : Flat) → length f.words ≡ 192 → ent 𝓤 (⋆ 𝓛 (sep_all 𝓤 Lives ∷ ‵ (fsep_all (Args f)) ∷ [])) ((Words 𝓛 mem run').pre (to-words f))
+  goes-words f w = qed 𝓛 (sep_all 𝓤 Lives ∷ ‵ (fsep_all (Args f)) ∷ []) ∵ says ! w $ done !
 
   -- what the call over words says, for these words of records
   abbrev Said : Received → List ℕ → List ℕ → List ℕ → List ℕ → List ℕ → Type 0
   Said r y3 y5 y7 y8 l =
-      answer r.number (receivedAs r.whole r.message (inboxOf y7 y8) (state_of x2.now y3 l y5))
-      ≡ receiveCall x0.now route run x1.now (state_of x2.now x3.now l x5.now) processor x6.now (inboxOf x7.now x8.now)
+      answer r.number (received_as r.whole r.message (inbox_of y7 y8) (state_of x2.now y3 l y5))
+      ≡ receive_call x0.now route run x1.now (state_of x2.now x3.now l x5.now) processor x6.now (inbox_of x7.now x8.now)
 
   exits : (r : Received) (y3 : List ℕ) (y5 : List ℕ) (y7 : List ℕ) (y8 : List ℕ) → Is E r (high r ∷ [])
       → length y3 ≡ length x3.now
       → length y5 ≡ length x5.now
       → length y7 ≡ length x7.now
       → length y8 ≡ length x8.now
-      → Said r y3 y5 y7 y8 (flatWords x4.now)
-      → ent 𝓤 (⋆ 𝓛 (sepAll 𝓤 Lives ∷ ‵ (flft κ4 q4) ∷ ‵ (finally u32 x3.name y3) ∷ ‵ (finally u8 x5.name y5) ∷ ‵ (finally u32 x7.name y7) ∷ ‵
+      → Said r y3 y5 y7 y8 (flat_words x4.now)
+      → ent 𝓤 (⋆ 𝓛 (sep_all 𝓤 Lives ∷ ‵ (flft κ4 q4) ∷ ‵ (finally u32 x3.name y3) ∷ ‵ (finally u8 x5.name y5) ∷ ‵ (finally u32 x7.name y7) ∷ ‵
       (finally u64 x8.name y8) ∷ [])) (Post (high r))
   exits r y3 y5 y7 y8 is e3 e5 e7 e8 said =
-      qed 𝓛 (sepAll 𝓤 Lives ∷ ‵ (flft κ4 q4) ∷ ‵ (finally u32 x3.name y3) ∷ ‵ (finally u8 x5.name y5) ∷ ‵ (finally u32 x7.name y7) ∷ ‵ (finally u64
+      qed 𝓛 (sep_all 𝓤 Lives ∷ ‵ (flft κ4 q4) ∷ ‵ (finally u32 x3.name y3) ∷ ‵ (finally u8 x5.name y5) ∷ ‵ (finally u32 x7.name y7) ∷ ‵ (finally u64
       x8.name y8) ∷ []) ∵
       suffices ! _ (ends_at 𝓛 receiving.ended stayed (receiving.clauses 𝓛 mem run') (
         (
@@ -400,7 +400,7 @@ module _ {M : Type 1} {𝓤 : Ura M} (𝓛 : Logic 𝓤) (mem : Memory → SProp
         ∷ (‵ (finally u64 x8.ghost_name us.1.1.1.1.1.1.1.1.1.1.1.0) ⊛ ‵ (feq ℕ (length us.1.1.1.1.1.1.1.1.1.1.1.0) (length x8.now))) ∷ []
 
     worded : Triple 𝓤 (C #wire·inbox·receive) (Words 𝓛 mem run')
-        → (f : Flat) → Is F f (low f ∷ []) → Flattens f (flatWords x4.now)
+        → (f : Flat) → Is F f (low f ∷ []) → Flattens f (flat_words x4.now)
         → Sq 𝓛 (At (‵ (fat full_share S'.mir l13 0 (low f))) (‵ (flft κ0 q0) ∷ ‵ (flft κ1 q1) ∷ ‵ (flft κ2 q2) ∷ ‵ (flft κ3 q3) ∷ ‵ (flft κ4 q4) ∷ ‵ (flft κ5
         q5) ∷ ‵ (flft κ6 q6) ∷ ‵ (flft κ7 q7) ∷ ‵ (flft κ8 q8) ∷ ‵ ((ShrSlice (named 0) κ0 u8).own_val x0 (slice x0 ∷ [])) ∷ ‵ ((ShrSlice (named 1) κ1 u32).own_val x1
         (slice x1 ∷ [])) ∷ ‵ ((ShrSlice (named 2) κ2 u32).own_val x2 (slice x2 ∷ [])) ∷ ‵ ((MutSlice (named 3) κ3 u32).own_val x3 (slice x3 ∷ [])) ∷ ‵ ((MutSlice (named
@@ -437,11 +437,11 @@ module _ {M : Type 1} {𝓤 : Ura M} (𝓛 : Logic 𝓤) (mem : Memory → SProp
         refl)) (and_then ! (load ! (from ! (stop !)) (look ! 9 refl)) (and_then ! (load ! (from ! (stop !)) (look ! 25 refl)) (and_then ! (load ! (from !
         (stop !)) (look ! 23 refl)) (and_then ! (load ! (from ! (stop !)) (look ! 5 refl)) (and_then ! (load ! (from ! (stop !)) (look ! 1 refl)) (no_more
         !))))))))))))) (λ w.
-        use1 𝓛 (later (some (λ (r : Received). (sepAll 𝓤 Lives ⊛ ‵ (E.own r (w ∷ []))) ⊛ raw
+        use1 𝓛 (later (some (λ (r : Received). (sep_all 𝓤 Lives ⊛ ‵ (E.own r (w ∷ []))) ⊛ raw
         (ensured 𝓛 words.ended (words.clauses 𝓛 mem run') κw (xw f) tt r)))) (id⊢ 𝓤 _) $
         await ! tt $ pick ! (λ r. split ! $ move ! (1 ∷ []) $
         use1 𝓛 (some (λ (us : Unit {0} × (Unit {0} × (Unit {0} × (Unit {0} × (Unit {0} × (List ℕ × (Unit {0} × (List ℕ × (Unit {0} × (Unit {0} × (List ℕ ×
-        (List ℕ × Unit {0})))))))))))). sepAll 𝓤 (Lasts us) ⊛ raw
+        (List ℕ × Unit {0})))))))))))). sep_all 𝓤 (Lasts us) ⊛ raw
         (fact 𝓤 ((l : List ℕ) → Flattens f l → Said r us.1.1.1.1.1.0 us.1.1.1.1.1.1.1.0 us.1.1.1.1.1.1.1.1.1.1.0 us.1.1.1.1.1.1.1.1.1.1.1.0 l)))) (id⊢ 𝓤 _) $
         pick ! (λ us. split ! $ move ! (1 ∷ []) $
         heard ! ((l : List ℕ) → Flattens f l → Said r us.1.1.1.1.1.0 us.1.1.1.1.1.1.1.0 us.1.1.1.1.1.1.1.1.1.1.0 us.1.1.1.1.1.1.1.1.1.1.1.0 l) (λ said.
@@ -464,7 +464,7 @@ module _ {M : Type 1} {𝓤 : Ura M} (𝓛 : Logic 𝓤) (mem : Memory → SProp
         ) ∷ ((_, _), _) ∷ []) refl $
         sorts ! 14 44 (keep ! (1 ∷ 14 ∷ 5 ∷ 4 ∷ 3 ∷ 2 ∷ [])) $ turned ! 22 $
         free_all ! _ $ by ! (exits r us.1.1.1.1.1.0 us.1.1.1.1.1.1.1.0 us.1.1.1.1.1.1.1.1.1.1.0 us.1.1.1.1.1.1.1.1.1.1.1.0 (subst (λ (vs : List Val). Is E r vs) (LL.tells U.the_type U'.the_laws r (w ∷ []) is') is') e3 e5 e7 e8
-        (said (flatWords x4.now) e-f)))))))))))
+        (said (flat_words x4.now) e-f)))))))))))
 
     begun : Triple 𝓤 (C #records·flatten) (Flatten 𝓛 mem run') → Triple 𝓤 (C #wire·inbox·receive) (Words 𝓛 mem run')
         → Sq 𝓛 (At (‵ (froom S'.mir l13 0)) (‵ (flft κ0 q0) ∷ ‵ (flft κ1 q1) ∷ ‵ (flft κ2 q2) ∷ ‵ (flft κ3 q3) ∷ ‵ (flft κ4 q4) ∷ ‵ (flft κ5 q5) ∷ ‵ (flft κ6
@@ -515,7 +515,7 @@ module _ {M : Type 1} {𝓤 : Ura M} (𝓛 : Logic 𝓤) (mem : Memory → SProp
       (WpFn 𝓤 H C Λ code.function (slice x0 ∷ vint w32 route ∷ vint w64 run ∷ slice x1 ∷ slice x2 ∷ slice x3 ∷ slice x4 ∷ slice x5 ∷ vint w32 processor ∷
       slice x6 ∷ slice x7 ∷ slice x8 ∷ []) Post)
   walk C Λ fm known₀ known₁ =
-      qed 𝓛 (sepAll 𝓤 Toks ∷ ‵ (fsepAll Own) ∷ []) ∵
+      qed 𝓛 (sep_all 𝓤 Toks ∷ ‵ (fsep_all Own) ∷ []) ∵
       enter ! C Λ code.function (slice x0 ∷ vint w32 route ∷ vint w64 run ∷ slice x1 ∷ slice x2 ∷ slice x3 ∷ slice x4 ∷ slice x5 ∷ vint w32 processor ∷ slice
       x6 ∷ slice x7 ∷ slice x8 ∷ []) _ $
       alloc1 ! (λ l0. alloc1 ! (λ l1. alloc1 ! (λ l2. alloc1 ! (λ l3. alloc1 ! (λ l4. alloc1 ! (λ l5. alloc1 ! (λ l6. alloc1 ! (λ l7. alloc1 ! (λ l8. alloc1

@@ -18,7 +18,7 @@ returns c =
     let at_read = c.before.before in
     let A = at_read.before.before.before.before.before.before.before.args in
     let f = c.refused in (
-      λ l e. laws.rounds-read A.encoded.now A.source.now A.memories.now A.buffer.now A.status.now l at_read.read-for.result
+      λ l e. laws.rounds_read A.encoded.now A.source.now A.memories.now A.buffer.now A.status.now l at_read.read-for.result
           at_read.read-for.ensures f.result.driven.number f.result.driven.rounds f.result.flat.words f.ensures.0 f.ensures.1.0
           if2.true,
       (λ z. absurd (if2.true (sym f.ensures.0 ∙ z)), f.ensures.1.1),
@@ -33,10 +33,10 @@ returns-2 c =
     let at-if1 = at_read.before in
     let A = at-if1.before.before.before.before.before.before.args in
     let f = c.refused2 in (
-      λ l e. laws.rounds-nine A.encoded.now A.source.now A.memories.now A.buffer.now A.status.now l at_read.read-for.result
+      λ l e. laws.rounds_nine A.encoded.now A.source.now A.memories.now A.buffer.now A.status.now l at_read.read-for.result
           at_read.read-for.ensures f.result.driven.number f.result.driven.rounds f.result.flat.words f.ensures.0 f.ensures.1.0
           c.before.if2.false A.words e at-if1.if1.true,
-      (λ z. absurd (laws.nine-is-none (sym f.ensures.0 ∙ z)), f.ensures.1.1),
+      (λ z. absurd (laws.nine_is_none (sym f.ensures.0 ∙ z)), f.ensures.1.1),
     )
 
 array-borrow-prefix-kept : tie.Need-array-borrow-prefix-kept
@@ -46,7 +46,7 @@ slice-aggregate-run : tie.Need-slice-aggregate-run
 slice-aggregate-run c =
     let at-if1 = c.before.before.before in
     let A = at-if1.before.before.before.before.before.before.args in
-    sym (laws.lent-long A.words at-if1.if1.false)
+    sym (laws.lent_long A.words at-if1.if1.false)
 
 run-requires : tie.Need-run-requires
 run-requires c κs = search rules
@@ -68,10 +68,10 @@ returns-3 c =
     let few = at-if1.if1.false in
     let run = at-run.run in
     let back = c.before.before.kept2.given in (
-      λ l e. laws.run-told A.encoded.now A.source.now A.memories.now A.buffer.now A.status.now l _
-          (laws.lent-long A.words few ∙ e) run.result.number run.result.rounds _ _ _ _ run.ensures _
-          (laws.kept-front A.words few run.new.1.1.1.1.0 back (length l) e),
-      (λ z. few, laws.kept-long A.words few run.new.1.1.1.1.0 back),
+      λ l e. laws.run_told A.encoded.now A.source.now A.memories.now A.buffer.now A.status.now l _
+          (laws.lent_long A.words few ∙ e) run.result.number run.result.rounds _ _ _ _ run.ensures _
+          (laws.kept_front A.words few run.new.1.1.1.1.0 back (length l) e),
+      (λ z. few, laws.kept_long A.words few run.new.1.1.1.1.0 back),
     )
 
 pub drive-spec : {M : Type 1} → statement M

@@ -41,20 +41,20 @@ use denote.Triple.Walked.{says, Stays, stay_dropped, gave_slice, walk_of, Goes-d
 use denote.Exit.{yes}
 use Rattle.machine.specs.Machine.{state_of}
 use Rattle.engine.specs.Calls.{answer}
-use Rattle.records.specs.Records.{flatWords}
+use Rattle.records.specs.Records.{flat_words}
 use Rattle.records.specs.declared.Progress.{Progress}
-use Rattle.records.proofs.Laws.{words-fit}
-use Rattle.records.proofs.Words.{length-words}
+use Rattle.records.proofs.Laws.{words_fit}
+use Rattle.records.proofs.Words.{length_words}
 use Rattle.records.proofs.Locals.{rooms, holds, free_all}
 use Rattle.records.proofs.put_all.Symbol as put-def
 use Rattle.records.proofs.put_all.Symbol.{name as #records·put-all}
 use Rattle.records.proofs.put_all.Met as put-thm
 use Rattle.rounds.specs.Rounds.{told}
 use Rattle.schedule.specs.declared.Driven.{Driven}
-use Rattle.schedule.specs.Calls.{roundsCall}
+use Rattle.schedule.specs.Calls.{rounds_call}
 use Rattle.schedule.specs.contracts.Driven as D
 use Rattle.schedule.proofs.Driven.TheLaws as D'
-use Rattle.calls.specs.DriverWords.{wordsAfter}
+use Rattle.calls.specs.DriverWords.{words_after}
 use Rattle.calls.specs.declared.round.Ran.{Ran}
 use Rattle.calls.specs.contracts.round.Ran as U
 use Rattle.calls.proofs.round.Ran.TheLaws as U'
@@ -62,10 +62,10 @@ use Rattle.calls.specs.contracts.round.drive as words
 use Rattle.calls.proofs.round.drive.Symbol as words-def
 use Rattle.calls.proofs.round.drive.Symbol.{name as #calls·round·drive}
 use Rattle.calls.proofs.round.drive.Met as words-thm
-use Rattle.calls.proofs.Walking.{R, F, low, word, ref, bytes, words32, records, slice, sepAll, fsepAll, splits, joins, fsplits, fjoins}
+use Rattle.calls.proofs.Walking.{R, F, low, word, ref, bytes, words32, records, slice, sep_all, fsep_all, splits, joins, fsplits, fjoins}
 use Rattle.calls.proofs.Orders.{forgets, sorts, turned}
 use Rattle.calls.proofs.Storing.{PutAll, stores_at}
-use Rattle.calls.proofs.DriverWords.{stored-words}
+use Rattle.calls.proofs.DriverWords.{stored_words}
 use Rattle.calls.specs.contracts.round.rolwyddac_rounds.Key.{name as #calls·rounds}
 use Rattle.calls.specs.contracts.round.rolwyddac_rounds as rounds
 use Rattle.calls.proofs.round.rolwyddac_rounds.Statement as stated
@@ -187,17 +187,17 @@ module _ {M : Type 1} {𝓤 : Ura M} (𝓛 : Logic 𝓤) (mem : Memory → SProp
     tt,
   )
 
-  goes-words : ent 𝓤 (⋆ 𝓛 (sepAll 𝓤 Lives ∷ ‵ (fsepAll Args) ∷ [])) ((Words 𝓛 mem run).pre to-words)
-  goes-words = qed 𝓛 (sepAll 𝓤 Lives ∷ ‵ (fsepAll Args) ∷ []) ∵ join ! $ frame ! $ done !
+  goes-words : ent 𝓤 (⋆ 𝓛 (sep_all 𝓤 Lives ∷ ‵ (fsep_all Args) ∷ [])) ((Words 𝓛 mem run).pre to-words)
+  goes-words = qed 𝓛 (sep_all 𝓤 Lives ∷ ‵ (fsep_all Args) ∷ []) ∵ join ! $ frame ! $ done !
 
   exits : (r : Driven) (y2 : List ℕ) (y3 : List ℕ) (y4 : List Progress) (y5 : List ℕ) → Is DR r (telling r ∷ [])
       → length y2 ≡ length x2.now → length y3 ≡ length x3.now → length y4 ≡ length x4.now → length y5 ≡ length x5.now
-      → answer r.number (told r.rounds (state_of y2 y3 (flatWords y4) y5))
-      ≡ roundsCall x0.now x1.now (state_of x2.now x3.now (flatWords x4.now) x5.now)
-      → ent 𝓤 (⋆ 𝓛 (sepAll 𝓤 Lives ∷ ‵ (flft κ4 q4) ∷ ‵ (finally u32 x2.name y2) ∷ ‵ (finally u32 x3.name y3) ∷ ‵ (finally R x4.name y4)
+      → answer r.number (told r.rounds (state_of y2 y3 (flat_words y4) y5))
+      ≡ rounds_call x0.now x1.now (state_of x2.now x3.now (flat_words x4.now) x5.now)
+      → ent 𝓤 (⋆ 𝓛 (sep_all 𝓤 Lives ∷ ‵ (flft κ4 q4) ∷ ‵ (finally u32 x2.name y2) ∷ ‵ (finally u32 x3.name y3) ∷ ‵ (finally R x4.name y4)
       ∷ ‵ (finally u8 x5.name y5) ∷ [])) (Post (telling r))
   exits r y2 y3 y4 y5 is e2 e3 e4 e5 said =
-      qed 𝓛 (sepAll 𝓤 Lives ∷ ‵ (flft κ4 q4) ∷ ‵ (finally u32 x2.name y2) ∷ ‵ (finally u32 x3.name y3) ∷ ‵ (finally R x4.name y4) ∷ ‵
+      qed 𝓛 (sep_all 𝓤 Lives ∷ ‵ (flft κ4 q4) ∷ ‵ (finally u32 x2.name y2) ∷ ‵ (finally u32 x3.name y3) ∷ ‵ (finally R x4.name y4) ∷ ‵
       (finally u8 x5.name y5) ∷ []) ∵
       suffices ! _ (ends_at 𝓛 rounds.ended stayed (rounds.clauses 𝓛 mem run) (
         (
@@ -219,8 +219,8 @@ module _ {M : Type 1} {𝓤 : Ura M} (𝓛 : Logic 𝓤) (mem : Memory → SProp
   -- what the driver over words says: for these words of records; and that it kept enough of them
   abbrev Said : Ran → List ℕ → List ℕ → List ℕ → List ℕ → Type 0
   Said r y2 y3 y5 l =
-      answer r.driven.number (told r.driven.rounds (state_of y2 y3 (wordsAfter l r.driven.number r.flat.words) y5))
-      ≡ roundsCall x0.now x1.now (state_of x2.now x3.now l x5.now)
+      answer r.driven.number (told r.driven.rounds (state_of y2 y3 (words_after l r.driven.number r.flat.words) y5))
+      ≡ rounds_call x0.now x1.now (state_of x2.now x3.now l x5.now)
 
   abbrev Told : Ran → List ℕ → List ℕ → List ℕ → Type 0
   Told r y2 y3 y5 =
@@ -260,7 +260,7 @@ module _ {M : Type 1} {𝓤 : Ura M} (𝓛 : Logic 𝓤) (mem : Memory → SProp
         → length y2 ≡ length x2.now → length y3 ≡ length x3.now → length y5 ≡ length x5.now
         → Told r y2 y3 y5
         → Sq 𝓛 (At (‵ (froom (ty_int w64) l7 0)) (‵ (fat full_share U'.mir l8 0 (high r)))
-        (sepAll 𝓤 Lives ∷ ‵ (flft κ4 q4) ∷ ‵ ((MutSlice (named 4) κ4 R).own_val x4 (slice x4 ∷ [])) ∷ ‵ (finally u32 x2.name y2) ∷ ‵
+        (sep_all 𝓤 Lives ∷ ‵ (flft κ4 q4) ∷ ‵ ((MutSlice (named 4) κ4 R).own_val x4 (slice x4 ∷ [])) ∷ ‵ (finally u32 x2.name y2) ∷ ‵
         (finally u32 x3.name y3) ∷ ‵ (finally u8 x5.name y5) ∷ []))
         (runs C Λ En mir'.t-10 (at_ret En Post))
     stored known₂ r is y2 y3 y5 e2 e3 e5 said =
@@ -284,8 +284,8 @@ module _ {M : Type 1} {𝓤 : Ura M} (𝓛 : Logic 𝓤) (mem : Memory → SProp
         free_all ! _ $
         by ! (exits r.driven y2 y3 y4 y5 (driven-is r is) e2 e3 e4 e5
         (ap (λ (l : List ℕ). answer r.driven.number (told r.driven.rounds (state_of y2 y3 l y5)))
-        (ap (λ (l : List Progress). flatWords l) put ∙ stored-words r.flat r.driven.number x4.now said.1.1 said.1.0)
-        ∙ said.0 (flatWords x4.now) (sym (length-words x4.now)))))
+        (ap (λ (l : List Progress). flat_words l) put ∙ stored_words r.flat r.driven.number x4.now said.1.1 said.1.0)
+        ∙ said.0 (flat_words x4.now) (sym (length_words x4.now)))))
 
     begun : Triple 𝓤 (C #calls·round·drive) (Words 𝓛 mem run) → Triple 𝓤 (C #records·put-all) (PutAll 𝓛 mem run)
         → Sq 𝓛 (At (‵ (froom (ty_int w64) l7 0)) (‵ (froom U'.mir l8 0))
@@ -297,8 +297,8 @@ module _ {M : Type 1} {𝓤 : Ura M} (𝓛 : Logic 𝓤) (mem : Memory → SProp
     begun known₁ known₂ =
         assigns ! (of_opd ! (load ! (from ! (fld ! refl (stop !))) (look_in ! 26 (sub ! 1 refl (whole !))))) (from ! (stop !))
         (init ! 18 refl (tt, record { fits = g4.0 })) $
-        assigns ! (bin ! (lit ! tt) (load ! (from ! (stop !)) (look ! 18 refl)) (record { fits = words-fit (length x4.now) g4.1 }))
-        (from ! (stop !)) (init ! 22 refl (tt, record { fits = words-fit (length x4.now) g4.1 })) $
+        assigns ! (bin ! (lit ! tt) (load ! (from ! (stop !)) (look ! 18 refl)) (record { fits = words_fit (length x4.now) g4.1 }))
+        (from ! (stop !)) (init ! 22 refl (tt, record { fits = words_fit (length x4.now) g4.1 })) $
         forget ! 18 refl $
         assigns ! (addr ! (from ! (fld ! refl (hop ! (look_in ! 30 (sub ! 0 refl (whole !))) (stop !))))) (from ! (stop !)) (init ! 16 refl (tt, tt)) $
         assigns ! (agg ! (and_then ! (load ! (from ! (stop !)) (look ! 16 refl))
@@ -312,7 +312,7 @@ module _ {M : Type 1} {𝓤 : Ura M} (𝓛 : Logic 𝓤) (mem : Memory → SProp
         assigns ! (agg ! (and_then ! (load ! (from ! (stop !)) (look ! 8 refl))
         (and_then ! (load ! (from ! (fld ! refl (stop !))) (look_in ! 24 (sub ! 1 refl (whole !)))) (no_more !)))) (from ! (stop !))
         (init ! 6 refl (tt, (tt, (record { fits = g5.0 }, tt)))) $
-        owned ! usize (Is usize) (uint_Makes 𝓛 w64) (3 * length x4.now) _ (refl, words-fit (length x4.now) g4.1) $
+        owned ! usize (Is usize) (uint_Makes 𝓛 w64) (3 * length x4.now) _ (refl, words_fit (length x4.now) g4.1) $
         move ! (50 ∷ 0 ∷ 48 ∷ 47 ∷ 46 ∷ 45 ∷ []) $
         fjoins ! Args $
         move ! (44 ∷ 42 ∷ 41 ∷ 40 ∷ 39 ∷ []) $
@@ -322,13 +322,13 @@ module _ {M : Type 1} {𝓤 : Ura M} (𝓛 : Logic 𝓤) (mem : Memory → SProp
         (and_then ! (load ! (from ! (stop !)) (look ! 33 refl)) (and_then ! (load ! (from ! (stop !)) (look ! 15 refl))
         (and_then ! (load ! (from ! (stop !)) (look ! 11 refl)) (and_then ! (load ! (from ! (stop !)) (look ! 23 refl))
         (and_then ! (load ! (from ! (stop !)) (look ! 7 refl)) (no_more !))))))) (λ w.
-        use1 𝓛 (later (some (λ (r : Ran). (sepAll 𝓤 Lives ⊛ ‵ (E.own r (w ∷ []))) ⊛ raw
+        use1 𝓛 (later (some (λ (r : Ran). (sep_all 𝓤 Lives ⊛ ‵ (E.own r (w ∷ []))) ⊛ raw
         (ensured 𝓛 words.ended (words.clauses 𝓛 mem run) κw xw tt r)))) (id⊢ 𝓤 _) $
         await ! tt $
         pick ! (λ r.
         split ! $
         move ! (1 ∷ []) $
-        use1 𝓛 (some (λ (us : Unit {0} × (Unit {0} × (List ℕ × (List ℕ × (Unit {0} × (List ℕ × Unit {0})))))). sepAll 𝓤 (Lasts us) ⊛ raw
+        use1 𝓛 (some (λ (us : Unit {0} × (Unit {0} × (List ℕ × (List ℕ × (Unit {0} × (List ℕ × Unit {0})))))). sep_all 𝓤 (Lasts us) ⊛ raw
         (fact 𝓤 (Told r us.1.1.0 us.1.1.1.0 us.1.1.1.1.1.0)))) (id⊢ 𝓤 _) $
         pick ! (λ us.
         split ! $
@@ -366,7 +366,7 @@ module _ {M : Type 1} {𝓤 : Ura M} (𝓛 : Logic 𝓤) (mem : Memory → SProp
       (x0, (x1, (x2, (x3, (x4, (x5, tt)))))) at)
       (WpFn 𝓤 H C Λ code.function (slice x0 ∷ slice x1 ∷ slice x2 ∷ slice x3 ∷ slice x4 ∷ slice x5 ∷ []) Post)
   walk C Λ fm known₁ known₂ =
-      qed 𝓛 (sepAll 𝓤 Toks ∷ ‵ (fsepAll Own) ∷ []) ∵
+      qed 𝓛 (sep_all 𝓤 Toks ∷ ‵ (fsep_all Own) ∷ []) ∵
       enter ! C Λ code.function (slice x0 ∷ slice x1 ∷ slice x2 ∷ slice x3 ∷ slice x4 ∷ slice x5 ∷ []) _ $
       alloc1 ! (λ l0. alloc1 ! (λ l1. alloc1 ! (λ l2. alloc1 ! (λ l3. alloc1 !
       (λ l4. alloc1 ! (λ l5. alloc1 ! (λ l6. alloc1 ! (λ l7. alloc1 ! (λ l8. alloc1 !

@@ -34,29 +34,29 @@ use denote.Triple.Table.{entered, cited}
 use denote.Triple.Walked.{says, Stays, walk_of, ends_at, walked, walk_Meets}
 use Rattle.machine.specs.Machine.{state_of}
 use Rattle.engine.specs.Calls.{answer}
-use Rattle.tenants.specs.Tenants.{sharingOf, sourcesOf}
-use Rattle.sharing.specs.Calls.{freshSharingCall}
-use Rattle.records.specs.Records.{flatWords}
+use Rattle.tenants.specs.Tenants.{sharing_of, sources_of}
+use Rattle.sharing.specs.Calls.{fresh_sharing_call}
+use Rattle.records.specs.Records.{flat_words}
 use Rattle.records.specs.declared.Progress.{Progress}
-use Rattle.records.proofs.Laws.{words-fit}
-use Rattle.records.proofs.Words.{length-words}
+use Rattle.records.proofs.Laws.{words_fit}
+use Rattle.records.proofs.Words.{length_words}
 use Rattle.records.proofs.Locals.{rooms, holds, free_all}
 use Rattle.records.proofs.clear.Symbol as clear-def
 use Rattle.records.proofs.clear.Symbol.{name as #records·clear}
 use Rattle.records.proofs.clear.Met as clear-thm
-use Rattle.engine.specs.Given.{zerosAfter}
-use Rattle.engine.proofs.Reading.{cleared-after}
+use Rattle.engine.specs.Given.{zeros_after}
+use Rattle.engine.proofs.Reading.{cleared_after}
 use Rattle.sharing.specs.contracts.core.fresh as words
 use Rattle.sharing.proofs.core.fresh.Symbol as words-def
 use Rattle.sharing.proofs.core.fresh.Symbol.{name as #sharing·core·fresh}
 use Rattle.sharing.proofs.core.fresh.Met as words-thm
 use Rattle.calls.proofs.Walking.{R, word, ref, bytes, words32, records, slice}
 use Rattle.calls.proofs.Params.{Param, number32, number64, reads, changes, Lent, stays, go, spells, tell, values, row, tokens, owning, slices}
-use Rattle.calls.proofs.Params.{had, env, held, takes-in, comes_back}
-use Rattle.calls.proofs.Lending.{lends-on}
+use Rattle.calls.proofs.Params.{had, env, held, takes_in, comes_back}
+use Rattle.calls.proofs.Lending.{lends_on}
 use Rattle.calls.proofs.Orders.{forgets, sorts, fronts, turned}
 use Rattle.calls.proofs.Entering.{allots}
-use Rattle.calls.proofs.Walking.{local, sepAll, fsepAll, splits, joins, fsplits, fjoins, Clear, clears-at}
+use Rattle.calls.proofs.Walking.{local, sep_all, fsep_all, splits, joins, fsplits, fjoins, Clear, clears_at}
 use Rattle.calls.specs.contracts.tenant.rolwyddac_fresh_both.Key.{name as #calls·fresh}
 use Rattle.calls.specs.contracts.tenant.rolwyddac_fresh_both as fresh
 use Rattle.calls.proofs.tenant.rolwyddac_fresh_both.Statement as stated
@@ -69,8 +69,8 @@ params =
     reads 0 tt u8 ∷ number32 ∷ reads 1 tt u32 ∷ changes 2 tt u32 ∷ changes 3 tt u32 ∷ changes 4 tt R ∷ changes 5 tt u8 ∷ reads 6 tt u32 ∷ changes 7 tt u32
     ∷ changes 8 tt u32 ∷ changes 9 tt R ∷ changes 10 tt u8 ∷ changes 11 tt u32 ∷ []
 
-abbrev in-words : List (Param 10)
-in-words =
+abbrev in_words_lem : List (Param 10)
+in_words_lem =
     reads 0 tt u8 ∷ number32 ∷ reads 1 tt u32 ∷ changes 2 tt u32 ∷ changes 3 tt u32 ∷ number64 ∷ changes 4 tt u8 ∷ reads 5 tt u32 ∷ changes 6 tt u32
     ∷ changes 7 tt u32 ∷ number64 ∷ changes 8 tt u8 ∷ changes 9 tt u32 ∷ []
 
@@ -115,7 +115,7 @@ module _ {M : Type 1} {𝓤 : Ura M} (𝓛 : Logic 𝓤) (mem : Memory → SProp
   abbrev given : Lent κs params
   given = (x0, (route, (x1, (x2, (x3, (x4, (x5, (x6, (x7, (x8, (x9, (x10, (x11, tt)))))))))))))
 
-  abbrev given-words : Lent κw in-words
+  abbrev given-words : Lent κw in_words_lem
   given-words = (x0, (route, (x1, (x2, (x3, (3 * length x4.now, (x5, (x6, (x7, (x8, (3 * length x9.now, (x10, (x11, tt)))))))))))))
 
   abbrev entry : (walk_of 𝓛 fresh.ended stayed (fresh.clauses 𝓛 mem run)).Ghost
@@ -131,23 +131,23 @@ module _ {M : Type 1} {𝓤 : Ura M} (𝓛 : Logic 𝓤) (mem : Memory → SProp
   Lives = tokens 𝓤 10 κw qw
 
   abbrev to-words : (Words 𝓛 mem run).Ghost
-  to-words = ((κw, qw, tt, given-words, values in-words κw given-words), tt)
+  to-words = ((κw, qw, tt, given-words, values in_words_lem κw given-words), tt)
 
-  goes-words : ent 𝓤 (⋆ 𝓛 (sepAll 𝓤 Lives ∷ ‵ (fsepAll (owning in-words κw given-words)) ∷ [])) ((Words 𝓛 mem run).pre to-words)
-  goes-words = qed 𝓛 (sepAll 𝓤 Lives ∷ ‵ (fsepAll (owning in-words κw given-words)) ∷ []) ∵ join ! $ frame ! $ done !
+  goes-words : ent 𝓤 (⋆ 𝓛 (sep_all 𝓤 Lives ∷ ‵ (fsep_all (owning in_words_lem κw given-words)) ∷ [])) ((Words 𝓛 mem run).pre to-words)
+  goes-words = qed 𝓛 (sep_all 𝓤 Lives ∷ ‵ (fsep_all (owning in_words_lem κw given-words)) ∷ []) ∵ join ! $ frame ! $ done !
 
   exits : (r : ℕ) (y2 : List ℕ) (y3 : List ℕ) (y4 : List Progress) (y5 : List ℕ) (y7 : List ℕ) (y8 : List ℕ) (y9 : List Progress) (y10 : List ℕ)
       (y11 : List ℕ) → r < 2 ^ 32
       → length y2 ≡ length x2.now → length y3 ≡ length x3.now → length y4 ≡ length x4.now → length y5 ≡ length x5.now → length y7 ≡ length x7.now
       → length y8 ≡ length x8.now → length y9 ≡ length x9.now → length y10 ≡ length x10.now → length y11 ≡ length x11.now
-      → answer r (sharingOf (state_of y2 y3 (flatWords y4) y5) (state_of y7 y8 (flatWords y9) y10) y11)
-      ≡ freshSharingCall x0.now route (sourcesOf x1.now x6.now) (sharingOf (state_of x2.now x3.now (flatWords x4.now) x5.now)
-      (state_of x7.now x8.now (flatWords x9.now) x10.now) x11.now)
-      → ent 𝓤 (⋆ 𝓛 (sepAll 𝓤 Lives ∷ ‵ (flft κ4 q4) ∷ ‵ (flft κ9 q9) ∷ ‵ (finally u32 x2.name y2) ∷ ‵ (finally u32 x3.name y3)
+      → answer r (sharing_of (state_of y2 y3 (flat_words y4) y5) (state_of y7 y8 (flat_words y9) y10) y11)
+      ≡ fresh_sharing_call x0.now route (sources_of x1.now x6.now) (sharing_of (state_of x2.now x3.now (flat_words x4.now) x5.now)
+      (state_of x7.now x8.now (flat_words x9.now) x10.now) x11.now)
+      → ent 𝓤 (⋆ 𝓛 (sep_all 𝓤 Lives ∷ ‵ (flft κ4 q4) ∷ ‵ (flft κ9 q9) ∷ ‵ (finally u32 x2.name y2) ∷ ‵ (finally u32 x3.name y3)
       ∷ ‵ (finally R x4.name y4) ∷ ‵ (finally u8 x5.name y5) ∷ ‵ (finally u32 x7.name y7) ∷ ‵ (finally u32 x8.name y8)
       ∷ ‵ (finally R x9.name y9) ∷ ‵ (finally u8 x10.name y10) ∷ ‵ (finally u32 x11.name y11) ∷ [])) (Post (vint w32 r))
   exits r y2 y3 y4 y5 y7 y8 y9 y10 y11 fits e2 e3 e4 e5 e7 e8 e9 e10 e11 said =
-      qed 𝓛 (sepAll 𝓤 Lives ∷ ‵ (flft κ4 q4) ∷ ‵ (flft κ9 q9) ∷ ‵ (finally u32 x2.name y2) ∷ ‵ (finally u32 x3.name y3) ∷ ‵ (finally R x4.name y4)
+      qed 𝓛 (sep_all 𝓤 Lives ∷ ‵ (flft κ4 q4) ∷ ‵ (flft κ9 q9) ∷ ‵ (finally u32 x2.name y2) ∷ ‵ (finally u32 x3.name y3) ∷ ‵ (finally R x4.name y4)
       ∷ ‵ (finally u8 x5.name y5) ∷ ‵ (finally u32 x7.name y7) ∷ ‵ (finally u32 x8.name y8) ∷ ‵ (finally R x9.name y9)
       ∷ ‵ (finally u8 x10.name y10) ∷ ‵ (finally u32 x11.name y11) ∷ []) ∵
       suffices ! _ (ends_at 𝓛 fresh.ended stayed (fresh.clauses 𝓛 mem run) entry (vint w32 r) r
@@ -161,8 +161,8 @@ module _ {M : Type 1} {𝓤 : Ura M} (𝓛 : Logic 𝓤) (mem : Memory → SProp
   -- what the call over the other areas says, for these words of records
   abbrev Said : ℕ → List ℕ → List ℕ → List ℕ → List ℕ → List ℕ → List ℕ → List ℕ → List ℕ → List ℕ → Type 0
   Said r y2 y3 y5 y7 y8 y10 y11 l m =
-      answer r (sharingOf (state_of y2 y3 (zerosAfter l r) y5) (state_of y7 y8 (zerosAfter m r) y10) y11)
-      ≡ freshSharingCall x0.now route (sourcesOf x1.now x6.now) (sharingOf (state_of x2.now x3.now l x5.now) (state_of x7.now x8.now m x10.now)
+      answer r (sharing_of (state_of y2 y3 (zeros_after l r) y5) (state_of y7 y8 (zeros_after m r) y10) y11)
+      ≡ fresh_sharing_call x0.now route (sources_of x1.now x6.now) (sharing_of (state_of x2.now x3.now l x5.now) (state_of x7.now x8.now m x10.now)
       x11.now)
 
   module _ (C : Calls 𝓤 H) (Λ : Loops 𝓤 H) (fm : FmC 𝓤 H 𝓛.laws C)
@@ -194,29 +194,29 @@ module _ {M : Type 1} {𝓤 : Ura M} (𝓛 : Logic 𝓤) (mem : Memory → SProp
         → (r : ℕ) → r < 2 ^ 32 → (y2 y3 y5 y7 y8 y10 y11 : List ℕ)
         → length y2 ≡ length x2.now → length y3 ≡ length x3.now → length y5 ≡ length x5.now → length y7 ≡ length x7.now → length y8
         ≡ length x8.now → length y10 ≡ length x10.now → length y11 ≡ length x11.now
-        → Said r y2 y3 y5 y7 y8 y10 y11 (flatWords x4.now) (flatWords x9.now)
-        → Sq 𝓛 (At (‵ (froom (ty_int w64) l14 0)) (‵ (froom (ty_int w64) l15 0)) (‵ (fat full_share word l16 0 (vint w32 r))) (sepAll 𝓤 Lives ∷ ‵ (flft κ4 q4)
+        → Said r y2 y3 y5 y7 y8 y10 y11 (flat_words x4.now) (flat_words x9.now)
+        → Sq 𝓛 (At (‵ (froom (ty_int w64) l14 0)) (‵ (froom (ty_int w64) l15 0)) (‵ (fat full_share word l16 0 (vint w32 r))) (sep_all 𝓤 Lives ∷ ‵ (flft κ4 q4)
         ∷ ‵ (flft κ9 q9) ∷ ‵ ((MutSlice (named 4) κ4 R).own_val x4 (slice x4 ∷ [])) ∷ ‵ ((MutSlice (named 9) κ9 R).own_val x9 (slice x9 ∷ []))
         ∷ ‵ (finally u32 x2.name y2) ∷ ‵ (finally u32 x3.name y3) ∷ ‵ (finally u8 x5.name y5) ∷ ‵ (finally u32 x7.name y7)
         ∷ ‵ (finally u32 x8.name y8) ∷ ‵ (finally u8 x10.name y10) ∷ ‵ (finally u32 x11.name y11) ∷ []))
         (runs C Λ En mir'.t-20 (at_ret En Post))
     cleared known₂ r fits y2 y3 y5 y7 y8 y10 y11 e2 e3 e5 e7 e8 e10 e11 said =
-        lends-on ! 60 6 4 refl refl refl refl refl (sub ! 0 refl (whole !)) (sub ! 1 refl (whole !)) (tt, tt) (tt, (tt, (record { fits = g4.0 }, tt))) $
+        lends_on ! 60 6 4 refl refl refl refl refl (sub ! 0 refl (whole !)) (sub ! 1 refl (whole !)) (tt, tt) (tt, (tt, (record { fits = g4.0 }, tt))) $
         move ! (75 ∷ 77 ∷ []) $
-        clears-at mem run κ4 q4 x4 ! fm known₂ (named 4) r fits (and_then ! (local ! 5 refl) (and_then ! (local ! 41 refl) (no_more !))) (λ y4 e4 put4.
+        clears_at mem run κ4 q4 x4 ! fm known₂ (named 4) r fits (and_then ! (local ! 5 refl) (and_then ! (local ! 41 refl) (no_more !))) (λ y4 e4 put4.
         land ! (from ! (stop !)) (init ! 10 refl (tt, tt)) $ forget ! 10 refl $
-        lends-on ! 52 4 2 refl refl refl refl refl (sub ! 0 refl (whole !)) (sub ! 1 refl (whole !)) (tt, tt) (tt, (tt, (record { fits = g9.0 }, tt))) $
+        lends_on ! 52 4 2 refl refl refl refl refl (sub ! 0 refl (whole !)) (sub ! 1 refl (whole !)) (tt, tt) (tt, (tt, (record { fits = g9.0 }, tt))) $
         move ! (77 ∷ 78 ∷ []) $
-        clears-at mem run κ9 q9 x9 ! fm known₂ (named 9) r fits (and_then ! (local ! 3 refl) (and_then ! (local ! 43 refl) (no_more !))) (λ y9 e9 put9.
+        clears_at mem run κ9 q9 x9 ! fm known₂ (named 9) r fits (and_then ! (local ! 3 refl) (and_then ! (local ! 43 refl) (no_more !))) (λ y9 e9 put9.
         land ! (from ! (stop !)) (init ! 12 refl (tt, tt)) $ forget ! 12 refl $
         assigns ! (of_opd ! (local ! 44 refl)) (from ! (stop !)) (init ! 76 refl (tt, record { fits = fits })) $
         returns ! (look ! 76 refl) $ forget ! 76 refl $ forgets ! 50 Held refl $ forget ! 44 refl $
         forgets ! 4 (((_, _), _) ∷ ((_, _), _) ∷ ((_, _), _) ∷ ((_, _), _) ∷ []) refl $
         sorts ! 4 74 (keep ! (4 ∷ 2 ∷ 0 ∷ 5 ∷ 6 ∷ 3 ∷ 7 ∷ 8 ∷ 9 ∷ 1 ∷ 10 ∷ 11 ∷ [])) $ turned ! 37 $
         free_all ! _ $ by ! (exits r y2 y3 y4 y5 y7 y8 y9 y10 y11 fits e2 e3 e4 e5 e7 e8 e9 e10 e11
-        (ap (λ (l : List ℕ). answer r (sharingOf (state_of y2 y3 l y5) (state_of y7 y8 (flatWords y9) y10) y11)) (ap (λ (l : List Progress). flatWords l) put4
-        ∙ cleared-after x4.now r) ∙ ap (λ (l : List ℕ). answer r (sharingOf (state_of y2 y3 (zerosAfter (flatWords x4.now) r) y5) (state_of y7 y8 l y10) y11))
-        (ap (λ (l : List Progress). flatWords l) put9 ∙ cleared-after x9.now r) ∙ said))))
+        (ap (λ (l : List ℕ). answer r (sharing_of (state_of y2 y3 l y5) (state_of y7 y8 (flat_words y9) y10) y11)) (ap (λ (l : List Progress). flat_words l) put4
+        ∙ cleared_after x4.now r) ∙ ap (λ (l : List ℕ). answer r (sharing_of (state_of y2 y3 (zeros_after (flat_words x4.now) r) y5) (state_of y7 y8 l y10) y11))
+        (ap (λ (l : List Progress). flat_words l) put9 ∙ cleared_after x9.now r) ∙ said))))
 
     begun : Triple 𝓤 (C #sharing·core·fresh) (Words 𝓛 mem run) → Triple 𝓤 (C #records·clear) (Clear 𝓛 mem run)
         → Sq 𝓛 (At (‵ (froom (ty_int w64) l14 0)) (‵ (froom (ty_int w64) l15 0)) (‵ (froom word l16 0)) (Toks ++ slices 𝓤 params κs given))
@@ -224,32 +224,32 @@ module _ {M : Type 1} {𝓤 : Ura M} (𝓛 : Logic 𝓤) (mem : Memory → SProp
     begun known₁ known₂ =
         assigns ! (of_opd ! (load ! (from ! (fld ! refl (stop !))) (look_in ! 60 (sub ! 1 refl (whole !))))) (from ! (stop !))
         (init ! 38 refl (tt, record { fits = g4.0 })) $
-        assigns ! (bin ! (lit ! tt) (local ! 38 refl) (record { fits = words-fit (length x4.now) g4.1 })) (from ! (stop !))
-        (init ! 44 refl (tt, record { fits = words-fit (length x4.now) g4.1 })) $
+        assigns ! (bin ! (lit ! tt) (local ! 38 refl) (record { fits = words_fit (length x4.now) g4.1 })) (from ! (stop !))
+        (init ! 44 refl (tt, record { fits = words_fit (length x4.now) g4.1 })) $
         forget ! 38 refl $
         assigns ! (of_opd ! (load ! (from ! (fld ! refl (stop !))) (look_in ! 50 (sub ! 1 refl (whole !))))) (from ! (stop !))
         (init ! 38 refl (tt, record { fits = g9.0 })) $
-        assigns ! (bin ! (lit ! tt) (local ! 38 refl) (record { fits = words-fit (length x9.now) g9.1 })) (from ! (stop !))
-        (init ! 42 refl (tt, record { fits = words-fit (length x9.now) g9.1 })) $
+        assigns ! (bin ! (lit ! tt) (local ! 38 refl) (record { fits = words_fit (length x9.now) g9.1 })) (from ! (stop !))
+        (init ! 42 refl (tt, record { fits = words_fit (length x9.now) g9.1 })) $
         forget ! 38 refl $
-        lends-on ! 64 36 34 refl refl refl refl refl (sub ! 0 refl (whole !)) (sub ! 1 refl (whole !)) (tt, tt) (tt, (tt, (record { fits = g2.0 }, tt))) $
-        lends-on ! 62 32 30 refl refl refl refl refl (sub ! 0 refl (whole !)) (sub ! 1 refl (whole !)) (tt, tt) (tt, (tt, (record { fits = g3.0 }, tt))) $
-        lends-on ! 58 28 26 refl refl refl refl refl (sub ! 0 refl (whole !)) (sub ! 1 refl (whole !)) (tt, tt) (tt, (tt, (record { fits = g5.0 }, tt))) $
-        lends-on ! 54 24 22 refl refl refl refl refl (sub ! 0 refl (whole !)) (sub ! 1 refl (whole !)) (tt, tt) (tt, (tt, (record { fits = g7.0 }, tt))) $
-        lends-on ! 52 20 18 refl refl refl refl refl (sub ! 0 refl (whole !)) (sub ! 1 refl (whole !)) (tt, tt) (tt, (tt, (record { fits = g8.0 }, tt))) $
-        lends-on ! 48 16 14 refl refl refl refl refl (sub ! 0 refl (whole !)) (sub ! 1 refl (whole !)) (tt, tt) (tt, (tt, (record { fits = g10.0 }, tt))) $
-        lends-on ! 46 12 10 refl refl refl refl refl (sub ! 0 refl (whole !)) (sub ! 1 refl (whole !)) (tt, tt) (tt, (tt, (record { fits = g11.0 }, tt))) $
+        lends_on ! 64 36 34 refl refl refl refl refl (sub ! 0 refl (whole !)) (sub ! 1 refl (whole !)) (tt, tt) (tt, (tt, (record { fits = g2.0 }, tt))) $
+        lends_on ! 62 32 30 refl refl refl refl refl (sub ! 0 refl (whole !)) (sub ! 1 refl (whole !)) (tt, tt) (tt, (tt, (record { fits = g3.0 }, tt))) $
+        lends_on ! 58 28 26 refl refl refl refl refl (sub ! 0 refl (whole !)) (sub ! 1 refl (whole !)) (tt, tt) (tt, (tt, (record { fits = g5.0 }, tt))) $
+        lends_on ! 54 24 22 refl refl refl refl refl (sub ! 0 refl (whole !)) (sub ! 1 refl (whole !)) (tt, tt) (tt, (tt, (record { fits = g7.0 }, tt))) $
+        lends_on ! 52 20 18 refl refl refl refl refl (sub ! 0 refl (whole !)) (sub ! 1 refl (whole !)) (tt, tt) (tt, (tt, (record { fits = g8.0 }, tt))) $
+        lends_on ! 48 16 14 refl refl refl refl refl (sub ! 0 refl (whole !)) (sub ! 1 refl (whole !)) (tt, tt) (tt, (tt, (record { fits = g10.0 }, tt))) $
+        lends_on ! 46 12 10 refl refl refl refl refl (sub ! 0 refl (whole !)) (sub ! 1 refl (whole !)) (tt, tt) (tt, (tt, (record { fits = g11.0 }, tt))) $
         owned ! u32 (Is u32) (uint_Makes 𝓛 w32) route _ (refl, route-fits) $
-        owned ! usize (Is usize) (uint_Makes 𝓛 w64) (3 * length x4.now) _ (refl, words-fit (length x4.now) g4.1) $
-        owned ! usize (Is usize) (uint_Makes 𝓛 w64) (3 * length x9.now) _ (refl, words-fit (length x9.now) g9.1) $
-        move ! (100 ∷ 99 ∷ 0 ∷ 97 ∷ 96 ∷ 95 ∷ 94 ∷ 1 ∷ 92 ∷ 91 ∷ 90 ∷ 2 ∷ 89 ∷ []) $ fjoins ! (owning in-words κw given-words) $
+        owned ! usize (Is usize) (uint_Makes 𝓛 w64) (3 * length x4.now) _ (refl, words_fit (length x4.now) g4.1) $
+        owned ! usize (Is usize) (uint_Makes 𝓛 w64) (3 * length x9.now) _ (refl, words_fit (length x9.now) g9.1) $
+        move ! (100 ∷ 99 ∷ 0 ∷ 97 ∷ 96 ∷ 95 ∷ 94 ∷ 1 ∷ 92 ∷ 91 ∷ 90 ∷ 2 ∷ 89 ∷ []) $ fjoins ! (owning in_words_lem κw given-words) $
         move ! (86 ∷ 85 ∷ 83 ∷ 82 ∷ 81 ∷ 80 ∷ 78 ∷ 77 ∷ 76 ∷ 75 ∷ []) $ joins ! Lives $
         use2 𝓛 (raw ((Words 𝓛 mem run).pre to-words)) goes-words $
         calls_at ! fm (Words 𝓛 mem run) known₁ to-words (and_then ! (local ! 71 refl) (and_then ! (local ! 69 refl) (and_then ! (local ! 67 refl)
         (and_then ! (local ! 35 refl) (and_then ! (local ! 31 refl) (and_then ! (local ! 45 refl) (and_then ! (local ! 27 refl)
         (and_then ! (local ! 57 refl) (and_then ! (local ! 23 refl) (and_then ! (local ! 19 refl) (and_then ! (local ! 43 refl)
         (and_then ! (local ! 15 refl) (and_then ! (local ! 11 refl) (no_more !)))))))))))))) (λ w.
-        comes_back in-words κw given-words ! u32 Lives w _ (ensured 𝓛 words.ended (words.clauses 𝓛 mem run) κw given-words tt)
+        comes_back in_words_lem κw given-words ! u32 Lives w _ (ensured 𝓛 words.ended (words.clauses 𝓛 mem run) κw given-words tt)
         (λ r us. (l m : List ℕ) → 3 * length x4.now ≡ length l → 3 * length x9.now ≡ length m → Said r us.1.1.1.0 us.1.1.1.1.0
         us.1.1.1.1.1.1.0 us.1.1.1.1.1.1.1.1.0 us.1.1.1.1.1.1.1.1.1.0 us.1.1.1.1.1.1.1.1.1.1.1.0
         us.1.1.1.1.1.1.1.1.1.1.1.1.0 l m)
@@ -266,19 +266,19 @@ module _ {M : Type 1} {𝓤 : Ura M} (𝓛 : Logic 𝓤) (mem : Memory → SProp
         (((_, _), _) ∷ ((_, _), _) ∷ ((_, _), _) ∷ ((_, _), _) ∷ ((_, _), _) ∷ ((_, _), _) ∷ ((_, _), _) ∷ ((_, _), _) ∷ ((_, _), _)
         ∷ ((_, _), _) ∷ ((_, _), _) ∷ ((_, _), _) ∷ ((_, _), _) ∷ ((_, _), _) ∷ []) refl $
         sorts ! 15 74 (keep ! (1 ∷ 15 ∷ 16 ∷ 17 ∷ 18 ∷ 8 ∷ 7 ∷ 6 ∷ 5 ∷ 4 ∷ 3 ∷ 2 ∷ [])) $
-        cleared known₂ r is'.1 us.1.1.1.0 us.1.1.1.1.0 us.1.1.1.1.1.1.0 us.1.1.1.1.1.1.1.1.0 us.1.1.1.1.1.1.1.1.1.0 us.1.1.1.1.1.1.1.1.1.1.1.0 us.1.1.1.1.1.1.1.1.1.1.1.1.0 e2 e3 e5 e7 e8 e10 e11 (said (flatWords x4.now)
-        (flatWords x9.now) (sym (length-words x4.now)) (sym (length-words x9.now)))))))))))))
+        cleared known₂ r is'.1 us.1.1.1.0 us.1.1.1.1.0 us.1.1.1.1.1.1.0 us.1.1.1.1.1.1.1.1.0 us.1.1.1.1.1.1.1.1.1.0 us.1.1.1.1.1.1.1.1.1.1.1.0 us.1.1.1.1.1.1.1.1.1.1.1.1.0 e2 e3 e5 e7 e8 e10 e11 (said (flat_words x4.now)
+        (flat_words x9.now) (sym (length_words x4.now)) (sym (length_words x9.now)))))))))))))
 
   walk : (C : Calls 𝓤 H) (Λ : Loops 𝓤 H) → FmC 𝓤 H 𝓛.laws C
       → Triple 𝓤 (C #sharing·core·fresh) (Words 𝓛 mem run)
       → Triple 𝓤 (C #records·clear) (Clear 𝓛 mem run)
       → ent 𝓤 (on_entry 𝓛 fresh.signature κs qs given (values params κs given)) (WpFn 𝓤 H C Λ code.function (row params κs given) Post)
   walk C Λ fm known₁ known₂ =
-      qed 𝓛 (sepAll 𝓤 Toks ∷ ‵ (fsepAll (owning params κs given)) ∷ []) ∵
+      qed 𝓛 (sep_all 𝓤 Toks ∷ ‵ (fsep_all (owning params κs given)) ∷ []) ∵
       enter ! C Λ code.function (row params κs given) _ $
       allots ! _ (λ l0 l1 l2 l3 l4 l5 l6 l7 l8 l9 l10 l11 l12 l13 l14 l15 l16 l17 l18 l19 l20 l21 l22 l23 l24 l25 l26 l27 l28 l29 l30 l31 l32 l33 l34
       l35 l36.
-      takes-in params κs given (l1 ∷ l2 ∷ l3 ∷ l4 ∷ l5 ∷ l6 ∷ l7 ∷ l8 ∷ l9 ∷ l10 ∷ l11 ∷ l12 ∷ l13 ∷ []) !
+      takes_in params κs given (l1 ∷ l2 ∷ l3 ∷ l4 ∷ l5 ∷ l6 ∷ l7 ∷ l8 ∷ l9 ∷ l10 ∷ l11 ∷ l12 ∷ l13 ∷ []) !
       (g0.0, (route-fits, (g1.0, (g2.0, (g3.0, (g4.0, (g5.0, (g6.0, (g7.0, (g8.0, (g9.0, (g10.0, (g11.0, tt))))))))))))) _ _ $
       fronts ! 28 46 $ turned ! 23 $ move ! (75 ∷ []) $ fsplits ! (owning params κs given) $ move ! (87 ∷ []) $
       splits ! Toks $

@@ -35,9 +35,9 @@ use denote.Triple.Table.{entered, cited}
 use denote.Triple.Walked.{says, Stays, walk_of, ends_at, walked, walk_Meets}
 use Rattle.machine.specs.Machine.{state_of}
 use Rattle.engine.specs.Calls.{answer}
-use Rattle.tenants.specs.Tenants.{tenantAreas}
-use Rattle.sharing.specs.Calls.{collectCallFor}
-use Rattle.records.specs.Records.{flatWords, Flattens}
+use Rattle.tenants.specs.Tenants.{tenant_areas}
+use Rattle.sharing.specs.Calls.{collect_call_for}
+use Rattle.records.specs.Records.{flat_words, Flattens}
 use Rattle.records.specs.declared.Progress.{Progress}
 use Rattle.records.specs.declared.Flat.{Flat}
 use Rattle.records.proofs.Locals.{rooms, holds, free_all}
@@ -52,11 +52,11 @@ use Rattle.sharing.proofs.core.collect.Symbol.{name as #sharing·core·collect}
 use Rattle.sharing.proofs.core.collect.Met as words-thm
 use Rattle.calls.proofs.Walking.{R, F, low, word, words32, records}
 use Rattle.calls.proofs.Params.{Param, number32, flat, reads, changes, Lent, stays, go, spells, tell, values, row, tokens, owning, slices}
-use Rattle.calls.proofs.Params.{had, env, held, takes-in, comes_back}
-use Rattle.calls.proofs.Lending.{lends-on}
+use Rattle.calls.proofs.Params.{had, env, held, takes_in, comes_back}
+use Rattle.calls.proofs.Lending.{lends_on}
 use Rattle.calls.proofs.Orders.{forgets, sorts, fronts, turned}
 use Rattle.calls.proofs.Entering.{allots}
-use Rattle.calls.proofs.Walking.{local, rising, sepAll, fsepAll, splits, joins, fsplits, fjoins, Flatten, flattens}
+use Rattle.calls.proofs.Walking.{local, rising, sep_all, fsep_all, splits, joins, fsplits, fjoins, Flatten, flattens}
 use Rattle.calls.specs.contracts.tenant.rolwyddac_tenant_collect.Key.{name as #calls·collect}
 use Rattle.calls.specs.contracts.tenant.rolwyddac_tenant_collect as collect
 use Rattle.calls.proofs.tenant.rolwyddac_tenant_collect.Statement as stated
@@ -69,8 +69,8 @@ params =
     reads 0 tt u8 ∷ number32 ∷ reads 1 tt u32 ∷ reads 2 tt u32 ∷ reads 3 tt u32 ∷ reads 4 tt R ∷ reads 5 tt u8 ∷ reads 6 tt u32 ∷ reads 7 tt R ∷ number32
     ∷ changes 8 tt u32 ∷ []
 
-abbrev in-words : List (Param 7)
-in-words =
+abbrev in_words_lem : List (Param 7)
+in_words_lem =
     reads 0 tt u8 ∷ number32 ∷ reads 1 tt u32 ∷ reads 2 tt u32 ∷ reads 3 tt u32 ∷ flat ∷ reads 4 tt u8 ∷ reads 5 tt u32 ∷ flat ∷ number32 ∷ changes 6 tt u32
     ∷ []
 
@@ -113,7 +113,7 @@ module _ {M : Type 1} {𝓤 : Ura M} (𝓛 : Logic 𝓤) (mem : Memory → SProp
   abbrev given : Lent κs params
   given = (x0, (route, (x1, (x2, (x3, (x4, (x5, (x6, (x7, (tenant, (x8, tt)))))))))))
 
-  abbrev given-words : Flat → Flat → Lent κw in-words
+  abbrev given-words : Flat → Flat → Lent κw in_words_lem
   given-words f g = (x0, (route, (x1, (x2, (x3, (f, (x5, (x6, (g, (tenant, (x8, tt)))))))))))
 
   abbrev entry : (walk_of 𝓛 collect.ended stayed (collect.clauses 𝓛 mem run)).Ghost
@@ -129,20 +129,20 @@ module _ {M : Type 1} {𝓤 : Ura M} (𝓛 : Logic 𝓤) (mem : Memory → SProp
   Lives = tokens 𝓤 7 κw qw
 
   abbrev to-words : Flat → Flat → (Words 𝓛 mem run).Ghost
-  to-words f g = ((κw, qw, tt, given-words f g, values in-words κw (given-words f g)), tt)
+  to-words f g = ((κw, qw, tt, given-words f g, values in_words_lem κw (given-words f g)), tt)
 
   goes-words : (f : Flat) (g : Flat) → (length f.words ≡ 192) × (length g.words ≡ 192)
-      → ent 𝓤 (⋆ 𝓛 (sepAll 𝓤 Lives ∷ ‵ (fsepAll (owning in-words κw (given-words f g))) ∷ [])) ((Words 𝓛 mem run).pre (to-words f g))
-  goes-words f g w = qed 𝓛 (sepAll 𝓤 Lives ∷ ‵ (fsepAll (owning in-words κw (given-words f g))) ∷ []) ∵ says ! w $ done !
+      → ent 𝓤 (⋆ 𝓛 (sep_all 𝓤 Lives ∷ ‵ (fsep_all (owning in_words_lem κw (given-words f g))) ∷ [])) ((Words 𝓛 mem run).pre (to-words f g))
+  goes-words f g w = qed 𝓛 (sep_all 𝓤 Lives ∷ ‵ (fsep_all (owning in_words_lem κw (given-words f g))) ∷ []) ∵ says ! w $ done !
 
   exits : (r : ℕ) (y8 : List ℕ) → r < 2 ^ 32
       → length y8 ≡ length x8.now
       → answer r y8
-      ≡ collectCallFor x0.now route x1.now tenant (tenantAreas (state_of x2.now x3.now (flatWords x4.now) x5.now) x6.now) (flatWords x7.now)
+      ≡ collect_call_for x0.now route x1.now tenant (tenant_areas (state_of x2.now x3.now (flat_words x4.now) x5.now) x6.now) (flat_words x7.now)
       x8.now
-      → ent 𝓤 (⋆ 𝓛 (sepAll 𝓤 Lives ∷ ‵ (flft κ4 q4) ∷ ‵ (flft κ7 q7) ∷ ‵ (finally u32 x8.name y8) ∷ [])) (Post (vint w32 r))
+      → ent 𝓤 (⋆ 𝓛 (sep_all 𝓤 Lives ∷ ‵ (flft κ4 q4) ∷ ‵ (flft κ7 q7) ∷ ‵ (finally u32 x8.name y8) ∷ [])) (Post (vint w32 r))
   exits r y8 fits e8 said =
-      qed 𝓛 (sepAll 𝓤 Lives ∷ ‵ (flft κ4 q4) ∷ ‵ (flft κ7 q7) ∷ ‵ (finally u32 x8.name y8) ∷ []) ∵
+      qed 𝓛 (sep_all 𝓤 Lives ∷ ‵ (flft κ4 q4) ∷ ‵ (flft κ7 q7) ∷ ‵ (finally u32 x8.name y8) ∷ []) ∵
       suffices ! _ (ends_at 𝓛 collect.ended stayed (collect.clauses 𝓛 mem run) entry (vint w32 r) r
       (tt, (tt, (tt, (tt, (tt, (tt, (tt, (tt, (tt, (tt, (y8, tt)))))))))))
       (tt, (tt, (tt, (tt, (tt, (tt, (tt, (tt, (tt, (tt, (e8, tt)))))))))))) $ says ! said $
@@ -168,24 +168,24 @@ module _ {M : Type 1} {𝓤 : Ura M} (𝓛 : Logic 𝓤) (mem : Memory → SProp
         (rooms 𝓤 ((word, l0) ∷ []) more))
 
     worded : Triple 𝓤 (C #sharing·core·collect) (Words 𝓛 mem run)
-        → (f : Flat) → Is F f (low f ∷ []) → Flattens f (flatWords x4.now) → (g : Flat) → Is F g (low g ∷ []) → Flattens g (flatWords x7.now)
-        → Sq 𝓛 (At (‵ (fat full_share S'.mir l12 0 (low f))) (‵ (fat full_share S'.mir l13 0 (low g))) (Toks ++ slices 𝓤 in-words κw (given-words f g)))
+        → (f : Flat) → Is F f (low f ∷ []) → Flattens f (flat_words x4.now) → (g : Flat) → Is F g (low g ∷ []) → Flattens g (flat_words x7.now)
+        → Sq 𝓛 (At (‵ (fat full_share S'.mir l12 0 (low f))) (‵ (fat full_share S'.mir l13 0 (low g))) (Toks ++ slices 𝓤 in_words_lem κw (given-words f g)))
         (runs C Λ En mir'.t-3 (at_ret En Post))
     worded known₁ f is_f e-f g is-g e-g =
-        lends-on ! 8 2 0 refl refl refl refl refl (sub ! 0 refl (whole !)) (sub ! 1 refl (whole !)) (tt, tt) (tt, (tt, (record { fits = g8.0 }, tt))) $
+        lends_on ! 8 2 0 refl refl refl refl refl (sub ! 0 refl (whole !)) (sub ! 1 refl (whole !)) (tt, tt) (tt, (tt, (record { fits = g8.0 }, tt))) $
         owned ! u32 (Is u32) (uint_Makes 𝓛 w32) route _ (refl, route-fits) $
         owned ! F (Is F) (LL.makes S.the_type S'.the_plain 𝓛) f _ is_f $
         owned ! F (Is F) (LL.makes S.the_type S'.the_plain 𝓛) g _ is-g $
         owned ! u32 (Is u32) (uint_Makes 𝓛 w32) tenant _ (refl, tenant-fits) $
-        move ! (51 ∷ 0 ∷ 1 ∷ 50 ∷ 49 ∷ 2 ∷ 48 ∷ 47 ∷ 46 ∷ 3 ∷ 45 ∷ []) $ fjoins ! (owning in-words κw (given-words f g)) $
+        move ! (51 ∷ 0 ∷ 1 ∷ 50 ∷ 49 ∷ 2 ∷ 48 ∷ 47 ∷ 46 ∷ 3 ∷ 45 ∷ []) $ fjoins ! (owning in_words_lem κw (given-words f g)) $
         move ! (41 ∷ 39 ∷ 38 ∷ 36 ∷ 35 ∷ 34 ∷ 33 ∷ []) $ joins ! Lives $
         use2 𝓛 (raw ((Words 𝓛 mem run).pre (to-words f g))) (goes-words f g (e-f.room, e-g.room)) $
         calls_at ! fm (Words 𝓛 mem run) known₁ (to-words f g) (and_then ! (local ! 29 refl) (and_then ! (local ! 27 refl) (and_then ! (local ! 25 refl)
         (and_then ! (local ! 23 refl) (and_then ! (local ! 21 refl) (and_then ! (local ! 7 refl) (and_then ! (local ! 17 refl) (and_then ! (local ! 15 refl)
         (and_then ! (local ! 5 refl) (and_then ! (local ! 11 refl) (and_then ! (local ! 1 refl) (no_more !)))))))))))) (λ w.
-        comes_back in-words κw (given-words f g) ! u32 Lives w _ (ensured 𝓛 words.ended (words.clauses 𝓛 mem run) κw (given-words f g) tt)
-        (λ r us. (l m : List ℕ) → Flattens f l → Flattens g m → answer r us.1.1.1.1.1.1.1.1.1.1.0 ≡ collectCallFor x0.now route x1.now tenant
-        (tenantAreas (state_of x2.now x3.now l x5.now) x6.now) m x8.now)
+        comes_back in_words_lem κw (given-words f g) ! u32 Lives w _ (ensured 𝓛 words.ended (words.clauses 𝓛 mem run) κw (given-words f g) tt)
+        (λ r us. (l m : List ℕ) → Flattens f l → Flattens g m → answer r us.1.1.1.1.1.1.1.1.1.1.0 ≡ collect_call_for x0.now route x1.now tenant
+        (tenant_areas (state_of x2.now x3.now l x5.now) x6.now) m x8.now)
         (id⊢ 𝓤 _) (λ r. id⊢ 𝓤 _) (λ r us said.
         split ! $ move ! (1 ∷ []) $ feq_l ! (λ e8. move ! (11 ∷ []) $ split ! $ move ! (1 ∷ []) $
         peeks ! u32 (Is u32) (shows 𝓛 u32) r (w ∷ []) (λ is'.
@@ -195,7 +195,7 @@ module _ {M : Type 1} {𝓤 : Ura M} (𝓛 : Logic 𝓤) (mem : Memory → SProp
         forgets ! 13 (((_, _), _) ∷ ((_, _), _) ∷ ((_, _), _) ∷ ((_, _), _) ∷ ((_, _), _) ∷ ((_, _), _) ∷ ((_, _), _) ∷ ((_, _), _) ∷ ((_, _), _)
         ∷ ((_, _), _) ∷ ((_, _), _) ∷ ((_, _), _) ∷ ((_, _), _) ∷ ((_, _), _) ∷ ((_, _), _) ∷ ((_, _), _) ∷ []) refl $
         sorts ! 13 32 (keep ! (1 ∷ 13 ∷ 14 ∷ 2 ∷ [])) $ turned ! 16 $
-        free_all ! _ $ by ! (exits r us.1.1.1.1.1.1.1.1.1.1.0 is'.1 e8 (said (flatWords x4.now) (flatWords x7.now) e-f e-g))))))
+        free_all ! _ $ by ! (exits r us.1.1.1.1.1.1.1.1.1.1.0 is'.1 e8 (said (flat_words x4.now) (flat_words x7.now) e-f e-g))))))
 
     begun : Triple 𝓤 (C #records·flatten) (Flatten 𝓛 mem run) → Triple 𝓤 (C #sharing·core·collect) (Words 𝓛 mem run)
         → Sq 𝓛 (At (‵ (froom S'.mir l12 0)) (‵ (froom S'.mir l13 0)) (Toks ++ slices 𝓤 params κs given))
@@ -214,10 +214,10 @@ module _ {M : Type 1} {𝓤 : Ura M} (𝓛 : Logic 𝓤) (mem : Memory → SProp
       → Triple 𝓤 (C #sharing·core·collect) (Words 𝓛 mem run)
       → ent 𝓤 (on_entry 𝓛 collect.signature κs qs given (values params κs given)) (WpFn 𝓤 H C Λ code.function (row params κs given) Post)
   walk C Λ fm known₀ known₁ =
-      qed 𝓛 (sepAll 𝓤 Toks ∷ ‵ (fsepAll (owning params κs given)) ∷ []) ∵
+      qed 𝓛 (sep_all 𝓤 Toks ∷ ‵ (fsep_all (owning params κs given)) ∷ []) ∵
       enter ! C Λ code.function (row params κs given) _ $
       allots ! _ (λ l0 l1 l2 l3 l4 l5 l6 l7 l8 l9 l10 l11 l12 l13 l14 l15.
-      takes-in params κs given (l1 ∷ l2 ∷ l3 ∷ l4 ∷ l5 ∷ l6 ∷ l7 ∷ l8 ∷ l9 ∷ l10 ∷ l11 ∷ []) !
+      takes_in params κs given (l1 ∷ l2 ∷ l3 ∷ l4 ∷ l5 ∷ l6 ∷ l7 ∷ l8 ∷ l9 ∷ l10 ∷ l11 ∷ []) !
       (g0.0, (route-fits, (g1.0, (g2.0, (g3.0, (g4.0, (g5.0, (g6.0, (g7.0, (tenant-fits, (g8.0, tt))))))))))) _ _ $
       fronts ! 24 8 $ turned ! 4 $ move ! (33 ∷ []) $ fsplits ! (owning params κs given) $ move ! (43 ∷ []) $
       splits ! Toks $

@@ -1,7 +1,7 @@
 use native.Mathlib.Omega.{arith}
 use mathlib.Core.Path.{sym, ◌∙◌}
 use Rattle.nest.specs.Spans.{within}
-use Rattle.chart.proofs.grid_text.Steps.{in-room, in-done, out-room, out-done}
+use Rattle.chart.proofs.grid_text.Steps.{in_room, in_done, out_room, out_done}
 use borrow.Author.Rules.{rules}
 use Rattle.chart.proofs.grid_text.put_cell.Statement.{statement}
 use Rattle.chart.proofs.grid_text.put_cell.Tie as tie
@@ -18,7 +18,7 @@ shared-slice-read-put-decimal c = search rules
 put-decimal-requires : tie.Need-put-decimal-requires
 put-decimal-requires c κs =
     let c6 = c.before.before.before.before.before.before in
-    in-room c6.args.grid.now (within c6.args.s) c6.args.at c6.args.c c6.requires.0 (sym c.before.before.before.has.ensures ∙
+    in_room c6.args.grid.now (within c6.args.s) c6.args.at c6.args.c c6.requires.0 (sym c.before.before.before.has.ensures ∙
     c.before.before.if1.true)
 
 same_length : tie.Need-same-length
@@ -28,7 +28,7 @@ returns : tie.Need-returns
 returns c =
     let c6 = c.before.before.before.before.before.before in
     let c9 = c6.before.before.before in
-    in-done c9.args.grid.now (within c9.args.s) c9.args.at c9.args.c c9.requires.0 (sym c6.has.ensures ∙
+    in_done c9.args.grid.now (within c9.args.s) c9.args.at c9.args.c c9.requires.0 (sym c6.has.ensures ∙
     c.before.before.before.before.before.if1.true) _ _ c.before.before.put-decimal.ensures
 
 slice-aggregate-put-bytes : tie.Need-slice-aggregate-put-bytes
@@ -37,7 +37,7 @@ slice-aggregate-put-bytes c = search rules
 put-bytes-requires : tie.Need-put-bytes-requires
 put-bytes-requires c κs =
     let c6 = c.before.before.before.before.before.before in
-    out-room c6.args.grid.now (within c6.args.s) c6.args.at c6.args.c c6.requires.0 (sym c.before.before.before.has.ensures ∙
+    out_room c6.args.grid.now (within c6.args.s) c6.args.at c6.args.c c6.requires.0 (sym c.before.before.before.has.ensures ∙
     c.before.before.if1.false)
 
 same-length-2 : tie.Need-same-length-2
@@ -47,7 +47,7 @@ returns-2 : tie.Need-returns-2
 returns-2 c =
     let c6 = c.before.before.before.before.before.before in
     let c9 = c6.before.before.before in
-    out-done c9.args.grid.now (within c9.args.s) c9.args.at c9.args.c c9.requires.0 (sym c6.has.ensures ∙
+    out_done c9.args.grid.now (within c9.args.s) c9.args.at c9.args.c c9.requires.0 (sym c6.has.ensures ∙
     c.before.before.before.before.before.if1.false) _ _ c.before.before.put-bytes.ensures
 
 pub put-cell-spec : {M : Type 1} → statement M

@@ -2,14 +2,14 @@ use Rattle.nest.specs.Spans.{within}
 use borrow.Author.Rules.{rules}
 use mathlib.Core.Path.{◌≡◌}
 use native.Mathlib.Omega.{arith}
-use Rattle.chart.proofs.grid_text.Steps.{row-feed, row-over, row-cell, row_more, row_done}
+use Rattle.chart.proofs.grid_text.Steps.{row_feed, row_over, row_cell, row_more, row_done}
 use Rattle.chart.proofs.grid_text.put_row.Statement.{statement}
 use Rattle.chart.proofs.grid_text.put_row.Tie as tie
 
 put-requires : tie.Need-put-requires
 put-requires c κs =
     let h : c.before.before.before.before.args.n ≡ 0 = search rules in
-    row-feed c.before.before.before.before.args.grid.now (within c.before.before.before.before.args.s)
+    row_feed c.before.before.before.before.args.grid.now (within c.before.before.before.before.args.s)
     c.before.before.before.before.args.at c.before.before.before.before.args.c c.before.before.before.before.args.n
     c.before.before.before.before.requires.0 h
 
@@ -19,7 +19,7 @@ same_length c = search rules
 returns : tie.Need-returns
 returns c =
     let h : c.before.before.before.before.before.before.before.args.n ≡ 0 = search rules in
-    row-over c.before.before.before.before.before.before.before.args.grid.now (within
+    row_over c.before.before.before.before.before.before.before.args.grid.now (within
     c.before.before.before.before.before.before.before.args.s) c.before.before.before.before.before.before.before.args.at
     c.before.before.before.before.before.before.before.args.c c.before.before.before.before.before.before.before.args.n
     c.before.before.before.before.before.before.before.requires.0 h _ _ c.before.before.put.ensures
@@ -27,7 +27,7 @@ returns c =
 put-cell-requires : tie.Need-put-cell-requires
 put-cell-requires c κs =
     let h : c.before.before.before.before.args.n ≡ 0 → ⊥ = search rules in (
-      row-cell c.before.before.before.before.args.grid.now (within c.before.before.before.before.args.s)
+      row_cell c.before.before.before.before.args.grid.now (within c.before.before.before.before.args.s)
           c.before.before.before.before.args.at c.before.before.before.before.args.c c.before.before.before.before.args.n
           c.before.before.before.before.requires.0 h,
       omega (arith, c.before.before.before.before.requires.1.0),
@@ -71,7 +71,7 @@ returns-2 c =
     c.before.before.before.before.before.before.before.before.before.before.before.args.c
     c.before.before.before.before.before.before.before.before.before.before.before.args.n
     c.before.before.before.before.before.before.before.before.before.before.before.requires.0 h _ _ _
-    c.before.before.before.before.before.before.put-cell.ensures _ c.before.before.put-more.ensures
+    c.before.before.before.before.before.before.put-cell.ensures _ c.before.before.put_more.ensures
 
 pub put-row-spec : {M : Type 1} → statement M
 put-row-spec =

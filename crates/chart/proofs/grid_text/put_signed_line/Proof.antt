@@ -1,26 +1,26 @@
 use borrow.Author.Rules.{rules}
 use Rattle.text.specs.Decimal.{signed}
 use Rattle.text.specs.Writing.{pen}
-use Rattle.chart.proofs.grid_text.Steps.{back-room, back-wrote, line-name, line-gap, line-value, line-feed, line-done}
+use Rattle.chart.proofs.grid_text.Steps.{back_room, back_wrote, line_name, line_gap, line_value, line_feed, line_done}
 use Rattle.chart.proofs.grid_text.put_signed_line.Statement.{statement}
 use Rattle.chart.proofs.grid_text.put_signed_line.Tie as tie
 
 put-bytes-requires : tie.Need-put-bytes-requires
 put-bytes-requires c κs =
     let c3 = c.before.before.before in
-    line-name c3.args.name.now (signed c3.args.z) (pen c3.args.at c3.args.space.now) c3.requires
+    line_name c3.args.name.now (signed c3.args.z) (pen c3.args.at c3.args.space.now) c3.requires
 
 put-requires : tie.Need-put-requires
 put-requires c κs =
     let c7 = c.before.before.before.before.before.before.before in
-    line-gap c7.args.name.now (signed c7.args.z) (pen c7.args.at c7.args.space.now) c7.requires _
+    line_gap c7.args.name.now (signed c7.args.z) (pen c7.args.at c7.args.space.now) c7.requires _
     c.before.before.before.put-bytes.ensures
 
 put-signed-requires : tie.Need-put-signed-requires
 put-signed-requires c κs =
     let c7 = c.before.before.before.before.before.before.before in
     let c11 = c7.before.before.before.before in
-    back-room c11.args.z c11.ranges.z _ (line-value c11.args.name.now (signed c11.args.z) (pen c11.args.at c11.args.space.now)
+    back_room c11.args.z c11.ranges.z _ (line_value c11.args.name.now (signed c11.args.z) (pen c11.args.at c11.args.space.now)
     c11.requires _ c7.put-bytes.ensures _ c.before.before.before.put.ensures)
 
 put-requires-2 : tie.Need-put-requires-2
@@ -28,8 +28,8 @@ put-requires-2 c κs =
     let c7 = c.before.before.before.before.before.before.before in
     let c11 = c7.before.before.before.before in
     let c15 = c11.before.before.before.before in
-    line-feed c15.args.name.now (signed c15.args.z) (pen c15.args.at c15.args.space.now) c15.requires _ c11.put-bytes.ensures _
-    c7.put.ensures _ (back-wrote c15.args.z c15.ranges.z _ _ c.before.before.before.put-signed.ensures)
+    line_feed c15.args.name.now (signed c15.args.z) (pen c15.args.at c15.args.space.now) c15.requires _ c11.put-bytes.ensures _
+    c7.put.ensures _ (back_wrote c15.args.z c15.ranges.z _ _ c.before.before.before.put-signed.ensures)
 
 same_length : tie.Need-same-length
 same_length c = search rules
@@ -40,8 +40,8 @@ returns c =
     let c10 = c6.before.before.before.before in
     let c14 = c10.before.before.before.before in
     let c18 = c14.before.before.before.before in
-    line-done c18.args.name.now (signed c18.args.z) (pen c18.args.at c18.args.space.now) c18.requires _ c14.put-bytes.ensures _
-    c10.put.ensures _ (back-wrote c18.args.z c18.ranges.z _ _ c6.put-signed.ensures) _ c.before.before.put2.ensures
+    line_done c18.args.name.now (signed c18.args.z) (pen c18.args.at c18.args.space.now) c18.requires _ c14.put-bytes.ensures _
+    c10.put.ensures _ (back_wrote c18.args.z c18.ranges.z _ _ c6.put-signed.ensures) _ c.before.before.put2.ensures
 
 pub put-signed-line-spec : {M : Type 1} → statement M
 put-signed-line-spec =

@@ -9,14 +9,14 @@ row-place-requires : tie.Need-row-place-requires
 row-place-requires c κs = framed c.args.nest c.requires.0
 
 span-requires : tie.Need-span-requires
-span-requires c κs = (framed c.before.args.nest c.before.requires.0, c.row-place.ensures.narrow)
+span-requires c κs = (framed c.before.args.nest c.before.requires.0, c.row_place.ensures.narrow)
 
 returns : tie.Need-returns
 returns c =
     let span = c.before.before.span in
-    let place = c.before.before.before.row-place in
+    let place = c.before.before.before.row_place in
     let start = c.before.before.before.before in
-    rows.shown-none start.args.nest start.requires.0 start.requires.1.0 start.args.i start.args.c start.requires.1.1.0 place.result
+    rows.shown_none start.args.nest start.requires.0 start.requires.1.0 start.args.i start.args.c start.requires.1.1.0 place.result
     span.result place.ensures span.ensures c.if1.true
 
 add-t7 : tie.Need-overflow-add-t7
@@ -25,7 +25,7 @@ add-t7 c =
     let at-row-place = at-span.before in
     let start = at-row-place.before in
     let span = at-span.span in
-    let place = at-row-place.row-place in
+    let place = at-row-place.row_place in
     let low = rows.ends_low start.args.nest start.requires.0 start.requires.1.0 start.args.i start.args.c start.requires.1.1.0 place.result
     span.result place.ensures span.ensures in
     omega (arith, low, c.before.if1.false, start.requires.1.1.1)
@@ -36,7 +36,7 @@ add-t8 c =
     let at-row-place = at-span.before in
     let start = at-row-place.before in
     let span = at-span.span in
-    let place = at-row-place.row-place in
+    let place = at-row-place.row_place in
     let low = rows.ends_low start.args.nest start.requires.0 start.requires.1.0 start.args.i start.args.c start.requires.1.1.0 place.result
     span.result place.ensures span.ensures in
     omega (arith, low, start.requires.1.1.1)
@@ -47,8 +47,8 @@ returns-2 c =
     let at-row-place = at-span.before in
     let start = at-row-place.before in
     let span = at-span.span in
-    let place = at-row-place.row-place in
-    rows.shown-some start.args.nest start.requires.0 start.requires.1.0 start.args.i start.args.c start.requires.1.1.0 place.result
+    let place = at-row-place.row_place in
+    rows.shown_some start.args.nest start.requires.0 start.requires.1.0 start.args.i start.args.c start.requires.1.1.0 place.result
     span.result place.ensures span.ensures
 
 pub shown-spec : {M : Type 1} → statement M

@@ -6,7 +6,7 @@ use Prim.Native.Nat.{◌-◌, ◌≤◌}
 use lib.ListN.{length}
 use Rattle.machine.specs.Machine.{state_of}
 use Rattle.engine.specs.Demands.{calls}
-use Rattle.comparison.specs.drive.Drive.{deliveriesTo, Tried}
+use Rattle.comparison.specs.drive.Drive.{deliveries_to, Tried}
 use Rattle.comparison.proofs.drive.Steps as steps
 use Rattle.comparison.proofs.drive.deliver_each.Statement.{statement}
 use Rattle.comparison.proofs.drive.deliver_each.Tie as tie
@@ -14,7 +14,7 @@ use Rattle.comparison.proofs.drive.deliver_each.Tie as tie
 abbrev invariant-loop : tie.invariant-loop
 invariant-loop encoded source memories buffer progress status₀ messages delivered₀ message₀ status delivered message =
     (length status ≡ length status₀) × ((message ≤ messages) × Tried (calls encoded 0 source) (state_of memories buffer progress status₀)
-    (deliveriesTo message) delivered (state_of memories buffer progress status))
+    (deliveries_to message) delivered (state_of memories buffer progress status))
 
 abbrev decreases-loop : tie.decreases-loop
 decreases-loop encoded source memories buffer progress status₀ messages delivered₀ message₀ status delivered message =
@@ -26,7 +26,7 @@ loop-holds c =
       search rules,
       (
         omega arith,
-        steps.deliveries-start A.encoded.now A.source.now
+        steps.deliveries_start A.encoded.now A.source.now
             (state_of A.memories.now A.buffer.now A.progress.now A.status.now),
       ),
     )
@@ -55,7 +55,7 @@ loop-again c =
       search rules,
       (
         omega (arith, at-loop-test.loop-test.true),
-        steps.deliveries-next A.encoded.now A.source.now (state_of A.memories.now
+        steps.deliveries_next A.encoded.now A.source.now (state_of A.memories.now
             A.buffer.now A.progress.now A.status.now) X.message X.delivered G.result c.noted.result (state_of A.memories.now
             A.buffer.now A.progress.now X.status) _ X.invariant.1.1 G.ensures c.noted.ensures,
       ),
@@ -69,7 +69,7 @@ returns c =
     let start = c.before.before.before.before.before.before.before.before in
     let A = start.args in
     let X = c.before.loop in
-    steps.deliveries-done A.encoded.now A.source.now (state_of A.memories.now A.buffer.now A.progress.now A.status.now) A.messages
+    steps.deliveries_done A.encoded.now A.source.now (state_of A.memories.now A.buffer.now A.progress.now A.status.now) A.messages
     X.message X.delivered (state_of A.memories.now A.buffer.now A.progress.now X.status) X.invariant.1.0 c.loop-test.false X.invariant.1.1
 
 pub deliver-each-spec : {M : Type 1} → statement M

@@ -29,8 +29,8 @@ returns-2 : tie.Need-returns-2
 returns-2 c =
     let start = c.before.before.before.before.before.before.before.before.before in
     let A = start.args in
-    steps.not-delivered A.encoded.now A.source.now (state_of A.memories.now A.buffer.now A.progress.now A.status.now) A.message
-    (sym c.before.in-flight.ensures ∙ c.if1.false)
+    steps.not_delivered A.encoded.now A.source.now (state_of A.memories.now A.buffer.now A.progress.now A.status.now) A.message
+    (sym c.before.in_flight.ensures ∙ c.if1.false)
 
 pub deliver-one-spec : {M : Type 1} → statement M
 deliver-one-spec =

@@ -39,7 +39,7 @@ loop-again c =
     let X = at-loop.loop in
     let G = at-round.round in (
       search rules,
-      laws.drive-next A.encoded.now A.source.now (state_of A.memories.now A.buffer.now A.progress.now A.status.now)
+      laws.drive_next A.encoded.now A.source.now (state_of A.memories.now A.buffer.now A.progress.now A.status.now)
           A.order A.steps X.left (state_of X.memories X.buffer X.progress X.status) _ G.result at-loop-test.loop-test.true
           X.invariant.1
           G.ensures c.if1.true,
@@ -67,8 +67,8 @@ returns c =
     let A = start.args in
     let X = at-loop.loop in
     let G = at-round.round in
-    laws.drive-done A.encoded.now A.source.now (state_of A.memories.now A.buffer.now A.progress.now A.status.now) A.order
-    A.steps _ (λ i. omega (arith, at-shared-slice-known.shared-slice-known.given i)) (laws.drive-none A.encoded.now A.source.now
+    laws.drive_done A.encoded.now A.source.now (state_of A.memories.now A.buffer.now A.progress.now A.status.now) A.order
+    A.steps _ (λ i. omega (arith, at-shared-slice-known.shared-slice-known.given i)) (laws.drive_none A.encoded.now A.source.now
     (state_of A.memories.now A.buffer.now A.progress.now A.status.now) A.order A.steps X.left (state_of X.memories X.buffer
     X.progress X.status) _ G.result at-loop-test.loop-test.true X.invariant.1 G.ensures c.if1.false)
 
@@ -90,8 +90,8 @@ returns-2 c =
     let start = at-shared-slice-known.before in
     let A = start.args in
     let X = c.before.loop in
-    laws.drive-done A.encoded.now A.source.now (state_of A.memories.now A.buffer.now A.progress.now A.status.now) A.order
-    A.steps _ (λ i. omega (arith, at-shared-slice-known.shared-slice-known.given i)) (laws.drive-end A.encoded.now A.source.now
+    laws.drive_done A.encoded.now A.source.now (state_of A.memories.now A.buffer.now A.progress.now A.status.now) A.order
+    A.steps _ (λ i. omega (arith, at-shared-slice-known.shared-slice-known.given i)) (laws.drive_end A.encoded.now A.source.now
     (state_of A.memories.now A.buffer.now A.progress.now A.status.now) A.order A.steps X.left (state_of X.memories X.buffer
     X.progress X.status) (omega (arith, c.loop-test.false)) X.invariant.1)
 

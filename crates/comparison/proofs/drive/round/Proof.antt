@@ -26,7 +26,7 @@ returns c =
     let start = at-turn-each.before.before.before.before.before.before.before.before.before.before.before in
     let A = start.args in
     let G = at-turn-each.turn-each in
-    steps.round-turns A.encoded.now A.source.now (state_of A.memories.now A.buffer.now A.progress.now A.status.now) A.order
+    steps.round_turns A.encoded.now A.source.now (state_of A.memories.now A.buffer.now A.progress.now A.status.now) A.order
     G.result (state_of G.new.1.1.0 G.new.1.1.1.0 G.new.1.1.1.1.0 G.new.1.1.1.1.1.0) G.ensures c.if1.true
 
 deliver-each-requires : tie.Need-deliver-each-requires
@@ -52,7 +52,7 @@ returns-2 c =
     let A = start.args in
     let G = at-turn-each.turn-each in
     let D = c.before.before.deliver-each in
-    steps.round-both A.encoded.now A.source.now (state_of A.memories.now A.buffer.now A.progress.now A.status.now) A.order
+    steps.round_both A.encoded.now A.source.now (state_of A.memories.now A.buffer.now A.progress.now A.status.now) A.order
     G.result D.result (state_of G.new.1.1.0 G.new.1.1.1.0 G.new.1.1.1.1.0 G.new.1.1.1.1.1.0) _ G.ensures
     at-if1.if1.false D.ensures
 

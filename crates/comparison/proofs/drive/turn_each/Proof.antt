@@ -6,7 +6,7 @@ use Prim.Native.Nat.{◌-◌, ◌≤◌}
 use lib.ListN.{length}
 use Rattle.machine.specs.Machine.{state_of}
 use Rattle.engine.specs.Demands.{calls}
-use Rattle.comparison.specs.drive.Drive.{turnsTo, Tried}
+use Rattle.comparison.specs.drive.Drive.{turns_to, Tried}
 use Rattle.comparison.proofs.drive.Steps as steps
 use Rattle.comparison.proofs.drive.turn_each.Statement.{statement}
 use Rattle.comparison.proofs.drive.turn_each.Tie as tie
@@ -14,7 +14,7 @@ use Rattle.comparison.proofs.drive.turn_each.Tie as tie
 abbrev invariant-loop : tie.invariant-loop
 invariant-loop encoded source memories₀ buffer₀ progress₀ status₀ processors falling taken₀ place₀ memories buffer progress status taken place =
     ((length memories ≡ length memories₀) × (length buffer ≡ length buffer₀) × (length progress ≡ length progress₀) × (length status ≡ length status₀)) ×
-    ((place ≤ processors) × Tried (calls encoded 0 source) (state_of memories₀ buffer₀ progress₀ status₀) (turnsTo processors falling place) taken
+    ((place ≤ processors) × Tried (calls encoded 0 source) (state_of memories₀ buffer₀ progress₀ status₀) (turns_to processors falling place) taken
     (state_of memories buffer progress status))
 
 abbrev decreases-loop : tie.decreases-loop
@@ -27,7 +27,7 @@ loop-holds c =
       search rules,
       (
         omega arith,
-        steps.turns-start A.encoded.now A.source.now
+        steps.turns_start A.encoded.now A.source.now
             (state_of A.memories.now A.buffer.now A.progress.now A.status.now) A.processors A.falling,
       ),
     )
@@ -82,7 +82,7 @@ returns c =
     let start = c.before.before.before.before.before.before.before.before in
     let A = start.args in
     let X = c.before.loop in
-    steps.turns-done A.encoded.now A.source.now (state_of A.memories.now A.buffer.now A.progress.now A.status.now) A.processors
+    steps.turns_done A.encoded.now A.source.now (state_of A.memories.now A.buffer.now A.progress.now A.status.now) A.processors
     A.falling X.place X.taken (state_of X.memories X.buffer X.progress X.status) X.invariant.1.0 c.loop-test.false X.invariant.1.1
 
 pub turn-each-spec : {M : Type 1} → statement M

@@ -22,14 +22,14 @@ returns c =
     )
 
 mul-if2 : tie.Need-overflow-mul-if2
-mul-if2 c = let S = c.before.before.before.before.before.before in omega (arith, lines.area-low S.args.nest S.args.sizes S.requires.0)
+mul-if2 c = let S = c.before.before.before.before.before.before in omega (arith, lines.area_low S.args.nest S.args.sizes S.requires.0)
 
 returns-2 : tie.Need-returns-2
 returns-2 c =
     let S = c.before.before.before.before.before.before.before in
     let A = S.args in (
-      λ l h. lines.no-memories (plan_of A.sizes.route A.nest) A.source.now (state_of A.memories.now A.buffer.now l A.status.now)
-          (λ q. c.if2.true (q ∙ sym (lines.area-is A.nest A.sizes S.requires.0))),
+      λ l h. lines.no_memories (plan_of A.sizes.route A.nest) A.source.now (state_of A.memories.now A.buffer.now l A.status.now)
+          (λ q. c.if2.true (q ∙ sym (lines.area_is A.nest A.sizes S.requires.0))),
       λ q. absurd (false≢true q),
     )
 
@@ -49,8 +49,8 @@ returns-4 : tie.Need-returns-4
 returns-4 c =
     let S = c.before.before.before.before.before.before.before.before.before.before in
     let A = S.args in (
-      λ l h. lines.no-progress (plan_of A.sizes.route A.nest) A.source.now (state_of A.memories.now A.buffer.now l A.status.now)
-          (λ q. c.if4.true (h ∙ q ∙ sym (lines.records-are A.nest A.sizes S.requires.0))),
+      λ l h. lines.no_progress (plan_of A.sizes.route A.nest) A.source.now (state_of A.memories.now A.buffer.now l A.status.now)
+          (λ q. c.if4.true (h ∙ q ∙ sym (lines.records_are A.nest A.sizes S.requires.0))),
       λ q. absurd (false≢true q),
     )
 
@@ -62,9 +62,9 @@ returns-5 c =
     let S = at_totals.before.before.before.before.before in
     let A = S.args in
     let T = at_totals.totals.ensures in
-    let e = c.before.if4.false ∙ lines.records-are A.nest A.sizes S.requires.0 in (
-      λ l h. ap (eqb (length A.status.now)) T.0 ∙ lines.by-status (plan_of A.sizes.route A.nest) A.source.now (state_of A.memories.now
-          A.buffer.now l A.status.now) (at-if1.if1.false ∙ S.requires.0.cells) (at-if2.if2.false ∙ lines.area-is A.nest A.sizes S.requires.0)
+    let e = c.before.if4.false ∙ lines.records_are A.nest A.sizes S.requires.0 in (
+      λ l h. ap (eqb (length A.status.now)) T.0 ∙ lines.by_status (plan_of A.sizes.route A.nest) A.source.now (state_of A.memories.now
+          A.buffer.now l A.status.now) (at-if1.if1.false ∙ S.requires.0.cells) (at-if2.if2.false ∙ lines.area_is A.nest A.sizes S.requires.0)
           (c.before.before.if3.false ∙ T.1.0) (sym h ∙ e),
       λ _. e,
     )

@@ -20,7 +20,7 @@ returns c =
     let opens = at_open.«open» in
     let if1 = c.if1 in
     let A = S.args in
-    λ l h. lines.collect-read A.encoded.now A.route A.source.now (state_of A.memories.now A.buffer.now l A.status.now) A.grid.now
+    λ l h. lines.collect_read A.encoded.now A.route A.source.now (state_of A.memories.now A.buffer.now l A.status.now) A.grid.now
     opens.result.number opens.ensures.number if1.true
 
 returns-2 : tie.Need-returns-2
@@ -33,7 +33,7 @@ returns-2 c =
     let if2 = c.if2 in
     let A = S.args in
     let p = plan_of opens.result.sizes.route opens.result.nest in
-    λ l h. lines.collect-grid A.encoded.now A.route A.source.now (state_of A.memories.now A.buffer.now l A.status.now) A.grid.now p
+    λ l h. lines.collect_grid A.encoded.now A.route A.source.now (state_of A.memories.now A.buffer.now l A.status.now) A.grid.now p
     (opens.ensures.opened if1.false)
     (λ q. if2.true (q ∙ sym (opens.ensures.planned if1.false).0.cells))
 
@@ -60,7 +60,7 @@ returns-3 c =
     let if3 = c.if3 in
     let A = S.args in
     let p = plan_of opens.result.sizes.route opens.result.nest in
-    λ l h. lines.collect-unfit A.encoded.now A.route A.source.now (state_of A.memories.now A.buffer.now l A.status.now) A.grid.now
+    λ l h. lines.collect_unfit A.encoded.now A.route A.source.now (state_of A.memories.now A.buffer.now l A.status.now) A.grid.now
     p (opens.ensures.opened if1.false) (if2.false
     ∙ (opens.ensures.planned if1.false).0.cells) refusal-of-areas.result (refusal-of-areas.ensures.0 l h) if3.true
 
@@ -103,9 +103,9 @@ tiles-left-requires c κs =
       planned.0,
       (
         planned.1,
-        (lines.areas-are p A.source.now (state_of A.memories.now A.buffer.now l A.status.now)
-            (lines.unfit-none p A.source.now (state_of A.memories.now A.buffer.now l A.status.now) refusal-of-areas.result
-            (refusal-of-areas.ensures.0 l (reading.part-carries A.progress S.requires few)) if3.false).0).progress,
+        (lines.areas_are p A.source.now (state_of A.memories.now A.buffer.now l A.status.now)
+            (lines.unfit_none p A.source.now (state_of A.memories.now A.buffer.now l A.status.now) refusal-of-areas.result
+            (refusal-of-areas.ensures.0 l (reading.part_carries A.progress S.requires few)) if3.false).0).progress,
       ),
     )
 
@@ -124,15 +124,15 @@ returns-4 c =
     let if2 = at-if2.if2 in
     let refusal-of-areas = at-refusal-of-areas.refusal-of-areas in
     let if3 = at-if3.if3 in
-    let tiles-left = at-tiles-left.tiles-left in
+    let tiles_left = at-tiles-left.tiles_left in
     let if4 = c.if4 in
     let A = S.args in
     let p = plan_of opens.result.sizes.route opens.result.nest in
     let few = reading.few_words _ _ planned.0 A.progress.count (refusal-of-areas.ensures.1 if3.false) in
-    λ l h. lines.collect-left A.encoded.now A.route A.source.now (state_of A.memories.now A.buffer.now l A.status.now) A.grid.now p
+    λ l h. lines.collect_left A.encoded.now A.route A.source.now (state_of A.memories.now A.buffer.now l A.status.now) A.grid.now p
     (opens.ensures.opened if1.false) (if2.false
-    ∙ planned.0.cells) refusal-of-areas.result (refusal-of-areas.ensures.0 l h) if3.false tiles-left.result (tiles-left.ensures
-    ∙ sym (reading.left_as p _ l (reading.part-is A.progress l few h))) if4.true
+    ∙ planned.0.cells) refusal-of-areas.result (refusal-of-areas.ensures.0 l h) if3.false tiles_left.result (tiles_left.ensures
+    ∙ sym (reading.left_as p _ l (reading.part_is A.progress l few h))) if4.true
 
 copy-cells-requires : tie.Need-copy-cells-requires
 copy-cells-requires c κs =
@@ -154,9 +154,9 @@ copy-cells-requires c κs =
     let l = take (A.progress.count - 0) (drop 0 A.progress.words) in (
       (planned.0, planned.1.routed),
       (
-        (lines.areas-are p A.source.now (state_of A.memories.now A.buffer.now l A.status.now) (lines.unfit-none p A.source.now
+        (lines.areas_are p A.source.now (state_of A.memories.now A.buffer.now l A.status.now) (lines.unfit_none p A.source.now
             (state_of A.memories.now A.buffer.now l A.status.now) refusal-of-areas.result
-            (refusal-of-areas.ensures.0 l (reading.part-carries A.progress S.requires few))
+            (refusal-of-areas.ensures.0 l (reading.part_carries A.progress S.requires few))
             if3.false).0).memories,
         if2.false ∙ planned.0.cells,
       ),
@@ -182,16 +182,16 @@ returns-5 c =
     let if2 = at-if2.if2 in
     let refusal-of-areas = at-refusal-of-areas.refusal-of-areas in
     let if3 = at-if3.if3 in
-    let tiles-left = at-tiles-left.tiles-left in
+    let tiles_left = at-tiles-left.tiles_left in
     let if4 = at-if4.if4 in
     let copy-cells = at-copy-cells.copy-cells in
     let A = S.args in
     let p = plan_of opens.result.sizes.route opens.result.nest in
     let few = reading.few_words _ _ planned.0 A.progress.count (refusal-of-areas.ensures.1 if3.false) in
-    λ l h. lines.collect-done A.encoded.now A.route A.source.now (state_of A.memories.now A.buffer.now l A.status.now) A.grid.now p
+    λ l h. lines.collect_done A.encoded.now A.route A.source.now (state_of A.memories.now A.buffer.now l A.status.now) A.grid.now p
     (opens.ensures.opened if1.false) (if2.false
-    ∙ planned.0.cells) refusal-of-areas.result (refusal-of-areas.ensures.0 l h) if3.false tiles-left.result (tiles-left.ensures
-    ∙ sym (reading.left_as p _ l (reading.part-is A.progress l few h))) copy-cells.new.1.1.1.0 if4.false copy-cells.ensures
+    ∙ planned.0.cells) refusal-of-areas.result (refusal-of-areas.ensures.0 l h) if3.false tiles_left.result (tiles_left.ensures
+    ∙ sym (reading.left_as p _ l (reading.part_is A.progress l few h))) copy-cells.new.1.1.1.0 if4.false copy-cells.ensures
 
 pub collect-spec : {M : Type 1} → statement M
 collect-spec =

@@ -16,7 +16,7 @@ returns c =
     let S = at_open.before.before.before.before.before.before.before in
     let opens = at_open.«open» in
     let A = S.args in
-    λ l h. lines.deliver-read A.encoded.now A.route A.source.now (state_of A.memories.now A.buffer.now l A.status.now) A.message
+    λ l h. lines.deliver_read A.encoded.now A.route A.source.now (state_of A.memories.now A.buffer.now l A.status.now) A.message
     opens.result.number opens.ensures.number c.if1.true
 
 refusal-of-areas-requires : tie.Need-refusal-of-areas-requires
@@ -43,7 +43,7 @@ returns-2 c =
     let refusal-of-areas = at-refusal-of-areas.refusal-of-areas in
     let A = S.args in
     let p = plan_of opens.result.sizes.route opens.result.nest in
-    λ l h. lines.deliver-unfit A.encoded.now A.route A.source.now (state_of A.memories.now A.buffer.now l A.status.now) A.message p
+    λ l h. lines.deliver_unfit A.encoded.now A.route A.source.now (state_of A.memories.now A.buffer.now l A.status.now) A.message p
     (opens.ensures.opened if1.false) refusal-of-areas.result
     (refusal-of-areas.ensures.0 l h) if2.true
 
@@ -68,7 +68,7 @@ returns-3 c =
     let hand-over = at-hand-over.hand-over in
     let A = S.args in
     let p = plan_of opens.result.sizes.route opens.result.nest in
-    λ l h. lines.deliver-over A.encoded.now A.route A.source.now (state_of A.memories.now A.buffer.now l A.status.now) A.message p
+    λ l h. lines.deliver_over A.encoded.now A.route A.source.now (state_of A.memories.now A.buffer.now l A.status.now) A.message p
     (opens.ensures.opened if1.false) refusal-of-areas.result
     (refusal-of-areas.ensures.0 l h) if2.false hand-over.result hand-over.new.0 hand-over.ensures
 

@@ -21,7 +21,7 @@ returns c =
     let opens = at_open.«open» in
     let A = S.args in
     λ l h. ap (λ (k : List ℕ). answer opens.result.number (state_of A.memories.now A.buffer.now k A.status.now))
-    (sym (reading.zeros-after-no l _ c.if1.true)) ∙ lines.fresh-read A.encoded.now A.route A.source.now
+    (sym (reading.zeros_after_no l _ c.if1.true)) ∙ lines.fresh_read A.encoded.now A.route A.source.now
     (state_of A.memories.now A.buffer.now l A.status.now) opens.result.number opens.ensures.number
     c.if1.true
 
@@ -49,12 +49,12 @@ returns-2 c =
     let opens = at_open.«open» in
     let if1 = at-if1.if1 in
     let if2 = c.if2 in
-    let areas-fit = at-areas-fit.areas-fit in
+    let areas_fit = at-areas-fit.areas_fit in
     let A = S.args in
     let p = plan_of opens.result.sizes.route opens.result.nest in
     λ l h. ap (λ (k : List ℕ). answer 9 (state_of A.memories.now A.buffer.now k A.status.now))
-    (sym (reading.zeros-after-no l 9 (λ q. omega arith))) ∙ lines.fresh-area A.encoded.now A.route A.source.now (state_of A.memories.now
-    A.buffer.now l A.status.now) p (opens.ensures.opened if1.false) (sym (areas-fit.ensures.0 l h) ∙ not-true _ if2.true)
+    (sym (reading.zeros_after_no l 9 (λ q. omega arith))) ∙ lines.fresh_area A.encoded.now A.route A.source.now (state_of A.memories.now
+    A.buffer.now l A.status.now) p (opens.ensures.opened if1.false) (sym (areas_fit.ensures.0 l h) ∙ not-true _ if2.true)
 
 zero-words-requires : tie.Need-zero-words-requires
 zero-words-requires c κs = tt
@@ -87,15 +87,15 @@ returns-3 c =
     let opens = at_open.«open» in
     let if1 = at-if1.if1 in
     let if2 = at-if2.if2 in
-    let areas-fit = at-areas-fit.areas-fit in
+    let areas_fit = at-areas-fit.areas_fit in
     let zero-words = at-zero-words.zero-words in
     let zero-words2 = at-zero-words2.zero-words2 in
     let zero-bytes = at-zero-bytes.zero-bytes in
     let A = S.args in
     let p = plan_of opens.result.sizes.route opens.result.nest in
-    λ l h. lines.fresh-done A.encoded.now A.route A.source.now (state_of A.memories.now A.buffer.now l A.status.now) p
-    (opens.ensures.opened if1.false) (sym (areas-fit.ensures.0 l h)
-    ∙ not-false _ if2.false) _ _ _ _ zero-words.ensures zero-words2.ensures (sym (reading.zeros-after-yes l)) zero-bytes.ensures
+    λ l h. lines.fresh_done A.encoded.now A.route A.source.now (state_of A.memories.now A.buffer.now l A.status.now) p
+    (opens.ensures.opened if1.false) (sym (areas_fit.ensures.0 l h)
+    ∙ not-false _ if2.false) _ _ _ _ zero-words.ensures zero-words2.ensures (sym (reading.zeros_after_yes l)) zero-bytes.ensures
 
 pub fresh-spec : {M : Type 1} → statement M
 fresh-spec =

@@ -5,7 +5,7 @@ use Rattle.engine.proofs.core.hand_over.Statement.{statement}
 use Rattle.engine.proofs.core.hand_over.Tie as tie
 
 returns : tie.Need-returns
-returns c = lines.over-beyond _ _ c.if1.true
+returns c = lines.over_beyond _ _ c.if1.true
 
 slice-read-if2 : tie.Need-slice-read-if2
 slice-read-if2 c = search rules

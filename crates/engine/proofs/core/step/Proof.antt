@@ -3,10 +3,10 @@ use Rattle.core.specs.Prelude.{◌≡◌, ℕ, ◌*◌, ◌<◌, length, get_or}
 use mathlib.Core.Path.{refl, ap, ◌∙◌}
 use native.Mathlib.Omega.{arith}
 use borrow.Author.Tests.{not-true, not-false}
-use Rattle.machine.specs.Plan.{tilesOf}
+use Rattle.machine.specs.Plan.{tiles_of}
 use Rattle.machine.specs.Machine.{state_of}
 use Rattle.plan.specs.Shaped.{plan_of}
-use Rattle.stages.specs.Progress.{setRecord}
+use Rattle.stages.specs.Progress.{set_record}
 use Rattle.engine.proofs.Turns as turns
 use Rattle.engine.proofs.Reading as reading
 use borrow.Author.Rules.{rules}
@@ -64,7 +64,7 @@ returns c =
     let A = S.args in
     reading.refuses c.refused.result 13 c.refused.ensures (λ q. omega arith)
     (state_of A.memories.now A.buffer.now A.progress.now A.status.now) A.b _
-    (turns.step-over (plan_of A.sizes.route A.nest) A.source.now
+    (turns.step_over (plan_of A.sizes.route A.nest) A.source.now
     (state_of A.memories.now A.buffer.now A.progress.now A.status.now) A.b S.requires.1.fit S.requires.1.processor
     (omega (arith, c.before.before.tile-count.ensures.0, c.before.before.before.word-index2.ensures, c.before.if1.true)))
 
@@ -99,7 +99,7 @@ returns-2 c =
       at-word-index2.word-index2.ensures,
       at-if1.if1.false,
     )) at-tile-at.tile-at.result (at-tile-at.tile-at.ensures.0
-    ∙ ap (λ (k : ℕ). get_or (tilesOf (plan_of A.sizes.route A.nest) A.b) k 0) at-word-index2.word-index2.ensures)
+    ∙ ap (λ (k : ℕ). get_or (tiles_of (plan_of A.sizes.route A.nest) A.b) k 0) at-word-index2.word-index2.ensures)
     c.before.before.ready.result at-if2.if2.true c.before.before.ready.ensures (not-true _ c.before.if3.true))
 
 gather-stage-requires : tie.Need-gather-stage-requires
@@ -135,11 +135,11 @@ returns-3 c =
     let S = at-word-index2.before.before.before.before.before.before.before.before.before.before in
     let A = S.args in
     let G = at-gather-stage.gather-stage in
-    reading.does c.done.result G.result c.done.ensures _ _ _ _ A.b _ (turns.step-gathers (plan_of A.sizes.route A.nest) A.source.now
+    reading.does c.done.result G.result c.done.ensures _ _ _ _ A.b _ (turns.step_gathers (plan_of A.sizes.route A.nest) A.source.now
     (state_of A.memories.now A.buffer.now A.progress.now A.status.now) A.b S.requires.1.fit S.requires.1.processor
     (omega (arith, at-tile-count.tile-count.ensures.0, at-word-index2.word-index2.ensures, at-if1.if1.false)) at-tile-at.tile-at.result
-    (at-tile-at.tile-at.ensures.0 ∙ ap (λ (k : ℕ). get_or (tilesOf (plan_of A.sizes.route A.nest) A.b) k 0) at-word-index2.word-index2.ensures)
-    at_ready.ready.result (state_of G.new.1.1.1.0 A.buffer.now (setRecord A.progress.now A.b G.result) G.new.1.1.1.1.1.0)
+    (at-tile-at.tile-at.ensures.0 ∙ ap (λ (k : ℕ). get_or (tiles_of (plan_of A.sizes.route A.nest) A.b) k 0) at-word-index2.word-index2.ensures)
+    at_ready.ready.result (state_of G.new.1.1.1.0 A.buffer.now (set_record A.progress.now A.b G.result) G.new.1.1.1.1.1.0)
     at-if2.if2.true at_ready.ready.ensures (not-false _ at-if3.if3.false) (G.ensures A.progress.now refl))
 
 calculate-stage-requires : tie.Need-calculate-stage-requires
@@ -171,11 +171,11 @@ returns-4 c =
     let S = at-word-index2.before.before.before.before.before.before.before.before.before.before in
     let A = S.args in
     let G = at-calculate-stage.calculate-stage in
-    reading.does c.done2.result G.result c.done2.ensures _ _ _ _ A.b _ (turns.step-calculates (plan_of A.sizes.route A.nest)
+    reading.does c.done2.result G.result c.done2.ensures _ _ _ _ A.b _ (turns.step_calculates (plan_of A.sizes.route A.nest)
     A.source.now (state_of A.memories.now A.buffer.now A.progress.now A.status.now) A.b S.requires.1.fit S.requires.1.processor
     (omega (arith, at-tile-count.tile-count.ensures.0, at-word-index2.word-index2.ensures, at-if1.if1.false)) at-tile-at.tile-at.result
-    (at-tile-at.tile-at.ensures.0 ∙ ap (λ (k : ℕ). get_or (tilesOf (plan_of A.sizes.route A.nest) A.b) k 0) at-word-index2.word-index2.ensures)
-    (state_of G.new.1.1.1.1.0 A.buffer.now (setRecord A.progress.now A.b G.result) A.status.now) at-if4.if4.true
+    (at-tile-at.tile-at.ensures.0 ∙ ap (λ (k : ℕ). get_or (tiles_of (plan_of A.sizes.route A.nest) A.b) k 0) at-word-index2.word-index2.ensures)
+    (state_of G.new.1.1.1.1.0 A.buffer.now (set_record A.progress.now A.b G.result) A.status.now) at-if4.if4.true
     (G.ensures A.buffer.now A.progress.now A.status.now refl))
 
 send-stage-requires : tie.Need-send-stage-requires
@@ -190,16 +190,16 @@ send-stage-requires c κs =
     let S = at-word-index.before.before.before.before.before.before.before.before.before in
     let P = S.requires.1.areas in
     let A = S.args in
-    let f : get_or A.progress.now (3 * A.b) 0 < length (tilesOf (plan_of A.sizes.route A.nest) A.b) =
+    let f : get_or A.progress.now (3 * A.b) 0 < length (tiles_of (plan_of A.sizes.route A.nest) A.b) =
     (omega (arith, at-tile-count.tile-count.ensures.0, at-word-index2.word-index2.ensures, at-if1.if1.false)) in
-    let t : at-tile-at.tile-at.result ≡ get_or (tilesOf (plan_of A.sizes.route A.nest) A.b) (get_or A.progress.now (3 * A.b) 0) 0 =
-    at-tile-at.tile-at.ensures.0 ∙ ap (λ (k : ℕ). get_or (tilesOf (plan_of A.sizes.route A.nest) A.b) k 0) at-word-index2.word-index2.ensures in (
+    let t : at-tile-at.tile-at.result ≡ get_or (tiles_of (plan_of A.sizes.route A.nest) A.b) (get_or A.progress.now (3 * A.b) 0) 0 =
+    at-tile-at.tile-at.ensures.0 ∙ ap (λ (k : ℕ). get_or (tiles_of (plan_of A.sizes.route A.nest) A.b) k 0) at-word-index2.word-index2.ensures in (
       (S.requires.0.0, (S.requires.0.1, (S.requires.1.processor, at-tile-at.tile-at.ensures.1))),
       (
         (P.memories, (P.buffer, P.status)),
         (
           omega (arith, at-tile-count.tile-count.ensures, f),
-          rw (t, at-word-index.word-index.ensures) (turns.fit-sent (plan_of A.sizes.route A.nest)
+          rw (t, at-word-index.word-index.ensures) (turns.fit_sent (plan_of A.sizes.route A.nest)
               (state_of A.memories.now A.buffer.now A.progress.now A.status.now) A.b S.requires.1.fit S.requires.1.processor f
               at-if2.if2.false
               at-if4.if4.false),
@@ -232,11 +232,11 @@ returns-5 c =
     let S = at-word-index.before.before.before.before.before.before.before.before.before in
     let A = S.args in
     let G = at-send-stage.send-stage in
-    reading.does c.done3.result G.result c.done3.ensures _ _ _ _ A.b _ (turns.step-sends (plan_of A.sizes.route A.nest) A.source.now
+    reading.does c.done3.result G.result c.done3.ensures _ _ _ _ A.b _ (turns.step_sends (plan_of A.sizes.route A.nest) A.source.now
     (state_of A.memories.now A.buffer.now A.progress.now A.status.now) A.b S.requires.1.fit S.requires.1.processor
     (omega (arith, at-tile-count.tile-count.ensures.0, at-word-index2.word-index2.ensures, at-if1.if1.false)) at-tile-at.tile-at.result
-    (at-tile-at.tile-at.ensures.0 ∙ ap (λ (k : ℕ). get_or (tilesOf (plan_of A.sizes.route A.nest) A.b) k 0) at-word-index2.word-index2.ensures)
-    (state_of A.memories.now G.new.1.1.1.1.0 (setRecord A.progress.now A.b G.result) G.new.1.1.1.1.1.0) at-if2.if2.false
+    (at-tile-at.tile-at.ensures.0 ∙ ap (λ (k : ℕ). get_or (tiles_of (plan_of A.sizes.route A.nest) A.b) k 0) at-word-index2.word-index2.ensures)
+    (state_of A.memories.now G.new.1.1.1.1.0 (set_record A.progress.now A.b G.result) G.new.1.1.1.1.1.0) at-if2.if2.false
     at-if4.if4.false (G.ensures A.progress.now refl at-word-index.word-index.ensures))
 
 pub step_spec : {M : Type 1} → statement M

@@ -4,8 +4,8 @@ use mathlib.Core.Path.{refl, subst}
 use native.Mathlib.Omega.{arith}
 use Rattle.machine.specs.Machine.{state_of}
 use Rattle.plan.specs.Shaped.{plan_of}
-use Rattle.engine.specs.Calls.{answer, turnCall}
-use Rattle.engine.specs.Given.{recordsAfter}
+use Rattle.engine.specs.Calls.{answer, turn_call}
+use Rattle.engine.specs.Given.{records_after}
 use Rattle.engine.proofs.Lines as lines
 use Rattle.engine.proofs.Reading as reading
 use borrow.Author.Rules.{rules}
@@ -28,7 +28,7 @@ returns c =
     let refused = c.refused in
     let A = S.args in
     λ l h. reading.refuses refused.result opens.result.number refused.ensures if1.true (state_of A.memories.now A.buffer.now l
-    A.status.now) A.processor _ (lines.turn-read A.encoded.now A.route A.source.now (state_of A.memories.now A.buffer.now l
+    A.status.now) A.processor _ (lines.turn_read A.encoded.now A.route A.source.now (state_of A.memories.now A.buffer.now l
     A.status.now) A.processor opens.result.number opens.ensures.number if1.true)
 
 refusal-of-areas-requires : tie.Need-refusal-of-areas-requires
@@ -67,7 +67,7 @@ returns-2 c =
     let A = S.args in
     let p = plan_of opens.result.sizes.route opens.result.nest in
     λ l h. reading.refuses refused2.result refusal-of-areas.result refused2.ensures if2.true (state_of A.memories.now A.buffer.now l
-    A.status.now) A.processor _ (lines.turn-unfit A.encoded.now A.route A.source.now (state_of A.memories.now A.buffer.now l
+    A.status.now) A.processor _ (lines.turn_unfit A.encoded.now A.route A.source.now (state_of A.memories.now A.buffer.now l
     A.status.now) A.processor p (opens.ensures.opened if1.false)
     refusal-of-areas.result (refusal-of-areas.ensures.0 l h) if2.true)
 
@@ -100,7 +100,7 @@ returns-3 c =
     let A = S.args in
     let p = plan_of opens.result.sizes.route opens.result.nest in
     λ l h. reading.refuses refused3.result 11 refused3.ensures (λ q. omega arith) (state_of A.memories.now A.buffer.now l A.status.now)
-    A.processor _ (lines.turn-beyond A.encoded.now A.route A.source.now (state_of A.memories.now A.buffer.now l A.status.now)
+    A.processor _ (lines.turn_beyond A.encoded.now A.route A.source.now (state_of A.memories.now A.buffer.now l A.status.now)
     A.processor p (opens.ensures.opened if1.false) refusal-of-areas.result
     (refusal-of-areas.ensures.0 l h) if2.false (omega (arith, (opens.ensures.planned if1.false).0.processors, if3.true)))
 
@@ -144,7 +144,7 @@ step-requires c κs =
     let l = take (A.progress.count - 0) (drop 0 A.progress.words) in (
       planned,
       lines.passed p A.source.now (state_of A.memories.now A.buffer.now l A.status.now) A.processor
-          refusal-of-areas.result (refusal-of-areas.ensures.0 l (reading.part-carries A.progress S.requires few)) if2.false (omega (
+          refusal-of-areas.result (refusal-of-areas.ensures.0 l (reading.part_carries A.progress S.requires few)) if2.false (omega (
             arith,
             planned.0.processors,
             if3.false,
@@ -178,11 +178,11 @@ returns-4 c =
     let few = reading.few_words _ _ (opens.ensures.planned if1.false).0 A.progress.count (refusal-of-areas.ensures.1 if2.false) in
     let part = take (A.progress.count - 0) (drop 0 A.progress.words) in
     λ l h. subst (λ (k : List ℕ). answer step.result.number (state_of step.new.1.1.1.1.0 step.new.1.1.1.1.1.0
-    (recordsAfter k A.processor step.result) step.new.1.1.1.1.1.1.1.0) ≡ turnCall A.encoded.now A.route A.source.now
-    (state_of A.memories.now A.buffer.now k A.status.now) A.processor) (reading.part-is A.progress l few h)
-    (lines.turn-steps A.encoded.now A.route A.source.now (state_of A.memories.now A.buffer.now part A.status.now) A.processor p
+    (records_after k A.processor step.result) step.new.1.1.1.1.1.1.1.0) ≡ turn_call A.encoded.now A.route A.source.now
+    (state_of A.memories.now A.buffer.now k A.status.now) A.processor) (reading.part_is A.progress l few h)
+    (lines.turn_steps A.encoded.now A.route A.source.now (state_of A.memories.now A.buffer.now part A.status.now) A.processor p
     (opens.ensures.opened if1.false) refusal-of-areas.result
-    (refusal-of-areas.ensures.0 _ (reading.part-carries A.progress S.requires few)) if2.false _ step.ensures)
+    (refusal-of-areas.ensures.0 _ (reading.part_carries A.progress S.requires few)) if2.false _ step.ensures)
 
 pub turn_spec : {M : Type 1} → statement M
 turn_spec =

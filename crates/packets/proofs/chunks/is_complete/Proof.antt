@@ -1,5 +1,5 @@
 -- Bit by bit: all before are set.
-use Rattle.packets.proofs.ChunkAnswers.{not_there, is-there, some-missing, one_more, all_there}
+use Rattle.packets.proofs.ChunkAnswers.{not_there, is_there, some_missing, one_more, all_there}
 use Rattle.base.specs.Tests.{every}
 use Rattle.packets.specs.Cut.{there}
 use mathlib.Core.Bool.{true}
@@ -31,7 +31,7 @@ returns c =
     let at2 = c.before.before in
     let at3 = at2.before in
     let at4 = at3.before in
-    some-missing at4.args.mask at4.args.chunks at3.loop.k at2.loop-test.true (sym c.before.is-there.ensures ∙ not_there _ c.if1.true)
+    some_missing at4.args.mask at4.args.chunks at3.loop.k at2.loop-test.true (sym c.before.is_there.ensures ∙ not_there _ c.if1.true)
 
 add-k : tie.Need-overflow-add-k invariant-loop decreases-loop
 add-k c = search rules
@@ -46,7 +46,7 @@ loop-again c =
     let at4 = at3.before in (
       omega (arith, at2.loop-test.true),
       one_more at4.args.mask at3.loop.k at3.loop.invariant.1
-          (sym c.before.is-there.ensures ∙ is-there _ c.if1.false),
+          (sym c.before.is_there.ensures ∙ is_there _ c.if1.false),
     )
 
 returns-2 : tie.Need-returns-2 invariant-loop decreases-loop

@@ -1,5 +1,5 @@
 -- Each return is a law of a line.
-use Rattle.packets.proofs.ChunkAnswers.{number-long, number-chunks, number-chunk, number-count, number-none}
+use Rattle.packets.proofs.ChunkAnswers.{number_long, number_chunks, number_chunk, number_count, number_none}
 use Rattle.packets.specs.Cut.{chunk_of}
 use native.Mathlib.Omega.{arith}
 use mathlib.Core.Path.{sym, ◌∙◌}
@@ -10,7 +10,7 @@ use Rattle.packets.proofs.chunks.number_of.Tie as tie
 returns : tie.Need-returns
 returns c =
     let at2 = c.before.before in
-    number-long (chunk_of at2.args.chunk at2.args.chunks at2.args.words.now) at2.args.area c.if1.true
+    number_long (chunk_of at2.args.chunk at2.args.chunks at2.args.words.now) at2.args.area c.if1.true
 
 word-index-requires : tie.Need-word-index-requires
 word-index-requires c κs = search rules
@@ -23,7 +23,7 @@ returns-2 c =
     let at2 = c.before.before in
     let at3 = at2.before in
     let at5 = at3.before.before in
-    number-chunks (chunk_of at5.args.chunk at5.args.chunks at5.args.words.now) at5.args.area at3.if1.false
+    number_chunks (chunk_of at5.args.chunk at5.args.chunks at5.args.words.now) at5.args.area at3.if1.false
     (λ q. c.if2.true (at2.word-index.ensures ∙ q ∙ sym c.before.chunks_of.ensures))
 
 returns-3 : tie.Need-returns-3
@@ -32,7 +32,7 @@ returns-3 c =
     let at3 = at2.before in
     let at4 = at3.before in
     let at6 = at4.before.before in
-    number-chunk (chunk_of at6.args.chunk at6.args.chunks at6.args.words.now) at6.args.area at4.if1.false
+    number_chunk (chunk_of at6.args.chunk at6.args.chunks at6.args.words.now) at6.args.area at4.if1.false
     (omega (arith, c.if3.true, c.before.if2.false, at3.word-index.ensures, at2.chunks_of.ensures))
 
 chunk-length-requires : tie.Need-chunk-length-requires
@@ -42,7 +42,7 @@ returns-4 : tie.Need-returns-4
 returns-4 c =
     let at6 = c.before.before.before.before.before.before in
     let at8 = at6.before.before in
-    number-count (chunk_of at8.args.chunk at8.args.chunks at8.args.words.now) at8.args.area at6.if1.false
+    number_count (chunk_of at8.args.chunk at8.args.chunks at8.args.words.now) at8.args.area at6.if1.false
     (λ q. c.if4.true (q ∙ sym c.before.chunk-length.ensures))
 
 returns-5 : tie.Need-returns-5
@@ -53,7 +53,7 @@ returns-5 c =
     let at5 = at4.before in
     let at6 = at5.before in
     let at8 = at6.before.before in
-    number-none (chunk_of at8.args.chunk at8.args.chunks at8.args.words.now) at8.args.area at6.if1.false
+    number_none (chunk_of at8.args.chunk at8.args.chunks at8.args.words.now) at8.args.area at6.if1.false
     (omega (arith, at3.if2.false, at5.word-index.ensures, at4.chunks_of.ensures))
     (omega (arith, at2.if3.false, at3.if2.false, at5.word-index.ensures, at4.chunks_of.ensures)) (c.if4.false ∙ c.before.chunk-length.ensures)
 

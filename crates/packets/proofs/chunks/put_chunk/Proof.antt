@@ -1,5 +1,5 @@
 -- There already, or put to its put-chunk.
-use Rattle.packets.proofs.ChunkAnswers.{placed_same, placed-new}
+use Rattle.packets.proofs.ChunkAnswers.{placed_same, placed_new}
 use mathlib.Core.Path.{sym, ◌∙◌}
 use borrow.Author.Rules.{rules}
 use Rattle.packets.proofs.chunks.put_chunk.Statement.{statement}
@@ -11,7 +11,7 @@ is-there-requires c κs = search rules
 returns : tie.Need-returns
 returns c =
     let at4 = c.before.before.before.before in
-    placed_same at4.args.chunk at4.args.words.now at4.args.area.now at4.args.mask (sym c.before.is-there.ensures ∙ c.if1.true)
+    placed_same at4.args.chunk at4.args.words.now at4.args.area.now at4.args.mask (sym c.before.is_there.ensures ∙ c.if1.true)
 
 word-index-requires : tie.Need-word-index-requires
 word-index-requires c κs = search rules
@@ -35,8 +35,8 @@ returns-2 c =
     let at6 = at4.before.before in
     let at7 = at6.before in
     let at10 = at7.before.before.before in
-    placed-new at10.args.chunk at4.word-index.result at10.args.words.now at10.args.area.now at3.copy-part.new.0 at10.args.mask
-    c.with-chunk.result (sym at7.is-there.ensures ∙ at6.if1.false) at4.word-index.ensures at3.copy-part.ensures c.with-chunk.ensures
+    placed_new at10.args.chunk at4.word-index.result at10.args.words.now at10.args.area.now at3.copy-part.new.0 at10.args.mask
+    c.with-chunk.result (sym at7.is_there.ensures ∙ at6.if1.false) at4.word-index.ensures at3.copy-part.ensures c.with-chunk.ensures
 
 pub put-chunk-spec : {M : Type 1} → statement M
 put-chunk-spec =

@@ -1,5 +1,5 @@
 -- Refused as the number says; else placed, and all bits looked at.
-use Rattle.packets.proofs.ChunkAnswers.{fitting, taken_refused, taken-done}
+use Rattle.packets.proofs.ChunkAnswers.{fitting, taken_refused, taken_done}
 use Rattle.packets.specs.Cut.{chunk_of}
 use lib.ListN.{length}
 use native.Mathlib.Omega.{arith}
@@ -31,7 +31,7 @@ is-complete-requires c κs =
     let at5 = at4.before in
     let at8 = at5.before.before.before in
     (fitting (chunk_of at8.args.chunk at8.args.chunks at8.args.words.now) (length at8.args.area.now)
-    (sym at5.number_of.ensures ∙ at4.if1.false)).few-chunks
+    (sym at5.number_of.ensures ∙ at4.if1.false)).few_chunks
 
 flag-requires : tie.Need-flag-requires
 flag-requires c κs = search rules
@@ -45,7 +45,7 @@ returns-2 c =
     let at6 = at4.before.before in
     let at7 = at6.before in
     let at10 = at7.before.before.before in
-    taken-done (chunk_of at10.args.chunk at10.args.chunks at10.args.words.now) at10.args.area.now at10.args.mask
+    taken_done (chunk_of at10.args.chunk at10.args.chunks at10.args.words.now) at10.args.area.now at10.args.mask
     at4.put-chunk.new.1.1.0 at4.put-chunk.result c.flag.result c.before.is-complete.result
     (sym (sym at7.number_of.ensures ∙ at6.if1.false)) at4.put-chunk.ensures c.before.is-complete.ensures c.flag.ensures
 

@@ -8,7 +8,7 @@ use Prim.Native.Nat.{ℕ, ◌<◌}
 use lib.ListN.{length, get_or}
 use lib.Dec.{eqb}
 use Rattle.base.specs.Tests.{◌and◌, every}
-use Rattle.base.proofs.Tests.{every-at}
+use Rattle.base.proofs.Tests.{every_at}
 use Rattle.packets.specs.Crc.{shift, shifts, Eights}
 use Rattle.packets.proofs.crc_table.fed.Statement.{statement}
 use Rattle.packets.proofs.crc_table.fed.Tie as tie
@@ -51,7 +51,7 @@ all_right = refl
 
 at : (k : ℕ) → k < 256 → get_or table k 0 ≡ shifts 8 k
 unfolding right
-at k h = eqb-true (get_or table k 0) (shifts 8 k) (every-at right 256 all_right k h)
+at k h = eqb-true (get_or table k 0) (shifts 8 k) (every_at right 256 all_right k h)
 
 long : length table ≡ 256
 unfolding table

@@ -1,6 +1,6 @@
 -- What is left gives the same register.
-use Rattle.packets.proofs.Bytes.{feed-turn, feed-end}
-use Rattle.packets.specs.Crc.{feedAll}
+use Rattle.packets.proofs.Bytes.{feed_turn, feed_end}
+use Rattle.packets.specs.Crc.{feed_all}
 use lib.ListN.{length, drop}
 use Prim.Native.Nat.{◌-◌}
 use mathlib.Core.Path.{◌≡◌, refl}
@@ -9,7 +9,7 @@ use Rattle.packets.proofs.crc_table.fed_by.Statement.{statement}
 use Rattle.packets.proofs.crc_table.fed_by.Tie as tie
 
 abbrev invariant-loop : tie.invariant-loop
-invariant-loop table register bytes now₀ i₀ now i = feedAll now (drop i bytes) ≡ feedAll register bytes
+invariant-loop table register bytes now₀ i₀ now i = feed_all now (drop i bytes) ≡ feed_all register bytes
 
 abbrev decreases-loop : tie.decreases-loop
 decreases-loop table register bytes now₀ i₀ now i = length bytes - i
@@ -34,11 +34,11 @@ loop-again c =
     let at2 = c.before.before in
     let at3 = at2.before in
     let at5 = at3.before.before in
-    feed-turn at5.args.bytes.now at3.loop.i at3.loop.now c.step.result _ at2.loop-test.true at3.loop.invariant c.step.ensures
+    feed_turn at5.args.bytes.now at3.loop.i at3.loop.now c.step.result _ at2.loop-test.true at3.loop.invariant c.step.ensures
 
 returns : tie.Need-returns invariant-loop decreases-loop
 returns c =
-    feed-end c.before.before.before.args.bytes.now c.before.loop.i c.before.loop.now _ c.loop-test.false c.before.loop.invariant
+    feed_end c.before.before.before.args.bytes.now c.before.loop.i c.before.loop.now _ c.loop-test.false c.before.loop.invariant
 
 pub fed-by-spec : {M : Type 1} → statement M
 fed-by-spec =

@@ -1,5 +1,5 @@
 -- One byte by table.
-use Rattle.packets.proofs.Shifts.{feed-table}
+use Rattle.packets.proofs.Shifts.{feed_table}
 use lib.Bits.{bit_xor}
 use Prim.Native.Nat.{ℕ, ◌/◌}
 use mathlib.Core.Path.{sym, ap, ◌∙◌}
@@ -16,7 +16,7 @@ entry-requires c κs = search rules
 returns : tie.Need-returns
 returns c =
     ap (λ (x : ℕ). bit_xor (c.before.args.register / 256) x) c.entry.ensures ∙ sym
-    (feed-table c.before.args.register c.before.args.byte)
+    (feed_table c.before.args.register c.before.args.byte)
 
 pub step_spec : {M : Type 1} → statement M
 step_spec = tie.close (tie.spec cast-low entry-requires returns)

@@ -1,6 +1,6 @@
 -- What is left gives the same hash.
-use Rattle.packets.proofs.Bytes.{mix-turn, mix-end}
-use Rattle.packets.specs.Fingerprint.{mixAll}
+use Rattle.packets.proofs.Bytes.{mix_turn, mix_end}
+use Rattle.packets.specs.Fingerprint.{mix_all}
 use lib.ListN.{length, drop}
 use Prim.Native.Nat.{◌-◌}
 use mathlib.Core.Path.{◌≡◌, refl}
@@ -9,7 +9,7 @@ use Rattle.packets.proofs.hash.mixed.Statement.{statement}
 use Rattle.packets.proofs.hash.mixed.Tie as tie
 
 abbrev invariant-loop : tie.invariant-loop
-invariant-loop hash bytes now₀ i₀ now i = mixAll now (drop i bytes) ≡ mixAll hash bytes
+invariant-loop hash bytes now₀ i₀ now i = mix_all now (drop i bytes) ≡ mix_all hash bytes
 
 abbrev decreases-loop : tie.decreases-loop
 decreases-loop hash bytes now₀ i₀ now i = length bytes - i
@@ -34,11 +34,11 @@ loop-again c =
     let at2 = c.before.before in
     let at3 = at2.before in
     let at5 = at3.before.before in
-    mix-turn at5.args.bytes.now at3.loop.i at3.loop.now c.step.result _ at2.loop-test.true at3.loop.invariant c.step.ensures
+    mix_turn at5.args.bytes.now at3.loop.i at3.loop.now c.step.result _ at2.loop-test.true at3.loop.invariant c.step.ensures
 
 returns : tie.Need-returns invariant-loop decreases-loop
 returns c =
-    mix-end c.before.before.before.args.bytes.now c.before.loop.i c.before.loop.now _ c.loop-test.false c.before.loop.invariant
+    mix_end c.before.before.before.args.bytes.now c.before.loop.i c.before.loop.now _ c.loop-test.false c.before.loop.invariant
 
 pub mixed-spec : {M : Type 1} → statement M
 mixed-spec =

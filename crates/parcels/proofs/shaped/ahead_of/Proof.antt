@@ -3,7 +3,7 @@ use Prim.Native.Nat.{◌+◌, ◌*◌, ◌-◌}
 use mathlib.Core.Path.{refl}
 use native.Mathlib.Omega.{arith}
 use lib.ListN.{get_or}
-use Rattle.layout.proofs.Loops.{Changed, changed-none, changed-more}
+use Rattle.layout.proofs.Loops.{Changed, changed_none, changed_more}
 use Rattle.parcels.proofs.shaped.Runs as R
 use Rattle.parcels.proofs.shaped.ahead_of.Statement.{statement}
 use Rattle.parcels.proofs.shaped.ahead_of.Tie as tie
@@ -15,40 +15,40 @@ abbrev decreases-loop : tie.decreases-loop
 decreases-loop components e at last to₀ j₀ to j = last - j
 
 sub-last : tie.Need-overflow-sub-last invariant-loop decreases-loop
-sub-last c = omega (arith, c.before.requires.0.0.dimensions-least)
+sub-last c = omega (arith, c.before.requires.0.0.dimensions_least)
 
 loop-holds : tie.Need-loop-init invariant-loop decreases-loop
-loop-holds c = changed-none _ _ _ (omega arith)
+loop-holds c = changed_none _ _ _ (omega arith)
 
 mul-to : tie.Need-overflow-mul-to invariant-loop decreases-loop
 mul-to c =
     let start = c.before.before.before in
-    omega (arith, c.loop-test.true, start.requires.0.0.dimensions-most, start.requires.0.0.distances-most, start.requires.0.1.0)
+    omega (arith, c.loop-test.true, start.requires.0.0.dimensions_most, start.requires.0.0.distances_most, start.requires.0.1.0)
 
 array-read-to : tie.Need-array-read-to invariant-loop decreases-loop
 array-read-to c =
     let start = c.before.before.before in
-    omega (arith, c.loop-test.true, start.requires.0.0.dimensions-most, start.requires.0.0.distances-most, start.requires.0.1.0)
+    omega (arith, c.loop-test.true, start.requires.0.0.dimensions_most, start.requires.0.0.distances_most, start.requires.0.1.0)
 
 mul-to-2 : tie.Need-overflow-mul-to-2 invariant-loop decreases-loop
 mul-to-2 c =
     let start = c.before.before.before in
-    omega (arith, c.loop-test.true, start.requires.0.0.dimensions-most, start.requires.0.0.distances-most, start.requires.0.1.0)
+    omega (arith, c.loop-test.true, start.requires.0.0.dimensions_most, start.requires.0.0.distances_most, start.requires.0.1.0)
 
 add-to : tie.Need-overflow-add-to invariant-loop decreases-loop
 add-to c =
     let start = c.before.before.before in
-    omega (arith, c.loop-test.true, start.requires.0.0.dimensions-most, start.requires.0.0.distances-most, start.requires.0.1.0)
+    omega (arith, c.loop-test.true, start.requires.0.0.dimensions_most, start.requires.0.0.distances_most, start.requires.0.1.0)
 
 mul-to-3 : tie.Need-overflow-mul-to-3 invariant-loop decreases-loop
 mul-to-3 c =
     let start = c.before.before.before in
-    omega (arith, c.loop-test.true, start.requires.0.0.dimensions-most, start.requires.0.0.distances-most, start.requires.0.1.0)
+    omega (arith, c.loop-test.true, start.requires.0.0.dimensions_most, start.requires.0.0.distances_most, start.requires.0.1.0)
 
 element-copy-out-to : tie.Need-element-copy-out-to invariant-loop decreases-loop
 element-copy-out-to c =
     let start = c.before.before.before in
-    omega (arith, c.loop-test.true, start.requires.0.0.dimensions-most, start.requires.0.0.distances-most, start.requires.0.1.0)
+    omega (arith, c.loop-test.true, start.requires.0.0.dimensions_most, start.requires.0.0.distances_most, start.requires.0.1.0)
 
 add-to-2 : tie.Need-overflow-add-to-2 invariant-loop decreases-loop
 add-to-2 c =
@@ -56,24 +56,24 @@ add-to-2 c =
     omega (
       arith,
       start.requires.1 c.before.before.loop.j (omega (arith, c.before.loop-test.true)),
-      R.given-most _ start.requires.0.0 _
+      R.given_most _ start.requires.0.0 _
           start.requires.0.1.1 start.args.e c.before.before.loop.j,
     )
 
 mul-to-4 : tie.Need-overflow-mul-to-4 invariant-loop decreases-loop
 mul-to-4 c =
     let start = c.before.before.before.before in
-    omega (arith, c.before.loop-test.true, start.requires.0.0.dimensions-most, start.requires.0.0.distances-most, start.requires.0.1.0)
+    omega (arith, c.before.loop-test.true, start.requires.0.0.dimensions_most, start.requires.0.0.distances_most, start.requires.0.1.0)
 
 array-write-to : tie.Need-array-write-to invariant-loop decreases-loop
 array-write-to c =
     let start = c.before.before.before.before in
-    omega (arith, c.before.loop-test.true, start.requires.0.0.dimensions-most, start.requires.0.0.distances-most, start.requires.0.1.0)
+    omega (arith, c.before.loop-test.true, start.requires.0.0.dimensions_most, start.requires.0.0.distances_most, start.requires.0.1.0)
 
 add-j : tie.Need-overflow-add-j invariant-loop decreases-loop
 add-j c =
     let start = c.before.before.before.before in
-    omega (arith, c.before.loop-test.true, start.requires.0.0.dimensions-most, start.requires.0.0.distances-most, start.requires.0.1.0)
+    omega (arith, c.before.loop-test.true, start.requires.0.0.dimensions_most, start.requires.0.0.distances_most, start.requires.0.1.0)
 
 loop-less : tie.Need-loop-smaller invariant-loop decreases-loop
 loop-less c = omega (arith, c.before.loop-test.true)
@@ -81,13 +81,13 @@ loop-less c = omega (arith, c.before.loop-test.true)
 loop-again : tie.Need-loop-preserved invariant-loop decreases-loop
 loop-again c =
     let at_test = c.before in
-    changed-more _ _ _ _ _ _ at_test.before.loop.invariant at_test.loop-test.true
-    (omega (arith, at_test.before.before.before.requires.0.0.dimensions-most)) refl
+    changed_more _ _ _ _ _ _ at_test.before.loop.invariant at_test.loop-test.true
+    (omega (arith, at_test.before.before.before.requires.0.0.dimensions_most)) refl
 
 returns : tie.Need-returns invariant-loop decreases-loop
 returns c =
     let start = c.before.before.before in
-    R.moved-ahead _ start.requires.0.0 _ start.requires.0.1.1 start.args.t3 start.args.e start.requires.1 _ _ c.before.loop.invariant
+    R.moved_ahead _ start.requires.0.0 _ start.requires.0.1.1 start.args.t3 start.args.e start.requires.1 _ _ c.before.loop.invariant
     c.loop-test.false
 
 pub ahead-of-spec : {M : Type 1} → statement M

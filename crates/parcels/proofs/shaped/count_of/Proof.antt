@@ -3,7 +3,7 @@ use Prim.Native.Nat.{◌-◌}
 use mathlib.Core.Path.{refl}
 use native.Mathlib.Omega.{arith}
 use Rattle.parcels.proofs.Rows.{rows_few}
-use Rattle.parcels.proofs.shaped.Found.{Counting, counting-none, counting-row}
+use Rattle.parcels.proofs.shaped.Found.{Counting, counting_none, counting_row}
 use Rattle.parcels.proofs.shaped.Listing as L
 use Rattle.parcels.proofs.shaped.count_of.Statement.{statement}
 use Rattle.parcels.proofs.shaped.count_of.Tie as tie
@@ -20,10 +20,10 @@ rows-of-requires c κs = c.requires
 sub-last : tie.Need-overflow-sub-last invariant-loop decreases-loop
 sub-last c =
     let start = c.before.before.before in
-    omega (arith, start.requires.0.0.accepted.dimensions-least, start.requires.0.0.accepted.dimensions-most)
+    omega (arith, start.requires.0.0.accepted.dimensions_least, start.requires.0.0.accepted.dimensions_most)
 
 loop-holds : tie.Need-loop-init invariant-loop decreases-loop
-loop-holds c = counting-none _ _
+loop-holds c = counting_none _ _
 
 row-of-requires : tie.Need-row-of-requires invariant-loop decreases-loop
 row-of-requires c κs =
@@ -35,12 +35,12 @@ row-of-requires c κs =
 mul-count-row : tie.Need-overflow-mul-count-row invariant-loop decreases-loop
 mul-count-row c =
     let start = c.before.before.before.before.before.before.before.before.before.before.before.before in
-    omega (arith, start.requires.0.0.accepted.dimensions-least, start.requires.0.0.accepted.dimensions-most)
+    omega (arith, start.requires.0.0.accepted.dimensions_least, start.requires.0.0.accepted.dimensions_most)
 
 array-read-count-row : tie.Need-array-read-count-row invariant-loop decreases-loop
 array-read-count-row c =
     let start = c.before.before.before.before.before.before.before.before.before.before.before.before in
-    omega (arith, start.requires.0.0.accepted.dimensions-least, start.requires.0.0.accepted.dimensions-most)
+    omega (arith, start.requires.0.0.accepted.dimensions_least, start.requires.0.0.accepted.dimensions_most)
 
 count-row-requires : tie.Need-count-row-requires invariant-loop decreases-loop
 count-row-requires c κs =
@@ -64,7 +64,7 @@ add-count c =
     let rows_of_lem = at-rows-of.rows_of_lem in
     omega (
       arith,
-      L.counts-few _ start.requires.0.0.accepted _ _ _ rows_of_lem.ensures _ _ at-loop.loop.invariant,
+      L.counts_few _ start.requires.0.0.accepted _ _ _ rows_of_lem.ensures _ _ at-loop.loop.invariant,
       c.count-row.ensures.1,
       L.row_small _ start.requires.0.0.accepted _ rows_of_lem.ensures.shape _ at-loop-test.loop-test.true _ _ _ _ at-row-of.row_of.ensures,
     )
@@ -88,7 +88,7 @@ loop-again c =
     let at-loop = at-loop-test.before in
     let at-rows-of = at-loop.before.before.before in
     let start = at-rows-of.before in
-    counting-row _ _ start.requires.0.0.accepted at-rows-of.rows_of_lem.ensures.shape _ at-loop-test.loop-test.true _ _ _ _
+    counting_row _ _ start.requires.0.0.accepted at-rows-of.rows_of_lem.ensures.shape _ at-loop-test.loop-test.true _ _ _ _
     at-row-of.row_of.ensures _ _ at-loop.loop.invariant c.count-row.ensures.0
 
 returns : tie.Need-returns invariant-loop decreases-loop

@@ -14,7 +14,7 @@ use Rattle.parcels.proofs.shaped.reach_of.Tie as tie
 returns : tie.Need-returns
 returns c =
     let start = c.before in
-    λ w h ends. R.reach-none _ start.requires.0.0 w (nth start.args.at)
+    λ w h ends. R.reach_none _ start.requires.0.0 w (nth start.args.at)
     (λ j. get_or start.args.at j 0 + component start.args.nest start.args.e j) start.args.e (λ j o. refl) h
     (rw c.if1.true at ends)
 
@@ -25,27 +25,27 @@ span-requires : tie.Need-span-requires
 span-requires c κs = (framed _ c.before.before.requires.0.0, c.ahead_of.ensures.1)
 
 sub-last : tie.Need-overflow-sub-last
-sub-last c = omega (arith, c.before.before.before.before.requires.0.0.dimensions-least)
+sub-last c = omega (arith, c.before.before.before.before.requires.0.0.dimensions_least)
 
 mul-d : tie.Need-overflow-mul-d
 mul-d c =
     let start = c.before.before.before.before in
-    omega (arith, start.requires.0.0.dimensions-most, start.requires.0.0.distances-most, start.requires.0.1.0)
+    omega (arith, start.requires.0.0.dimensions_most, start.requires.0.0.distances_most, start.requires.0.1.0)
 
 add-d : tie.Need-overflow-add-d
 add-d c =
     let start = c.before.before.before.before in
-    omega (arith, start.requires.0.0.dimensions-most, start.requires.0.0.distances-most, start.requires.0.1.0)
+    omega (arith, start.requires.0.0.dimensions_most, start.requires.0.0.distances_most, start.requires.0.1.0)
 
 mul-d-2 : tie.Need-overflow-mul-d-2
 mul-d-2 c =
     let start = c.before.before.before.before in
-    omega (arith, start.requires.0.0.dimensions-most, start.requires.0.0.distances-most, start.requires.0.1.0)
+    omega (arith, start.requires.0.0.dimensions_most, start.requires.0.0.distances_most, start.requires.0.1.0)
 
 element-copy-out-d : tie.Need-element-copy-out-d
 element-copy-out-d c =
     let start = c.before.before.before.before in
-    omega (arith, start.requires.0.0.dimensions-most, start.requires.0.0.distances-most, start.requires.0.1.0)
+    omega (arith, start.requires.0.0.dimensions_most, start.requires.0.0.distances_most, start.requires.0.1.0)
 
 less-requires : tie.Need-less-requires
 less-requires c κs = search rules
@@ -69,7 +69,7 @@ returns-2 c =
     let at-span = at_less.before.before.before in
     let at-ahead-of = at-span.before in
     let start = at-ahead-of.before.before in
-    λ w h ends. R.reach-code _ start.requires.0.0 w (nth start.args.at) (nth at-ahead-of.ahead_of.result) start.args.e
+    λ w h ends. R.reach_code _ start.requires.0.0 w (nth start.args.at) (nth at-ahead-of.ahead_of.result) start.args.e
     (λ j o. at-ahead-of.ahead_of.ensures.0 j o) h start.args.own.from start.args.own.to start.args.limit at-span.span.result.from
     at-span.span.result.to _ at_less.less.result c.before.less2.result c.before.before.least.result _ _
     (R.given_is _ start.requires.0.0 _ start.requires.0.1.1 start.args.e _) at_less.less.ensures at_Greater.greater.ensures

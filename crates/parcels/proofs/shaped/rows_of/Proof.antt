@@ -9,7 +9,7 @@ mul-slot c =
     let start = c.before in
     omega (
       arith,
-      (L.slot-fits start.args.sizes.route start.args.nest start.args.sizes.ways start.requires.0.0.ways start.args.tile
+      (L.slot_fits start.args.sizes.route start.args.nest start.args.sizes.ways start.requires.0.0.ways start.args.tile
           start.args.way start.requires.0.1.1.0 (rw start.requires.0.1.0 start.requires.0.1.1.1) start.requires.0.0.accepted).0,
     )
 
@@ -18,7 +18,7 @@ add-slot c =
     let start = c.before in
     omega (
       arith,
-      (L.slot-fits start.args.sizes.route start.args.nest start.args.sizes.ways start.requires.0.0.ways start.args.tile
+      (L.slot_fits start.args.sizes.route start.args.nest start.args.sizes.ways start.requires.0.0.ways start.args.tile
           start.args.way start.requires.0.1.1.0 (rw start.requires.0.1.0 start.requires.0.1.1.1) start.requires.0.0.accepted).1,
     )
 
@@ -31,7 +31,7 @@ sending-of-requires : tie.Need-sending-of-requires
 sending-of-requires c κs =
     let start = c.before.before in (
       start.requires.0.0,
-      L.slot-headed start.args.sizes.route _ _ start.requires.0.0.ways _ _ start.requires.0.1.1.0
+      L.slot_headed start.args.sizes.route _ _ start.requires.0.0.ways _ _ start.requires.0.1.1.0
           (rw start.requires.0.1.0 start.requires.0.1.1.1) _ _ start.requires.1.1 c.along-of.ensures,
     )
 

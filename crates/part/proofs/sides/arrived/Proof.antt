@@ -1,7 +1,7 @@
 -- `arrived` meets its contract: by the test.
 use mathlib.Core.Path.{refl, sym}
 use borrow.Author.Tests.{eq-eqb, ne_eqb}
-use Rattle.base.proofs.Tests.{pick_true, pick-false}
+use Rattle.base.proofs.Tests.{pick_true, pick_false}
 use borrow.Author.Rules.{rules}
 use Rattle.part.proofs.sides.arrived.Statement.{statement}
 use Rattle.part.proofs.sides.arrived.Tie as tie
@@ -10,7 +10,7 @@ slice-read-if1 : tie.Need-slice-read-if1
 slice-read-if1 c = search rules
 
 returns : tie.Need-returns
-returns c = (sym (ne_eqb _ _ c.if1.true), sym (pick-false _ _ _ refl))
+returns c = (sym (ne_eqb _ _ c.if1.true), sym (pick_false _ _ _ refl))
 
 slice-write-marks : tie.Need-slice-write-marks
 slice-write-marks c = search rules

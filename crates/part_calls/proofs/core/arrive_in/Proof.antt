@@ -17,11 +17,11 @@ returns : tie.Need-returns
 returns c =
     let S = c.before.before.before.before.before.before in
     let A = S.args in
-    let as_long = c.before.as_long in
+    let as_long_lem = c.before.as_long_lem in
     let if1 = c.if1 in
     let p = plan_of A.sizes.route A.nest in
     λ l h. answers.arrive-length p A.b S.requires.0.low (state_of A.memory.now A.mail.now l A.marks.now) _ refl A.m A.words.now
-    (sym (as_long.ensures A.words.now refl) ∙ not-true _ if1.true)
+    (sym (as_long_lem.ensures A.words.now refl) ∙ not-true _ if1.true)
 
 refusal-of-areas-requires : tie.Need-refusal-of-areas-requires
 refusal-of-areas-requires c κs =
@@ -39,13 +39,13 @@ returns-2 c =
     let S = c.before.before.before.before.before.before.before.before.before.before in
     let A = S.args in
     let refusal-of-areas = c.before.refusal-of-areas in
-    let as_long = c.before.before.before.before.before.as_long in
+    let as_long_lem = c.before.before.before.before.before.as_long_lem in
     let if1 = c.before.before.before.before.if1 in
     let if2 = c.if2 in
     let p = plan_of A.sizes.route A.nest in
-    λ l h. answers.arrive-unfit p A.b S.requires.0.low (state_of A.memory.now A.mail.now l A.marks.now) refusal-of-areas.result
+    λ l h. answers.arrive_unfit p A.b S.requires.0.low (state_of A.memory.now A.mail.now l A.marks.now) refusal-of-areas.result
     (refusal-of-areas.ensures.0 l h)
-    A.m A.words.now (sym (as_long.ensures A.words.now refl) ∙ not-false _ if1.false) if2.true
+    A.m A.words.now (sym (as_long_lem.ensures A.words.now refl) ∙ not-false _ if1.false) if2.true
 
 receive-requires : tie.Need-receive-requires
 receive-requires c κs =
@@ -53,7 +53,7 @@ receive-requires c κs =
     let A = S.args in
     let refusal-of-areas = c.before.before.before.refusal-of-areas in
     let if2 = c.before.before.if2 in
-    let as_long = c.before.before.before.before.before.before.before.as_long in
+    let as_long_lem = c.before.before.before.before.before.before.before.as_long_lem in
     let if1 = c.before.before.before.before.before.before.if1 in
     let p = plan_of A.sizes.route A.nest in (
       S.requires.0,
@@ -61,7 +61,7 @@ receive-requires c κs =
         S.requires.1.0.messages,
         answers.may-arrive p A.b A.memory.now A.mail.now A.marks.now A.progress S.requires.1.1 refusal-of-areas.result
             refusal-of-areas.ensures
-            if2.false A.m A.words.now (sym (as_long.ensures A.words.now refl) ∙ not-false _ if1.false),
+            if2.false A.m A.words.now (sym (as_long_lem.ensures A.words.now refl) ∙ not-false _ if1.false),
       ),
     )
 
@@ -76,14 +76,14 @@ returns-3 c =
     let S = c.before.before.before.before.before.before.before.before.before.before.before.before.before.before.before.before.before in
     let A = S.args in
     let refusal-of-areas = c.before.before.before.before.before.before.before.before.refusal-of-areas in
-    let as_long = c.before.before.before.before.before.before.before.before.before.before.before.before.as_long in
+    let as_long_lem = c.before.before.before.before.before.before.before.before.before.before.before.before.as_long_lem in
     let if1 = c.before.before.before.before.before.before.before.before.before.before.before.if1 in
     let if2 = c.before.before.before.before.before.before.before.if2 in
     let receive = c.before.before.before.before.receive in
     let p = plan_of A.sizes.route A.nest in
     λ l h. answers.arrive-come p A.b S.requires.0.low (state_of A.memory.now A.mail.now l A.marks.now) refusal-of-areas.result
     (refusal-of-areas.ensures.0 l h)
-    A.m A.words.now (sym (as_long.ensures A.words.now refl) ∙ not-false _ if1.false) if2.false _ (receive.ensures A.memory.now l)
+    A.m A.words.now (sym (as_long_lem.ensures A.words.now refl) ∙ not-false _ if1.false) if2.false _ (receive.ensures A.memory.now l)
 
 pub arrive-in-spec : {M : Type 1} → statement M
 arrive-in-spec =

@@ -15,7 +15,7 @@ returns c =
     let opens = c.before.«open» in
     let if1 = c.if1 in
     let A = S.args in
-    λ l h. answers.collect-read A.encoded.now A.route A.processor opens.result opens.ensures (state_of A.memory.now [] l [])
+    λ l h. answers.collect_read A.encoded.now A.route A.processor opens.result opens.ensures (state_of A.memory.now [] l [])
     A.grid.now if1.true
 
 collect-part-requires : tie.Need-collect-part-requires

@@ -19,8 +19,8 @@ returns c =
     let if1 = c.if1 in
     let A = S.args in
     λ l h. ap (λ (k : List ℕ). answer opens.result.number (state_of A.memory.now A.mail.now k A.marks.now))
-    (sym (reading.zeros-after-no l _ if1.true))
-    ∙ answers.fresh-read A.encoded.now A.route A.processor opens.result opens.ensures (state_of A.memory.now A.mail.now l
+    (sym (reading.zeros_after_no l _ if1.true))
+    ∙ answers.fresh_read A.encoded.now A.route A.processor opens.result opens.ensures (state_of A.memory.now A.mail.now l
     A.marks.now) if1.true
 
 fresh-part-requires : tie.Need-fresh-part-requires

@@ -37,10 +37,10 @@ returns : tie.Need-returns
 returns c =
     let S = c.before.before.before.before.before.before.before.before.before.before.before.before.before.before.before.before.before in
     let A = S.args in
-    let part-fits = c.before.part-fits in
+    let part_fits_lem = c.before.part_fits_lem in
     let if1 = c.if1 in
     let p = plan_of A.sizes.route A.nest in
-    λ l h. answers.fresh-nine p A.b S.requires.1.1 A.memory.now A.mail.now l A.marks.now part-fits.result (part-fits.ensures l h)
+    λ l h. answers.fresh-nine p A.b S.requires.1.1 A.memory.now A.mail.now l A.marks.now part_fits_lem.result (part_fits_lem.ensures l h)
     (not-true _ if1.true)
 
 zero-words-requires : tie.Need-zero-words-requires
@@ -65,13 +65,13 @@ returns-2 : tie.Need-returns-2
 returns-2 c =
     let S = c.before.before.before.before.before.before.before.before.before.before.before.before.before.before.before.before.before.before.before.before.before.before.before.before.before.before.before.before.before in
     let A = S.args in
-    let part-fits = c.before.before.before.before.before.before.before.before.before.before.before.before.before.part-fits in
+    let part_fits_lem = c.before.before.before.before.before.before.before.before.before.before.before.before.before.part_fits_lem in
     let if1 = c.before.before.before.before.before.before.before.before.before.before.before.before.if1 in
     let zero-words = c.before.before.before.before.before.before.before.before.before.before.zero-words in
     let zero-words2 = c.before.before.before.before.before.before.zero-words2 in
     let zero-bytes = c.before.before.zero-bytes in
     let p = plan_of A.sizes.route A.nest in
-    λ l h. answers.fresh-done p A.b S.pre.1.1 A.memory.now A.mail.now l A.marks.now part-fits.result (part-fits.ensures l h)
+    λ l h. answers.fresh_done p A.b S.pre.1.1 A.memory.now A.mail.now l A.marks.now part_fits_lem.result (part_fits_lem.ensures l h)
     (not-false _ if1.false) _ _ _ zero-words.ensures zero-words2.ensures zero-bytes.ensures
 
 pub fresh-part-spec : {M : Type 1} → statement M

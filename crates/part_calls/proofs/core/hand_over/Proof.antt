@@ -16,7 +16,7 @@ returns c =
     let A = S.args in
     let if1 = c.if1 in
     let p = plan_of A.sizes.route A.nest in
-    λ ms us l. answers.over-beyond p A.b (state_of ms us l A.marks.now) A.m (omega (arith, if1.true, S.requires.1.0))
+    λ ms us l. answers.over_beyond p A.b (state_of ms us l A.marks.now) A.m (omega (arith, if1.true, S.requires.1.0))
 
 mul-word-index : tie.Need-overflow-mul-word-index
 mul-word-index c =

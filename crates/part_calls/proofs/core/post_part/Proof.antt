@@ -35,7 +35,7 @@ returns c =
     let refusal-of-areas = c.before.refusal-of-areas in
     let if1 = c.if1 in
     let p = plan_of A.sizes.route A.nest in
-    λ l h. answers.post-unfit p A.b S.requires.1.1.0 (state_of A.memory.now A.mail.now l A.marks.now) refusal-of-areas.result
+    λ l h. answers.post_unfit p A.b S.requires.1.1.0 (state_of A.memory.now A.mail.now l A.marks.now) refusal-of-areas.result
     (refusal-of-areas.ensures.0 l h)
     A.m if1.true
 

@@ -3,14 +3,14 @@ use Rattle.core.specs.Prelude.{ℕ, ◌<◌, []}
 use mathlib.Core.Path.{refl, sym, ap, ◌∙◌}
 use native.Mathlib.Omega.{arith}
 use Rattle.base.specs.Lists.{put}
-use Rattle.base.proofs.Tests.{pick_true, pick-false}
+use Rattle.base.proofs.Tests.{pick_true, pick_false}
 use Rattle.machine.specs.Plan.{count}
 use Rattle.machine.specs.Machine.{state_of}
 use Rattle.plan.specs.Shaped.{plan_of}
 use Rattle.summary.specs.Summary.{line_of}
 use Rattle.stages.proofs.Parts as parts
 use Rattle.transport.proofs.arrivals.Taking as taking
-use Rattle.part_calls.proofs.front.Wide.{state-is}
+use Rattle.part_calls.proofs.front.Wide.{state_is}
 use Rattle.part_calls.proofs.Answers as answers
 use borrow.Author.Rules.{rules}
 use Rattle.part_calls.proofs.core.receive.Statement.{statement}
@@ -35,7 +35,7 @@ line-at-requires c κs =
     let S = c.before.before.before.before.before in
     let A = S.args in
     let nth = c.nth in
-    (S.requires.0.planned, parts.placed-self A.sizes.route A.nest A.m nth.result nth.ensures)
+    (S.requires.0.planned, parts.placed_self A.sizes.route A.nest A.m nth.result nth.ensures)
 
 word-index-requires : tie.Need-word-index-requires
 word-index-requires c κs = search rules
@@ -97,7 +97,7 @@ arrived-requires c κs =
     let here = sym word-index.ensures ∙ if2.false in
     let mine = answers.come-handled p A.b (state_of [] A.mail.now [] A.marks.now) A.m A.words.now line_at_lem.result
     (line_at_lem.ensures ∙ ap (line_of p) nth.ensures.number) lo here in
-    answers.mark-low p A.b A.m word-index2.result A.marks.now S.requires.1.1.marks-long lo mine (word-index2.ensures ∙ S.requires.0.ordinals A.m
+    answers.mark-low p A.b A.m word-index2.result A.marks.now S.requires.1.1.marks_long lo mine (word-index2.ensures ∙ S.requires.0.ordinals A.m
     (omega (arith, lo)))
 
 store-words-requires : tie.Need-store-words-requires
@@ -116,8 +116,8 @@ store-words-requires c κs =
     let here = sym word-index.ensures ∙ if2.false in
     let mine = answers.come-handled p A.b (state_of [] A.mail.now [] A.marks.now) A.m A.words.now line_at_lem.result
     (line_at_lem.ensures ∙ ap (line_of p) nth.ensures.number) lo here in
-    answers.room p A.b A.m word-index3.result _ A.mail.now S.requires.1.1.mail-long lo mine
-    (word-index3.ensures ∙ S.requires.0.starts A.m (omega (arith, lo))) (taking.long-here p A.m A.words.now lo S.requires.1.1.long)
+    answers.room p A.b A.m word-index3.result _ A.mail.now S.requires.1.1.mail_long lo mine
+    (word-index3.ensures ∙ S.requires.0.starts A.m (omega (arith, lo))) (taking.long_here p A.m A.words.now lo S.requires.1.1.long)
 
 same_length : tie.Need-same-length
 same_length c = search rules
@@ -170,7 +170,7 @@ returns-4 c =
     λ ms l. answers.come-again p A.b (state_of ms A.mail.now l A.marks.now) A.m A.words.now line_at_lem.result
     (line_at_lem.ensures ∙ ap (line_of p) nth.ensures.number) lo here word-index2.result (word-index2.ensures ∙ S.requires.0.ordinals A.m
     (omega (arith, lo))) arrived.result arrived.ensures.0 if3.false _
-    (state-is refl refl refl (arrived.ensures.1 ∙ pick-false _ _ _ if3.false))
+    (state_is refl refl refl (arrived.ensures.1 ∙ pick_false _ _ _ if3.false))
 
 pub receive-spec : {M : Type 1} → statement M
 receive-spec =

@@ -37,7 +37,7 @@ returns c =
     let own-count = c.before.before.own-count in
     let kept-count = c.kept-count in
     let A = c.before.before.before.before.before.before.before.args in
-    front.sizes-are A.nest A.sizes A.b _ _ _ prepare.ensures.0 prepare.result prepare.ensures.1 own-count.result
+    front.sizes_are A.nest A.sizes A.b _ _ _ prepare.ensures.0 prepare.result prepare.ensures.1 own-count.result
     own-count.ensures.0 kept-count.result kept-count.ensures.0
 
 pub sizes-of-spec : {M : Type 1} → statement M

@@ -23,7 +23,7 @@ copy-words-requires : tie.Need-copy-words-requires
 copy-words-requires c κs =
     let S = c.before.before.before in
     let A = S.args in
-    parts.mid-length A.mail.now A.from _ S.requires
+    parts.mid_length A.mail.now A.from _ S.requires
 
 same_length : tie.Need-same-length
 same_length c = search rules

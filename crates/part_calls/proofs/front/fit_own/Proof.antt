@@ -2,7 +2,7 @@
 use mathlib.Core.Path.{sym, ◌∙◌}
 use native.Mathlib.Omega.{arith}
 use borrow.Author.Tests.{eq-eqb, ne_eqb}
-use Rattle.base.proofs.Tests.{and-false, and_no, and_left}
+use Rattle.base.proofs.Tests.{and_false, and_no, and_left}
 use Rattle.plan.specs.Shaped.{plan_of}
 use Rattle.stages.proofs.Stages as stages
 use Rattle.part_calls.proofs.front.Front as front
@@ -46,9 +46,9 @@ returns c =
     let if2 = c.before.before.if2 in
     let A = S.args in
     let p = plan_of A.sizes.route A.nest in
-    λ s f g n. stages.record-sends p s.progress A.b word-index.result tile-count.result A.stage word-index2.result
+    λ s f g n. stages.record_sends p s.progress A.b word-index.result tile-count.result A.stage word-index2.result
     (word-index.ensures ∙ f) tile-count.ensures.0 g (word-index2.ensures ∙ n) tile-at.result count_at.result if1.true if2.true
-    tile-at.ensures.0 count_at.ensures.0 ∙ front.record-only p s A.b
+    tile-at.ensures.0 count_at.ensures.0 ∙ front.record_only p s A.b
 
 returns-2 : tie.Need-returns-2
 returns-2 c =
@@ -60,8 +60,8 @@ returns-2 c =
     let if3 = c.if3 in
     let A = S.args in
     let p = plan_of A.sizes.route A.nest in
-    λ s f g n. stages.record-wrong p s.progress A.b word-index.result tile-count.result A.stage word-index2.result
-    (word-index.ensures ∙ f) tile-count.ensures.0 g (word-index2.ensures ∙ n) if1.true if3.true ∙ front.record-only p s A.b
+    λ s f g n. stages.record_wrong p s.progress A.b word-index.result tile-count.result A.stage word-index2.result
+    (word-index.ensures ∙ f) tile-count.ensures.0 g (word-index2.ensures ∙ n) if1.true if3.true ∙ front.record_only p s A.b
 
 returns-3 : tie.Need-returns-3
 returns-3 c =
@@ -74,8 +74,8 @@ returns-3 c =
     let if3 = c.if3 in
     let A = S.args in
     let p = plan_of A.sizes.route A.nest in
-    λ s f g n. stages.record-begins p s.progress A.b word-index.result tile-count.result A.stage word-index2.result
-    (word-index.ensures ∙ f) tile-count.ensures.0 g (word-index2.ensures ∙ n) if1.true if2.false if3.false ∙ front.record-only p s A.b
+    λ s f g n. stages.record_begins p s.progress A.b word-index.result tile-count.result A.stage word-index2.result
+    (word-index.ensures ∙ f) tile-count.ensures.0 g (word-index2.ensures ∙ n) if1.true if2.false if3.false ∙ front.record_only p s A.b
 
 returns-4 : tie.Need-returns-4
 returns-4 c =
@@ -87,9 +87,9 @@ returns-4 c =
     let if4 = c.if4 in
     let A = S.args in
     let p = plan_of A.sizes.route A.nest in
-    λ s f g n. sym (stages.record-over p s.progress A.b word-index.result tile-count.result A.stage word-index2.result
-    (word-index.ensures ∙ f) tile-count.ensures.0 g (word-index2.ensures ∙ n) if1.false ∙ and-false _ _ (ne_eqb _ _ if4.true))
-    ∙ front.record-only p s A.b
+    λ s f g n. sym (stages.record_over p s.progress A.b word-index.result tile-count.result A.stage word-index2.result
+    (word-index.ensures ∙ f) tile-count.ensures.0 g (word-index2.ensures ∙ n) if1.false ∙ and_false _ _ (ne_eqb _ _ if4.true))
+    ∙ front.record_only p s A.b
 
 returns-5 : tie.Need-returns-5
 returns-5 c =
@@ -101,9 +101,9 @@ returns-5 c =
     let if5 = c.if5 in
     let A = S.args in
     let p = plan_of A.sizes.route A.nest in
-    λ s f g n. sym (stages.record-over p s.progress A.b word-index.result tile-count.result A.stage word-index2.result
-    (word-index.ensures ∙ f) tile-count.ensures.0 g (word-index2.ensures ∙ n) if1.false ∙ and_no _ _ (and-false _ _ (ne_eqb _ _ if5.true)))
-    ∙ front.record-only p s A.b
+    λ s f g n. sym (stages.record_over p s.progress A.b word-index.result tile-count.result A.stage word-index2.result
+    (word-index.ensures ∙ f) tile-count.ensures.0 g (word-index2.ensures ∙ n) if1.false ∙ and_no _ _ (and_false _ _ (ne_eqb _ _ if5.true)))
+    ∙ front.record_only p s A.b
 
 returns-6 : tie.Need-returns-6
 returns-6 c =
@@ -116,9 +116,9 @@ returns-6 c =
     let if5 = c.if5 in
     let A = S.args in
     let p = plan_of A.sizes.route A.nest in
-    λ s f g n. sym (stages.record-over p s.progress A.b word-index.result tile-count.result A.stage word-index2.result
+    λ s f g n. sym (stages.record_over p s.progress A.b word-index.result tile-count.result A.stage word-index2.result
     (word-index.ensures ∙ f) tile-count.ensures.0 g (word-index2.ensures ∙ n) if1.false ∙ and_left _ _ (eq-eqb _ _ if4.false) ∙ and_left _ _
-    (eq-eqb _ _ if5.false)) ∙ front.record-only p s A.b
+    (eq-eqb _ _ if5.false)) ∙ front.record_only p s A.b
 
 pub fit-own-spec : {M : Type 1} → statement M
 fit-own-spec =

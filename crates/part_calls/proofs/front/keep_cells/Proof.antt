@@ -17,7 +17,7 @@ fill-counts-requires c κs =
     let S = c.before.before.before.before.before.before.before in
     let A = S.args in
     let mark-kept = c.before.before.before.before.mark-kept in (
-      front.marks-few A.nest A.sizes A.b S.requires.0.0 (keeps (plan_of A.sizes.route A.nest) A.b)
+      front.marks_few A.nest A.sizes A.b S.requires.0.0 (keeps (plan_of A.sizes.route A.nest) A.b)
           mark-kept.new.1.1.1.1.0 (mark-kept.auto.1.1.1.1.0 ∙ S.requires.1.1.0),
       S.requires.1.1.1,
     )
@@ -30,9 +30,9 @@ rank-requires c κs =
     let mark-kept = c.before.before.before.before.before.before.before.mark-kept in (
       fill-counts.ensures,
       (
-        front.cells-below A.nest A.sizes A.b S.requires.0.0 (keeps (plan_of A.sizes.route A.nest) A.b)
+        front.cells_below A.nest A.sizes A.b S.requires.0.0 (keeps (plan_of A.sizes.route A.nest) A.b)
             _ mark-kept.ensures,
-        front.marks-few A.nest A.sizes A.b S.requires.0.0 (keeps (plan_of A.sizes.route A.nest) A.b)
+        front.marks_few A.nest A.sizes A.b S.requires.0.0 (keeps (plan_of A.sizes.route A.nest) A.b)
             mark-kept.new.1.1.1.1.0 (mark-kept.auto.1.1.1.1.0 ∙ S.requires.1.1.0),
       ),
     )
@@ -48,7 +48,7 @@ returns c =
     let A = S.args in
     let rank = c.rank in (
       record { are = mark-kept.ensures; counted = fill-counts.ensures },
-      front.all-marked A.nest A.sizes A.b S.requires.0.0 (keeps (plan_of A.sizes.route A.nest) A.b) _ mark-kept.ensures rank.result
+      front.all_marked A.nest A.sizes A.b S.requires.0.0 (keeps (plan_of A.sizes.route A.nest) A.b) _ mark-kept.ensures rank.result
           rank.ensures,
     )
 

@@ -18,7 +18,7 @@ slice-aggregate-keep-cells : tie.Need-slice-aggregate-keep-cells
 slice-aggregate-keep-cells c =
     let S = c.before in
     let A = S.args in
-    front.lent-cells A.nest A.sizes A.b S.requires.0.0 (replicate {A = ℕ} 16384 0) (length-replicate {A = ℕ} 16384 0)
+    front.lent_cells A.nest A.sizes A.b S.requires.0.0 (replicate {A = ℕ} 16384 0) (length-replicate {A = ℕ} 16384 0)
 
 keep-cells-requires : tie.Need-keep-cells-requires
 keep-cells-requires c κs =
@@ -27,7 +27,7 @@ keep-cells-requires c κs =
       S.requires.0,
       (
         S.requires.1,
-        (front.lent-long A.nest A.sizes A.b S.requires.0.0 (replicate {A = ℕ} 16384 0) (length-replicate {A = ℕ} 16384 0), refl),
+        (front.lent_long A.nest A.sizes A.b S.requires.0.0 (replicate {A = ℕ} 16384 0) (length-replicate {A = ℕ} 16384 0), refl),
       ),
     )
 
@@ -36,7 +36,7 @@ returns c =
     let S = c.before.before.before.before in
     let A = S.args in
     let keep-cells = c.before.keep-cells in
-    front.cells-few A.nest A.sizes A.b S.requires.0.0 (keeps (plan_of A.sizes.route A.nest) A.b) keep-cells.result
+    front.cells_few A.nest A.sizes A.b S.requires.0.0 (keeps (plan_of A.sizes.route A.nest) A.b) keep-cells.result
     keep-cells.ensures.1
 
 pub kept-count-spec : {M : Type 1} → statement M

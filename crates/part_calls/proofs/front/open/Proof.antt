@@ -11,7 +11,7 @@ returns : tie.Need-returns
 returns c =
     let A = c.before.before.before.before.before.before.args in
     let read = c.before.before.before.before.with-sizes in
-    front.closed-read A.encoded.now A.route A.processor read.result read.ensures c.if1.true
+    front.closed_read A.encoded.now A.route A.processor read.result read.ensures c.if1.true
 
 closed-requires : tie.Need-closed-requires
 closed-requires c κs = search rules
@@ -24,7 +24,7 @@ returns-2 c =
     let S = at-with-sizes.before.before in
     let A = S.args in
     let read = at-with-sizes.with-sizes in
-    front.closed-beyond A.encoded.now A.route A.processor read.result read.ensures at-if1.if1.false c.closed.result
+    front.closed_beyond A.encoded.now A.route A.processor read.result read.ensures at-if1.if1.false c.closed.result
     c.closed.ensures at-if2.if2.true
 
 returns-3 : tie.Need-returns-3

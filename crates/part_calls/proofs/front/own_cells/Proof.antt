@@ -16,9 +16,9 @@ fill-counts-requires : tie.Need-fill-counts-requires
 fill-counts-requires c κs =
     let S = c.before.before.before.before.before.before.before in
     let A = S.args in
-    let mark-own = c.before.before.before.before.mark-own in (
-      front.marks-few A.nest A.sizes A.b S.requires.0.0 (owns (plan_of A.sizes.route A.nest) A.b)
-          mark-own.new.1.1.1.0 (mark-own.auto.1.1.1.0 ∙ S.requires.1.0),
+    let mark_own = c.before.before.before.before.mark_own in (
+      front.marks_few A.nest A.sizes A.b S.requires.0.0 (owns (plan_of A.sizes.route A.nest) A.b)
+          mark_own.new.1.1.1.0 (mark_own.auto.1.1.1.0 ∙ S.requires.1.0),
       S.requires.1.1,
     )
 
@@ -27,13 +27,13 @@ rank-requires c κs =
     let fill-counts = c.before.before.fill-counts in
     let S = c.before.before.before.before.before.before.before.before.before.before in
     let A = S.args in
-    let mark-own = c.before.before.before.before.before.before.before.mark-own in (
+    let mark_own = c.before.before.before.before.before.before.before.mark_own in (
       fill-counts.ensures,
       (
-        front.cells-below A.nest A.sizes A.b S.requires.0.0 (owns (plan_of A.sizes.route A.nest) A.b)
-            _ mark-own.ensures,
-        front.marks-few A.nest A.sizes A.b S.requires.0.0 (owns (plan_of A.sizes.route A.nest) A.b)
-            mark-own.new.1.1.1.0 (mark-own.auto.1.1.1.0 ∙ S.requires.1.0),
+        front.cells_below A.nest A.sizes A.b S.requires.0.0 (owns (plan_of A.sizes.route A.nest) A.b)
+            _ mark_own.ensures,
+        front.marks_few A.nest A.sizes A.b S.requires.0.0 (owns (plan_of A.sizes.route A.nest) A.b)
+            mark_own.new.1.1.1.0 (mark_own.auto.1.1.1.0 ∙ S.requires.1.0),
       ),
     )
 
@@ -42,13 +42,13 @@ same_length c = search rules
 
 returns : tie.Need-returns
 returns c =
-    let mark-own = c.before.before.before.before.before.before.before.before.mark-own in
+    let mark_own = c.before.before.before.before.before.before.before.before.mark_own in
     let fill-counts = c.before.before.before.fill-counts in
     let S = c.before.before.before.before.before.before.before.before.before.before.before in
     let A = S.args in
     let rank = c.rank in (
-      record { are = mark-own.ensures; counted = fill-counts.ensures },
-      front.all-marked A.nest A.sizes A.b S.requires.0.0 (owns (plan_of A.sizes.route A.nest) A.b) _ mark-own.ensures rank.result
+      record { are = mark_own.ensures; counted = fill-counts.ensures },
+      front.all_marked A.nest A.sizes A.b S.requires.0.0 (owns (plan_of A.sizes.route A.nest) A.b) _ mark_own.ensures rank.result
           rank.ensures,
     )
 

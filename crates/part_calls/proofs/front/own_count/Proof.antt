@@ -18,23 +18,23 @@ slice-aggregate-own-cells : tie.Need-slice-aggregate-own-cells
 slice-aggregate-own-cells c =
     let S = c.before in
     let A = S.args in
-    front.lent-cells A.nest A.sizes A.b S.requires.0 (replicate {A = ℕ} 16384 0) (length-replicate {A = ℕ} 16384 0)
+    front.lent_cells A.nest A.sizes A.b S.requires.0 (replicate {A = ℕ} 16384 0) (length-replicate {A = ℕ} 16384 0)
 
 own-cells-requires : tie.Need-own-cells-requires
 own-cells-requires c κs =
     let S = c.before.before in
     let A = S.args in (
       S.requires,
-      (front.lent-long A.nest A.sizes A.b S.requires.0 (replicate {A = ℕ} 16384 0) (length-replicate {A = ℕ} 16384 0), refl),
+      (front.lent_long A.nest A.sizes A.b S.requires.0 (replicate {A = ℕ} 16384 0) (length-replicate {A = ℕ} 16384 0), refl),
     )
 
 returns : tie.Need-returns
 returns c =
     let S = c.before.before.before.before in
     let A = S.args in
-    let own-cells = c.before.own-cells in
-    front.cells-few A.nest A.sizes A.b S.requires.0 (owns (plan_of A.sizes.route A.nest) A.b) own-cells.result
-    own-cells.ensures.1
+    let cells_are_own = c.before.cells_are_own in
+    front.cells_few A.nest A.sizes A.b S.requires.0 (owns (plan_of A.sizes.route A.nest) A.b) cells_are_own.result
+    cells_are_own.ensures.1
 
 pub own-count-spec : {M : Type 1} → statement M
 own-count-spec =

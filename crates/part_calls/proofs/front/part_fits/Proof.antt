@@ -15,19 +15,19 @@ returns c =
     let A = S.args in
     let if1 = c.if1 in
     let p = plan_of A.sizes.route A.nest in
-    λ l h. front.no-memory p A.b (state_of A.memory.now A.mail.now l A.marks.now) (λ q. if1.true (q ∙ sym S.requires.1.kept))
+    λ l h. front.no_memory p A.b (state_of A.memory.now A.mail.now l A.marks.now) (λ q. if1.true (q ∙ sym S.requires.1.kept))
 
 mul-word-index : tie.Need-overflow-mul-word-index
 mul-word-index c =
     let S = c.before.before.before.before in
     let A = S.args in
-    omega (arith, front.last-low A.nest A.sizes A.b A.lens.now A.ordinals.now A.starts.now S.requires.0 A.messages S.requires.1.messages)
+    omega (arith, front.last_low A.nest A.sizes A.b A.lens.now A.ordinals.now A.starts.now S.requires.0 A.messages S.requires.1.messages)
 
 element-copy-out-word-index : tie.Need-element-copy-out-word-index
 element-copy-out-word-index c =
     let S = c.before.before.before.before in
     let A = S.args in
-    front.last-low A.nest A.sizes A.b A.lens.now A.ordinals.now A.starts.now S.requires.0 A.messages S.requires.1.messages
+    front.last_low A.nest A.sizes A.b A.lens.now A.ordinals.now A.starts.now S.requires.0 A.messages S.requires.1.messages
 
 word-index-requires : tie.Need-word-index-requires
 word-index-requires c κs = search rules
@@ -39,9 +39,9 @@ returns-2 c =
     let word-index = c.before.word-index in
     let if2 = c.if2 in
     let p = plan_of A.sizes.route A.nest in
-    let all-mail = word-index.ensures ∙ front.all-mail A.nest A.sizes A.b A.lens.now A.ordinals.now A.starts.now S.requires.0 A.messages
+    let all_mail = word-index.ensures ∙ front.all_mail A.nest A.sizes A.b A.lens.now A.ordinals.now A.starts.now S.requires.0 A.messages
     S.requires.1.messages in
-    λ l h. front.no-mail p A.b (state_of A.memory.now A.mail.now l A.marks.now) (λ q. if2.true (q ∙ sym all-mail))
+    λ l h. front.no_mail p A.b (state_of A.memory.now A.mail.now l A.marks.now) (λ q. if2.true (q ∙ sym all_mail))
 
 returns-3 : tie.Need-returns-3
 returns-3 c =
@@ -55,13 +55,13 @@ mul-word-index-2 : tie.Need-overflow-mul-word-index-2
 mul-word-index-2 c =
     let S = c.before.before.before.before.before.before.before.before in
     let A = S.args in
-    omega (arith, front.last-low A.nest A.sizes A.b A.lens.now A.ordinals.now A.starts.now S.requires.0 A.messages S.requires.1.messages)
+    omega (arith, front.last_low A.nest A.sizes A.b A.lens.now A.ordinals.now A.starts.now S.requires.0 A.messages S.requires.1.messages)
 
 element-copy-out-word-index-2 : tie.Need-element-copy-out-word-index-2
 element-copy-out-word-index-2 c =
     let S = c.before.before.before.before.before.before.before.before in
     let A = S.args in
-    front.last-low A.nest A.sizes A.b A.lens.now A.ordinals.now A.starts.now S.requires.0 A.messages S.requires.1.messages
+    front.last_low A.nest A.sizes A.b A.lens.now A.ordinals.now A.starts.now S.requires.0 A.messages S.requires.1.messages
 
 word-index-requires-2 : tie.Need-word-index-requires-2
 word-index-requires-2 c κs = search rules
@@ -76,11 +76,11 @@ returns-4 c =
     let if2 = c.before.before.before.if2 in
     let if3 = c.before.before.if3 in
     let p = plan_of A.sizes.route A.nest in
-    let all-mail = word-index.ensures ∙ front.all-mail A.nest A.sizes A.b A.lens.now A.ordinals.now A.starts.now S.requires.0 A.messages
+    let all_mail = word-index.ensures ∙ front.all_mail A.nest A.sizes A.b A.lens.now A.ordinals.now A.starts.now S.requires.0 A.messages
     S.requires.1.messages in
-    λ l h. ap (eqb (length A.marks.now)) (word-index2.ensures ∙ front.all-handled A.nest A.sizes A.b A.lens.now A.ordinals.now
+    λ l h. ap (eqb (length A.marks.now)) (word-index2.ensures ∙ front.all_handled A.nest A.sizes A.b A.lens.now A.ordinals.now
     A.starts.now S.requires.0 A.messages S.requires.1.messages)
-    ∙ front.by-marks p A.b (state_of A.memory.now A.mail.now l A.marks.now) (if1.false ∙ S.requires.1.kept) (if2.false ∙ all-mail)
+    ∙ front.by_marks p A.b (state_of A.memory.now A.mail.now l A.marks.now) (if1.false ∙ S.requires.1.kept) (if2.false ∙ all_mail)
     (sym h ∙ if3.false)
 
 pub part-fits-spec : {M : Type 1} → statement M

@@ -19,10 +19,10 @@ returns : tie.Need-returns
 returns c =
     let S = c.before.before.before.before.before in
     let A = S.args in
-    let part-fits = c.before.part-fits in
+    let part_fits_lem = c.before.part_fits_lem in
     let if1 = c.if1 in
     let p = plan_of A.sizes.route A.nest in (
-      λ l h. front.nine p A.b S.requires.0.low A.memory.now A.mail.now l A.marks.now part-fits.result (part-fits.ensures l h.counted)
+      λ l h. front.nine p A.b S.requires.0.low A.memory.now A.mail.now l A.marks.now part_fits_lem.result (part_fits_lem.ensures l h.counted)
           (not-true _ if1.true),
       λ z. absurd (omega (arith, z)),
     )
@@ -51,13 +51,13 @@ returns-2 : tie.Need-returns-2
 returns-2 c =
     let S = c.before.before.before.before.before.before.before.before in
     let A = S.args in
-    let part-fits = c.before.before.before.before.part-fits in
+    let part_fits_lem = c.before.before.before.before.part_fits_lem in
     let if1 = c.before.before.before.if1 in
     let fit-own = c.before.fit-own in
     let if2 = c.if2 in
     let p = plan_of A.sizes.route A.nest in (
-      λ l h. front.ten-record p A.b S.requires.0.low A.memory.now A.mail.now l A.marks.now part-fits.result
-          (part-fits.ensures l h.counted) (not-false _ if1.false) A.progress h fit-own.result fit-own.ensures (not-true _ if2.true),
+      λ l h. front.ten_record p A.b S.requires.0.low A.memory.now A.mail.now l A.marks.now part_fits_lem.result
+          (part_fits_lem.ensures l h.counted) (not-false _ if1.false) A.progress h fit-own.result fit-own.ensures (not-true _ if2.true),
       λ z. absurd (omega (arith, z)),
     )
 
@@ -68,14 +68,14 @@ returns-3 : tie.Need-returns-3
 returns-3 c =
     let S = c.before.before.before.before.before.before.before.before.before.before in
     let A = S.args in
-    let part-fits = c.before.before.before.before.before.before.part-fits in
+    let part_fits_lem = c.before.before.before.before.before.before.part_fits_lem in
     let if1 = c.before.before.before.before.before.if1 in
     let fit-own = c.before.before.before.fit-own in
     let fit-status = c.before.fit-status in
     let if3 = c.if3 in
     let p = plan_of A.sizes.route A.nest in (
-      λ l h. front.ten-marks p A.b S.requires.0.low A.memory.now A.mail.now l A.marks.now part-fits.result
-          (part-fits.ensures l h.counted) (not-false _ if1.false) A.progress h fit-own.result fit-own.ensures fit-status.result
+      λ l h. front.ten_marks p A.b S.requires.0.low A.memory.now A.mail.now l A.marks.now part_fits_lem.result
+          (part_fits_lem.ensures l h.counted) (not-false _ if1.false) A.progress h fit-own.result fit-own.ensures fit-status.result
           fit-status.ensures (not-true _ if3.true),
       λ z. absurd (omega (arith, z)),
     )
@@ -84,7 +84,7 @@ returns-4 : tie.Need-returns-4
 returns-4 c =
     let S = c.before.before.before.before.before.before.before.before.before.before in
     let A = S.args in
-    let part-fits = c.before.before.before.before.before.before.part-fits in
+    let part_fits_lem = c.before.before.before.before.before.before.part_fits_lem in
     let if1 = c.before.before.before.before.before.if1 in
     let fit-own = c.before.before.before.fit-own in
     let fit-status = c.before.fit-status in
@@ -94,11 +94,11 @@ returns-4 c =
     let n = A.progress.count in
     let zeros = replicate {A = ℕ} n 0 in
     let long = sym (length-replicate {A = ℕ} n 0) in (
-      λ l h. front.zero-both p A.b S.requires.0.low A.memory.now A.mail.now l A.marks.now part-fits.result
-          (part-fits.ensures l h.counted) (not-false _ if1.false) A.progress h fit-own.result fit-own.ensures fit-status.result
+      λ l h. front.zero_both p A.b S.requires.0.low A.memory.now A.mail.now l A.marks.now part_fits_lem.result
+          (part_fits_lem.ensures l h.counted) (not-false _ if1.false) A.progress h fit-own.result fit-own.ensures fit-status.result
           fit-status.ensures (not-false _ if2.false) (not-false _ if3.false),
-      λ z. front.three-words p A.b S.requires.0.low A.memory.now A.mail.now zeros A.marks.now part-fits.result
-          (part-fits.ensures zeros long) (not-false _ if1.false) n long,
+      λ z. front.three_words p A.b S.requires.0.low A.memory.now A.mail.now zeros A.marks.now part_fits_lem.result
+          (part_fits_lem.ensures zeros long) (not-false _ if1.false) n long,
     )
 
 pub refusal-of-areas-spec : {M : Type 1} → statement M

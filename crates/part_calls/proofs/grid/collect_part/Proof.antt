@@ -27,7 +27,7 @@ slice-aggregate-keep-cells : tie.Need-slice-aggregate-keep-cells
 slice-aggregate-keep-cells c =
     let S = c.before.before.before.before.before.before in
     let A = S.args in
-    front.lent-cells A.nest A.sizes A.b S.requires.0 (replicate {A = ℕ} 16384 0) (length-replicate {A = ℕ} 16384 0)
+    front.lent_cells A.nest A.sizes A.b S.requires.0 (replicate {A = ℕ} 16384 0) (length-replicate {A = ℕ} 16384 0)
 
 keep-cells-requires : tie.Need-keep-cells-requires
 keep-cells-requires c κs =
@@ -37,7 +37,7 @@ keep-cells-requires c κs =
       (S.requires.0, fill.ensures),
       (
         S.requires.1.1.0,
-        (front.lent-long A.nest A.sizes A.b S.requires.0 (replicate {A = ℕ} 16384 0) (length-replicate {A = ℕ} 16384 0), refl),
+        (front.lent_long A.nest A.sizes A.b S.requires.0 (replicate {A = ℕ} 16384 0) (length-replicate {A = ℕ} 16384 0), refl),
       ),
     )
 
@@ -58,7 +58,7 @@ returns c =
     let uncollected = c.before.uncollected in
     let if1 = c.if1 in
     let p = plan_of A.sizes.route A.nest in
-    λ l h. collecting.collect-refused p A.b (state_of A.memory.now [] l []) A.grid.now uncollected.result (uncollected.ensures.0 l h)
+    λ l h. collecting.collect_refused p A.b (state_of A.memory.now [] l []) A.grid.now uncollected.result (uncollected.ensures.0 l h)
     if1.true
 
 array-share-prefix-kept : tie.Need-array-share-prefix-kept
@@ -66,7 +66,7 @@ array-share-prefix-kept c =
     let S = c.before.before.before.before.before.before.before.before.before.before.before.before.before in
     let A = S.args in
     let keep-cells = c.before.before.before.before.before.keep-cells in
-    front.back-room A.nest A.sizes A.b S.requires.0 (replicate {A = ℕ} 16384 0) keep-cells.new.1.1.1.1.0
+    front.back_room A.nest A.sizes A.b S.requires.0 (replicate {A = ℕ} 16384 0) keep-cells.new.1.1.1.1.0
     (length-replicate {A = ℕ} 16384 0) keep-cells.auto.1.1.1.1.0
 
 slice-aggregate-put-own : tie.Need-slice-aggregate-put-own
@@ -74,7 +74,7 @@ slice-aggregate-put-own c =
     let S = c.before.before.before.before.before.before.before.before.before.before.before.before.before.before in
     let A = S.args in
     let keep-cells = c.before.before.before.before.before.before.keep-cells in
-    front.back-lent A.nest A.sizes A.b S.requires.0 (replicate {A = ℕ} 16384 0) keep-cells.new.1.1.1.1.0
+    front.back_lent A.nest A.sizes A.b S.requires.0 (replicate {A = ℕ} 16384 0) keep-cells.new.1.1.1.1.0
     (length-replicate {A = ℕ} 16384 0) keep-cells.auto.1.1.1.1.0
 
 put-own-requires : tie.Need-put-own-requires
@@ -110,10 +110,10 @@ returns-2 c =
     let A = S.args in
     let uncollected = c.before.before.before.before.before.before.before.uncollected in
     let if1 = c.before.before.before.before.before.before.if1 in
-    let put-own = c.before.before.put-own in
+    let put_own = c.before.before.put_own in
     let p = plan_of A.sizes.route A.nest in
-    λ l h. collecting.collect-done p A.b (state_of A.memory.now [] l []) A.grid.now uncollected.result (uncollected.ensures.0 l h) if1.false
-    _ (put-own.ensures l)
+    λ l h. collecting.collect_done p A.b (state_of A.memory.now [] l []) A.grid.now uncollected.result (uncollected.ensures.0 l h) if1.false
+    _ (put_own.ensures l)
 
 pub collect-part-spec : {M : Type 1} → statement M
 collect-part-spec =

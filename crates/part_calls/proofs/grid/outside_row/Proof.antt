@@ -71,7 +71,7 @@ loop-again c =
     let loop = c.before.before.before.loop in
     let loop-test = c.before.before.loop-test in
     let outside-word = c.outside-word in
-    collecting.fill-next (λ y. pick (within A.s y) (get_or A.row.now y 0) A.boundary) A.row.now loop.row loop.y _ loop.invariant
+    collecting.fill_next (λ y. pick (within A.s y) (get_or A.row.now y 0) A.boundary) A.row.now loop.row loop.y _ loop.invariant
     (omega (arith, loop.invariant.stored.long, loop-test.true))
     (outside-word.ensures ∙ ap (λ (w : ℕ). pick (within A.s loop.y) w A.boundary) (loop.invariant.rest loop.y (omega arith)))
 
@@ -86,7 +86,7 @@ returns c =
     let A = S.args in
     let loop = c.before.loop in
     let loop-test = c.loop-test in
-    stored.stored-all (λ y. pick (within A.s y) (get_or A.row.now y 0) A.boundary) A.row.now loop.row loop.y
+    stored.stored_all (λ y. pick (within A.s y) (get_or A.row.now y 0) A.boundary) A.row.now loop.row loop.y
     (length A.row.now) loop.invariant.stored refl (omega (arith, loop.invariant.stored.long, loop-test.false))
 
 pub outside-row-spec : {M : Type 1} → statement M

@@ -17,14 +17,14 @@ loop-holds : tie.Need-loop-init invariant-loop decreases-loop
 loop-holds c =
     let S = c.before.before.before.before in
     let A = S.args in
-    collecting.put-start A.owned.now A.kept.now A.memory.now A.grid.now S.requires
+    collecting.put_start A.owned.now A.kept.now A.memory.now A.grid.now S.requires
 
 shared-slice-read-if1 : tie.Need-shared-slice-read-if1 invariant-loop decreases-loop
 shared-slice-read-if1 c =
     let loop = c.before.before.loop in
     let loop-test = c.before.loop-test in
     let S = c.before.before.before.before.before.before.before in
-    omega (arith, loop.invariant.filled.stored.long, loop-test.true, S.requires.kept-long)
+    omega (arith, loop.invariant.filled.stored.long, loop-test.true, S.requires.kept_long)
 
 shared-slice-read-own-word : tie.Need-shared-slice-read-own-word invariant-loop decreases-loop
 shared-slice-read-own-word c =
@@ -53,7 +53,7 @@ shared-slice-read-own-word-2 c =
     let loop = c.before.before.before.before.before.loop in
     let loop-test = c.before.before.before.before.loop-test in
     let if1 = c.before.before.if1 in
-    collecting.put-room A.owned.now A.kept.now A.memory.now A.grid.now S.requires loop.grid loop.c loop.n loop.invariant
+    collecting.put_room A.owned.now A.kept.now A.memory.now A.grid.now S.requires loop.grid loop.c loop.n loop.invariant
     (omega (arith, loop.invariant.filled.stored.long, loop-test.true)) if1.true
 
 mul-own-word-2 : tie.Need-overflow-mul-own-word-2 invariant-loop decreases-loop
@@ -133,7 +133,7 @@ returns c =
     let A = S.args in
     let loop = c.before.loop in
     let loop-test = c.loop-test in
-    collecting.put-done A.owned.now A.kept.now A.memory.now A.grid.now S.requires loop.grid loop.c loop.n loop.invariant
+    collecting.put_done A.owned.now A.kept.now A.memory.now A.grid.now S.requires loop.grid loop.c loop.n loop.invariant
     (omega (arith, loop.invariant.filled.stored.long, loop-test.false))
 
 pub put-cells-spec : {M : Type 1} → statement M

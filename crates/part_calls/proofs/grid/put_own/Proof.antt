@@ -18,7 +18,7 @@ slice-aggregate-mark-own : tie.Need-slice-aggregate-mark-own
 slice-aggregate-mark-own c =
     let S = c.before.before.before.before in
     let A = S.args in
-    front.lent-cells A.nest A.sizes A.b S.requires.0.0 (replicate {A = ℕ} 16384 0) (length-replicate {A = ℕ} 16384 0)
+    front.lent_cells A.nest A.sizes A.b S.requires.0.0 (replicate {A = ℕ} 16384 0) (length-replicate {A = ℕ} 16384 0)
 
 mark-own-requires : tie.Need-mark-own-requires
 mark-own-requires c κs =
@@ -29,7 +29,7 @@ mark-own-requires c κs =
         S.requires.0.1.0,
         (
           S.requires.0.1.1.0,
-          front.lent-long A.nest A.sizes A.b S.requires.0.0 (replicate {A = ℕ} 16384 0) (length-replicate {A = ℕ} 16384 0),
+          front.lent_long A.nest A.sizes A.b S.requires.0.0 (replicate {A = ℕ} 16384 0) (length-replicate {A = ℕ} 16384 0),
         ),
       ),
     )
@@ -43,27 +43,27 @@ array-share-prefix-owned : tie.Need-array-share-prefix-owned
 array-share-prefix-owned c =
     let S = c.before.before.before.before.before.before.before.before.before.before in
     let A = S.args in
-    let mark-own = c.before.before.before.before.before.mark-own in
-    front.back-room A.nest A.sizes A.b S.requires.0.0 (replicate {A = ℕ} 16384 0) mark-own.new.1.1.1.0
-    (length-replicate {A = ℕ} 16384 0) mark-own.auto.1.1.1.0
+    let mark_own = c.before.before.before.before.before.mark_own in
+    front.back_room A.nest A.sizes A.b S.requires.0.0 (replicate {A = ℕ} 16384 0) mark_own.new.1.1.1.0
+    (length-replicate {A = ℕ} 16384 0) mark_own.auto.1.1.1.0
 
 slice-aggregate-put-cells : tie.Need-slice-aggregate-put-cells
 slice-aggregate-put-cells c =
     let S = c.before.before.before.before.before.before.before.before.before.before.before in
     let A = S.args in
-    let mark-own = c.before.before.before.before.before.before.mark-own in
-    front.back-lent A.nest A.sizes A.b S.requires.0.0 (replicate {A = ℕ} 16384 0) mark-own.new.1.1.1.0
-    (length-replicate {A = ℕ} 16384 0) mark-own.auto.1.1.1.0
+    let mark_own = c.before.before.before.before.before.before.mark_own in
+    front.back_lent A.nest A.sizes A.b S.requires.0.0 (replicate {A = ℕ} 16384 0) mark_own.new.1.1.1.0
+    (length-replicate {A = ℕ} 16384 0) mark_own.auto.1.1.1.0
 
 put-cells-requires : tie.Need-put-cells-requires
 put-cells-requires c κs =
     let S = c.before.before.before.before.before.before.before.before.before.before.before.before in
     let A = S.args in
-    let mark-own = c.before.before.before.before.before.before.before.mark-own in
+    let mark_own = c.before.before.before.before.before.before.before.mark_own in
     let put-outside = c.before.before.before.before.put-outside in
-    let is = front.back_is A.nest A.sizes A.b S.requires.0.0 (replicate {A = ℕ} 16384 0) mark-own.new.1.1.1.0
-    (length-replicate {A = ℕ} 16384 0) mark-own.auto.1.1.1.0 ∙ mark-own.ensures in
-    collecting.within-marks A.nest A.sizes A.b S.requires.0.0 S.requires.0.1.0 S.requires.0.1.1.0 _ A.kept.now A.memory.now
+    let is = front.back_is A.nest A.sizes A.b S.requires.0.0 (replicate {A = ℕ} 16384 0) mark_own.new.1.1.1.0
+    (length-replicate {A = ℕ} 16384 0) mark_own.auto.1.1.1.0 ∙ mark_own.ensures in
+    collecting.within_marks A.nest A.sizes A.b S.requires.0.0 S.requires.0.1.0 S.requires.0.1.1.0 _ A.kept.now A.memory.now
     put-outside.new.1.1.0 is
     S.requires.0.1.1.1.are S.requires.1.0 (put-outside.auto.1.1.0 ∙ S.requires.1.1)
 
@@ -74,12 +74,12 @@ returns : tie.Need-returns
 returns c =
     let S = c.before.before.before.before.before.before.before.before.before.before.before.before.before.before.before in
     let A = S.args in
-    let mark-own = c.before.before.before.before.before.before.before.before.before.before.mark-own in
+    let mark_own = c.before.before.before.before.before.before.before.before.before.before.mark_own in
     let put-outside = c.before.before.before.before.before.before.before.put-outside in
     let put-cells = c.before.before.put-cells in
-    let is = front.back_is A.nest A.sizes A.b S.requires.0.0 (replicate {A = ℕ} 16384 0) mark-own.new.1.1.1.0
-    (length-replicate {A = ℕ} 16384 0) mark-own.auto.1.1.1.0 ∙ mark-own.ensures in
-    λ l. collecting.own-grid A.nest A.sizes A.b S.requires.0.0 S.requires.0.1.0 S.requires.0.1.1.0 _ A.kept.now A.memory.now
+    let is = front.back_is A.nest A.sizes A.b S.requires.0.0 (replicate {A = ℕ} 16384 0) mark_own.new.1.1.1.0
+    (length-replicate {A = ℕ} 16384 0) mark_own.auto.1.1.1.0 ∙ mark_own.ensures in
+    λ l. collecting.own_grid A.nest A.sizes A.b S.requires.0.0 S.requires.0.1.0 S.requires.0.1.1.0 _ A.kept.now A.memory.now
     A.grid.now is
     S.requires.0.1.1.1.are S.requires.1.0 S.requires.1.1 put-outside.new.1.1.0 _ l put-outside.ensures put-cells.ensures
 

@@ -14,7 +14,7 @@ returns c =
     let A = S.args in
     let if1 = c.if1 in
     let kept-many = S.requires.1.1.0 in (
-      λ l h. collecting.no-memory (plan_of A.sizes.route A.nest) A.b S.requires.1.0 A.memory.now l A.grid.now
+      λ l h. collecting.no_memory (plan_of A.sizes.route A.nest) A.b S.requires.1.0 A.memory.now l A.grid.now
           (λ q. if1.true (q ∙ sym kept-many)),
       λ z. absurd (omega (arith, z)),
     )
@@ -34,7 +34,7 @@ returns-3 c =
     let S = c.before.before.before.before.before.before.before.before in
     let A = S.args in
     let if3 = c.if3 in (
-      λ l h. collecting.no-grid (plan_of A.sizes.route A.nest) A.b S.requires.1.0 A.memory.now l A.grid.now
+      λ l h. collecting.no_grid (plan_of A.sizes.route A.nest) A.b S.requires.1.0 A.memory.now l A.grid.now
           (λ q. if3.true (q ∙ sym S.requires.0.0.cells)),
       λ z. absurd (omega (arith, z)),
     )

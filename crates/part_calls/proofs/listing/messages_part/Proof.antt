@@ -19,14 +19,14 @@ mul-word-index c =
     let S = c.before.before.before.before.before in
     let A = S.args in
     let prepare = c.prepare in
-    omega (arith, front.last-low A.nest A.sizes A.b _ _ _ prepare.ensures.0 prepare.result prepare.ensures.1)
+    omega (arith, front.last_low A.nest A.sizes A.b _ _ _ prepare.ensures.0 prepare.result prepare.ensures.1)
 
 array-read-word-index : tie.Need-array-read-word-index
 array-read-word-index c =
     let S = c.before.before.before.before.before in
     let A = S.args in
     let prepare = c.prepare in
-    front.last-low A.nest A.sizes A.b _ _ _ prepare.ensures.0 prepare.result prepare.ensures.1
+    front.last_low A.nest A.sizes A.b _ _ _ prepare.ensures.0 prepare.result prepare.ensures.1
 
 word-index-requires : tie.Need-word-index-requires
 word-index-requires c κs = search rules
@@ -40,7 +40,7 @@ mul-if1 c =
     let p = plan_of A.sizes.route A.nest in
     omega (
       arith,
-      rows.rank-few p A.b _ word-index.result (word-index.ensures ∙ front.all-handled A.nest A.sizes A.b _ _ _ prepare.ensures.0
+      rows.rank_few p A.b _ word-index.result (word-index.ensures ∙ front.all_handled A.nest A.sizes A.b _ _ _ prepare.ensures.0
           prepare.result prepare.ensures.1),
       prepare.ensures.1,
       prepare.ensures.0.few,
@@ -54,7 +54,7 @@ returns c =
     let prepare = c.before.before.prepare in
     let if1 = c.if1 in
     let p = plan_of A.sizes.route A.nest in
-    rows.rows-nine p A.b A.out.now word-index.result (word-index.ensures ∙ front.all-handled A.nest A.sizes A.b _ _ _
+    rows.rows_nine p A.b A.out.now word-index.result (word-index.ensures ∙ front.all_handled A.nest A.sizes A.b _ _ _
     prepare.ensures.0 prepare.result prepare.ensures.1) if1.true
 
 put-rows-requires : tie.Need-put-rows-requires
@@ -65,7 +65,7 @@ put-rows-requires c κs =
     let S = c.before.before.before.before.before.before.before.before.before.before.before in
     let A = S.args in (
       (prepare.ensures.0, prepare.ensures.1),
-      if1.false ∙ ap (λ (n : ℕ). 7 * n) (word-index.ensures ∙ front.all-handled A.nest A.sizes A.b _ _ _ prepare.ensures.0 prepare.result
+      if1.false ∙ ap (λ (n : ℕ). 7 * n) (word-index.ensures ∙ front.all_handled A.nest A.sizes A.b _ _ _ prepare.ensures.0 prepare.result
           prepare.ensures.1),
     )
 
@@ -81,7 +81,7 @@ returns-2 c =
     let if1 = c.before.before.before.before.before.before.before.if1 in
     let put-rows = c.before.before.put-rows in
     let p = plan_of A.sizes.route A.nest in
-    rows.rows-done p A.b A.out.now word-index.result (word-index.ensures ∙ front.all-handled A.nest A.sizes A.b _ _ _
+    rows.rows_done p A.b A.out.now word-index.result (word-index.ensures ∙ front.all_handled A.nest A.sizes A.b _ _ _
     prepare.ensures.0 prepare.result prepare.ensures.1) if1.false _ put-rows.ensures
 
 pub messages-part-spec : {M : Type 1} → statement M

@@ -52,7 +52,7 @@ line-at-requires c κs =
     let S = c.before.before.before.before.before.before.before in
     let A = S.args in
     let nth = c.nth in
-    (S.requires.0.0.planned, parts.placed-self A.sizes.route A.nest A.m nth.result nth.ensures)
+    (S.requires.0.0.planned, parts.placed_self A.sizes.route A.nest A.m nth.result nth.ensures)
 
 mul_at : tie.Need-overflow-mul-at
 mul_at c =
@@ -65,7 +65,7 @@ mul_at c =
       arith,
       S.requires.0.1,
       S.requires.0.0.few,
-      rows.rank-few p A.b A.m word-index.result (word-index.ensures ∙ S.requires.0.0.ordinals A.m
+      rows.rank_few p A.b A.m word-index.result (word-index.ensures ∙ S.requires.0.0.ordinals A.m
           (omega (arith, lo))),
     )
 
@@ -80,7 +80,7 @@ add-end c =
       arith,
       S.requires.0.1,
       S.requires.0.0.few,
-      rows.rank-few p A.b A.m word-index.result (word-index.ensures ∙ S.requires.0.0.ordinals A.m
+      rows.rank_few p A.b A.m word-index.result (word-index.ensures ∙ S.requires.0.0.ordinals A.m
           (omega (arith, lo))),
     )
 
@@ -95,7 +95,7 @@ mul-store-row c =
       arith,
       S.requires.0.1,
       S.requires.0.0.few,
-      rows.rank-few p A.b A.m word-index.result (word-index.ensures ∙ S.requires.0.0.ordinals A.m
+      rows.rank_few p A.b A.m word-index.result (word-index.ensures ∙ S.requires.0.0.ordinals A.m
           (omega (arith, lo))),
     )
 
@@ -158,14 +158,14 @@ returns c =
     let if1 = c.before.before.before.before.before.before.before.if1 in
     let line_at_lem = c.before.before.before.before.before.line_at_lem in
     let nth = c.before.before.before.before.before.before.nth in
-    let store-row = c.before.before.store-row in
+    let store_row = c.before.before.store_row in
     let p = plan_of A.sizes.route A.nest in
     let lo = S.requires.0.1 in
     let mine = answers.other-rank p A.b A.m word-index.result word-index2.result (word-index.ensures ∙ S.requires.0.0.ordinals A.m
     (omega (arith, lo))) (word-index2.ensures ∙ S.requires.0.0.ordinals (A.m + 1) (omega (arith, lo))) if1.true in
     rows.stored p A.b A.m lo A.out.now S.requires.1 mine word-index.result (word-index.ensures ∙ S.requires.0.0.ordinals A.m (omega (arith, lo)))
     line_at_lem.result (line_at_lem.ensures ∙ ap (line_of p) nth.ensures.number) A.m _ refl (S.requires.0.0.starts A.m (omega (arith, lo)))
-    store-row.new.0 store-row.auto.0 store-row.ensures
+    store_row.new.0 store_row.auto.0 store_row.ensures
 
 returns-2 : tie.Need-returns-2
 returns-2 c =

@@ -44,10 +44,10 @@ loop-again c =
     let A = S.args in
     let loop = c.before.before.before.before.before.loop in
     let loop-test = c.before.before.before.before.loop-test in
-    let put-row = c.before.before.put-row in
+    let put_row = c.before.before.put_row in
     let p = plan_of A.sizes.route A.nest in
     rows.rows_next p A.b A.out.now loop.out loop.m loop.invariant (omega (arith, loop-test.true, S.requires.0.1)) S.requires.1 _
-    put-row.ensures
+    put_row.ensures
 
 same_length : tie.Need-same-length invariant-loop decreases-loop
 same_length c =

@@ -33,7 +33,7 @@ same_length c = search rules
 returns : tie.Need-returns
 returns c =
     let A = c.args in
-    rows.seven-set A.row.now A.number A.line.sender A.line.taker A.line.from A.line.to A.line.words A.at c.requires
+    rows.seven_set A.row.now A.number A.line.sender A.line.taker A.line.from A.line.to A.line.words A.at c.requires
 
 pub store-row-spec : {M : Type 1} → statement M
 store-row-spec =

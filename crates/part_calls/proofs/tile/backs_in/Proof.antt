@@ -1,7 +1,7 @@
 -- `part_calls::tile::backs_in` meets its contract: those of the first e distances.
 use Rattle.core.specs.Prelude.{◌-◌}
 use native.Mathlib.Omega.{arith}
-use Rattle.part_calls.proofs.tile.InPart.{Filling, filling-none, filling-more, filling-end}
+use Rattle.part_calls.proofs.tile.InPart.{Filling, filling_none, filling_more, filling_end}
 use Rattle.part_calls.proofs.tile.backs_in.Statement.{statement}
 use Rattle.part_calls.proofs.tile.backs_in.Tie as tie
 
@@ -12,7 +12,7 @@ abbrev decreases-loop : tie.decreases-loop
 decreases-loop kept counts n first cell component few back firsts ends backs₀ e₀ backs e = n - e
 
 loop-holds : tie.Need-loop-init invariant-loop decreases-loop
-loop-holds c = filling-none _ _ _ _ _ _ _ _ _ (omega arith)
+loop-holds c = filling_none _ _ _ _ _ _ _ _ _ (omega arith)
 
 mul-backs : tie.Need-overflow-mul-backs invariant-loop decreases-loop
 mul-backs c = omega (arith, c.loop-test.true, c.before.before.before.before.before.requires.1.0)
@@ -51,11 +51,11 @@ loop-less c = omega (arith, c.before.loop-test.true)
 
 loop-again : tie.Need-loop-preserved invariant-loop decreases-loop
 loop-again c =
-    filling-more _ _ _ _ _ _ _ _ _ _ c.before.before.loop.invariant _ c.before.loop-test.true
+    filling_more _ _ _ _ _ _ _ _ _ _ c.before.before.loop.invariant _ c.before.loop-test.true
     c.before.before.before.before.before.before.requires.1.0 c.back_in.ensures
 
 returns : tie.Need-returns invariant-loop decreases-loop
-returns c = filling-end _ _ _ _ _ _ _ _ _ _ c.before.loop.invariant c.loop-test.false
+returns c = filling_end _ _ _ _ _ _ _ _ _ _ c.before.loop.invariant c.loop-test.false
 
 pub backs-in-spec : {M : Type 1} → statement M
 backs-in-spec =

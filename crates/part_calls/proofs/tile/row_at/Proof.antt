@@ -1,6 +1,6 @@
 -- `part_calls::tile::row_at` meets its contract.
 use borrow.Author.Rules.{rules}
-use Rattle.part_calls.proofs.tile.RowsIn.{kept_row, kept-behind}
+use Rattle.part_calls.proofs.tile.RowsIn.{kept_row, kept_behind}
 use Rattle.part_calls.proofs.tile.row_at.Statement.{statement}
 use Rattle.part_calls.proofs.tile.row_at.Tie as tie
 
@@ -15,8 +15,8 @@ backs-in-requires c κs =
     let s = c.before.before.before.before.before.before.before in (
       kept_row _ s.requires.0.0 _ _ _ _ _ s.requires.1 _ _ s.requires.0.1.1.1 c.rank.ensures,
       (
-        s.requires.0.0.distances-most,
-        kept-behind _ s.requires.0.0 _ _ _ _ _ s.requires.1 _ _ _ s.requires.0.1.1.0 c.before.before.before.Reads-of.ensures,
+        s.requires.0.0.distances_most,
+        kept_behind _ s.requires.0.0 _ _ _ _ _ s.requires.1 _ _ _ s.requires.0.1.1.0 c.before.before.before.Reads-of.ensures,
       ),
     )
 

@@ -2,8 +2,8 @@
 use Rattle.core.specs.Prelude.{◌-◌}
 use native.Mathlib.Omega.{arith}
 use Rattle.nest.proofs.Shapes.{framed}
-use Rattle.values.proofs.shaped_values.Words.{place-narrow}
-use Rattle.part_calls.proofs.tile.RowsIn.{start_small, start-low, worked-row, row-stores, row-empty}
+use Rattle.values.proofs.shaped_values.Words.{place_narrow}
+use Rattle.part_calls.proofs.tile.RowsIn.{start_small, start_low, worked_row, row_stores, row_empty}
 use borrow.Author.Rules.{rules}
 use Rattle.part_calls.proofs.tile.row_in.Statement.{statement}
 use Rattle.part_calls.proofs.tile.row_in.Tie as tie
@@ -20,7 +20,7 @@ array-read-component c = search rules
 span-requires : tie.Need-span-requires
 span-requires c κs =
     let s = c.before.before.before.before in
-    (framed _ s.requires.0.0, place-narrow _ s.requires.0.0 _ s.requires.1.0.0)
+    (framed _ s.requires.0.0, place_narrow _ s.requires.0.0 _ s.requires.1.0.0)
 
 overlap-requires : tie.Need-overlap-requires
 overlap-requires c κs =
@@ -40,7 +40,7 @@ returns c =
     let s = at-span.before.before.before.before.before in
     let m = s.requires.0.1.1 in
     let l = s.requires.1.0 in
-    row-empty _ s.requires.0.0 _ _ _ _ _ m.0 m.1 s.requires.0.1.0 _ l.0 _ l.1 _ _ at-span.span.ensures at-overlap.overlap.ensures
+    row_empty _ s.requires.0.0 _ _ _ _ _ m.0 m.1 s.requires.0.1.0 _ l.0 _ l.1 _ _ at-span.span.ensures at-overlap.overlap.ensures
     c.before.if1.true _ c.no_row.ensures
 
 sub-start : tie.Need-overflow-sub-start
@@ -67,8 +67,8 @@ rank-requires c κs =
     let l = s.requires.1.0 in (
       m.1.counted,
       (
-        start-low _ s.requires.0.0 _ _ _ _ _ m.0 m.1 s.requires.0.1.0 _ l.0 _ l.1 _ _ at-span.span.ensures at-overlap.overlap.ensures,
-        omega (arith, m.1.long, s.requires.0.0.cells-most),
+        start_low _ s.requires.0.0 _ _ _ _ _ m.0 m.1 s.requires.0.1.0 _ l.0 _ l.1 _ _ at-span.span.ensures at-overlap.overlap.ensures,
+        omega (arith, m.1.long, s.requires.0.0.cells_most),
       ),
     )
 
@@ -79,8 +79,8 @@ row-at-requires c κs =
     let s = at-span.before.before.before.before.before in
     let m = s.requires.0.1.1 in
     let l = s.requires.1.0 in (
-      (s.requires.0.0, (place-narrow _ s.requires.0.0 _ l.0, (s.requires.0.1.0, m.0))),
-      worked-row _ s.requires.0.0 _ _ _ _ _ m.0 m.1 s.requires.0.1.0 _ l.0 _ l.1 _ _ at-span.span.ensures at-overlap.overlap.ensures
+      (s.requires.0.0, (place_narrow _ s.requires.0.0 _ l.0, (s.requires.0.1.0, m.0))),
+      worked_row _ s.requires.0.0 _ _ _ _ _ m.0 m.1 s.requires.0.1.0 _ l.0 _ l.1 _ _ at-span.span.ensures at-overlap.overlap.ensures
           s.requires.1.1,
     )
 
@@ -91,7 +91,7 @@ returns-2 c =
     let s = at-span.before.before.before.before.before in
     let m = s.requires.0.1.1 in
     let l = s.requires.1.0 in
-    row-stores _ s.requires.0.0 _ _ _ _ _ m.0 m.1 s.requires.0.1.0 _ l.0 _ l.1 _ _ at-span.span.ensures at-overlap.overlap.ensures
+    row_stores _ s.requires.0.0 _ _ _ _ _ m.0 m.1 s.requires.0.1.0 _ l.0 _ l.1 _ _ at-span.span.ensures at-overlap.overlap.ensures
     s.requires.1.1 _ _ c.before.rank.ensures c.row_at.ensures
 
 pub row-in-spec : {M : Type 1} → statement M

@@ -3,7 +3,7 @@ use mathlib.Core.Path.{refl}
 use native.Mathlib.Omega.{arith}
 use borrow.Author.Tests.{not-true, not-false}
 use Rattle.core.specs.Prelude.{length, get_or}
-use Rattle.machine.specs.Plan.{tilesOf}
+use Rattle.machine.specs.Plan.{tiles_of}
 use Rattle.machine.specs.Machine.{state_of}
 use Rattle.plan.specs.Shaped.{plan_of}
 use Rattle.engine.proofs.Reading as reading
@@ -20,7 +20,7 @@ ready-requires c κs =
     let p = plan_of A.sizes.route A.nest in (
       (S.requires.0.known.planned, S.requires.1.1.low),
       stage.ranked A.nest A.sizes A.b A.lens.now A.kept.now A.counts.now A.ordinals.now A.starts.now
-          S.requires.0 A.tile (stage.stands-own p A.progress.now A.b A.tile S.requires.1.1) A.marks.now S.requires.1.0.marks,
+          S.requires.0 A.tile (stage.stands_own p A.progress.now A.b A.tile S.requires.1.1) A.marks.now S.requires.1.0.marks,
     )
 
 refused-requires : tie.Need-refused-requires
@@ -38,8 +38,8 @@ returns c =
     let if1 = c.before.if1 in
     let p = plan_of A.sizes.route A.nest in
     let s = state_of A.memory.now A.mail.now A.progress.now A.marks.now in
-    λ source may z. reading.refuses refused.result 12 refused.ensures (λ q. omega arith) s 0 _ (turned.stops-waiting p A.b source s may
-    (get_or A.progress.now 0 0) (length (tilesOf p A.b)) refl refl A.tile (get_or A.progress.now 1 0) S.requires.1.1.left S.requires.1.1.tile
+    λ source may z. reading.refuses refused.result 12 refused.ensures (λ q. omega arith) s 0 _ (turned.stops_waiting p A.b source s may
+    (get_or A.progress.now 0 0) (length (tiles_of p A.b)) refl refl A.tile (get_or A.progress.now 1 0) S.requires.1.1.left S.requires.1.1.tile
     refl A.ordinals.now A.starts.now S.requires.0.known.ordinals S.requires.0.known.starts ready.result ready.ensures z
     (not-true _ if1.true))
 
@@ -52,7 +52,7 @@ gather-stage-requires c κs =
     let A = S.args in
     let p = plan_of A.sizes.route A.nest in (
       (S.requires.0, record { memory = S.requires.1.0.memory; mail = S.requires.1.0.mail; marks = S.requires.1.0.marks }),
-      (S.requires.1.1.low, stage.stands-own p A.progress.now A.b A.tile S.requires.1.1),
+      (S.requires.1.1.low, stage.stands_own p A.progress.now A.b A.tile S.requires.1.1),
     )
 
 done-requires : tie.Need-done-requires
@@ -75,7 +75,7 @@ returns-2 c =
     let p = plan_of A.sizes.route A.nest in
     let s = state_of A.memory.now A.mail.now A.progress.now A.marks.now in
     λ source may z. reading.does done.result gather-stage.result done.ensures _ _ _ _ 0 _
-    (turned.gathers p A.b source s may (get_or A.progress.now 0 0) (length (tilesOf p A.b)) refl refl A.tile (get_or A.progress.now 1 0)
+    (turned.gathers p A.b source s may (get_or A.progress.now 0 0) (length (tiles_of p A.b)) refl refl A.tile (get_or A.progress.now 1 0)
     S.requires.1.1.left S.requires.1.1.tile refl A.ordinals.now A.starts.now S.requires.0.known.ordinals S.requires.0.known.starts
     ready.result
     ready.ensures z (not-false _ if1.false) _ (gather-stage.ensures A.progress.now S.requires.1.0.progress refl))

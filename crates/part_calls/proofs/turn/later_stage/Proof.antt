@@ -1,7 +1,7 @@
 -- Stages 1 and 2 of the turn on the part.
 use mathlib.Core.Path.{refl}
 use Rattle.core.specs.Prelude.{length, get_or}
-use Rattle.machine.specs.Plan.{tilesOf}
+use Rattle.machine.specs.Plan.{tiles_of}
 use Rattle.machine.specs.Machine.{state_of}
 use Rattle.plan.specs.Shaped.{plan_of}
 use Rattle.engine.proofs.Reading as reading
@@ -26,7 +26,7 @@ calculate-stage-requires c κs =
         (
           S.requires.1.1.0.low,
           (
-            stage.stands-own (plan_of A.sizes.route A.nest) A.progress.now A.b
+            stage.stands_own (plan_of A.sizes.route A.nest) A.progress.now A.b
                 A.tile S.requires.1.1.0,
             S.requires.1.1.0.few,
           ),
@@ -51,7 +51,7 @@ returns c =
     let p = plan_of A.sizes.route A.nest in
     let s = state_of A.memory.now A.mail.now A.progress.now A.marks.now in
     reading.does done.result calculate-stage.result done.ensures _ _ _ _ 0 _ (turned.calculates p A.b A.source.now s S.requires.1.0
-    (get_or A.progress.now 0 0) (length (tilesOf p A.b)) refl refl A.tile (get_or A.progress.now 1 0) S.requires.1.1.0.left
+    (get_or A.progress.now 0 0) (length (tiles_of p A.b)) refl refl A.tile (get_or A.progress.now 1 0) S.requires.1.1.0.left
     S.requires.1.1.0.tile refl if1.true _ (calculate-stage.ensures A.mail.now A.progress.now A.marks.now
     (record { memory = S.requires.1.0.lengths.memory; mail = S.requires.1.0.lengths.mail; marks = S.requires.1.0.lengths.marks })
     S.requires.1.0.lengths.progress refl))
@@ -72,10 +72,10 @@ send-stage-requires c κs =
     let s = state_of A.memory.now A.mail.now A.progress.now A.marks.now in (
       (S.requires.0, record { memory = S.requires.1.0.lengths.memory; mail = S.requires.1.0.lengths.mail; marks = S.requires.1.0.lengths.marks }),
       (
-        (S.requires.1.1.0.low, stage.stands-own p A.progress.now A.b A.tile S.requires.1.1.0),
+        (S.requires.1.1.0.low, stage.stands_own p A.progress.now A.b A.tile S.requires.1.1.0),
         (
           S.requires.1.1.0.few,
-          turned.sends-left p A.b A.source.now s S.requires.1.0 (get_or A.progress.now 0 0) (length (tilesOf p A.b)) refl refl
+          turned.sends_left p A.b A.source.now s S.requires.1.0 (get_or A.progress.now 0 0) (length (tiles_of p A.b)) refl refl
               A.tile (get_or A.progress.now 1 0) S.requires.1.1.0.left S.requires.1.1.0.tile refl word-index.result word-index.ensures
               S.requires.1.1.1 if1.false,
         ),
@@ -106,7 +106,7 @@ returns-2 c =
     let p = plan_of A.sizes.route A.nest in
     let s = state_of A.memory.now A.mail.now A.progress.now A.marks.now in
     reading.does done2.result send-stage.result done2.ensures _ _ _ _ 0 _ (turned.sends p A.b A.source.now s S.pre.1.0
-    (get_or A.progress.now 0 0) (length (tilesOf p A.b)) refl refl A.tile (get_or A.progress.now 1 0) S.pre.1.1.0.left
+    (get_or A.progress.now 0 0) (length (tiles_of p A.b)) refl refl A.tile (get_or A.progress.now 1 0) S.pre.1.1.0.left
     S.pre.1.1.0.tile refl word-index.result word-index.ensures S.pre.1.1.1 if1.false _
     (send-stage.ensures A.progress.now S.pre.1.0.lengths.progress refl word-index.ensures))
 

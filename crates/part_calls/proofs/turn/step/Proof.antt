@@ -33,7 +33,7 @@ returns c =
     let if1 = c.before.if1 in
     let p = plan_of A.sizes.route A.nest in
     let s = state_of A.memory.now A.mail.now A.progress.now A.marks.now in
-    reading.refuses refused.result 13 refused.ensures (λ q. omega arith) s 0 _ (turned.stops-over p A.b A.source.now s S.requires.1
+    reading.refuses refused.result 13 refused.ensures (λ q. omega arith) s 0 _ (turned.stops_over p A.b A.source.now s S.requires.1
     word-index.result tile-count.result word-index.ensures tile-count.ensures.0 if1.true)
 
 tile-at-requires : tie.Need-tile-at-requires

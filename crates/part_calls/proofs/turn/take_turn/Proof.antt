@@ -46,7 +46,7 @@ slice-aggregate-keep-cells : tie.Need-slice-aggregate-keep-cells
 slice-aggregate-keep-cells c =
     let S = c.before.before.before.before.before.before.before.before.before.before.before.before in
     let A = S.args in
-    front.lent-cells A.nest A.sizes A.b S.requires.0.0 (replicate {A = ℕ} 16384 0) (length-replicate {A = ℕ} 16384 0)
+    front.lent_cells A.nest A.sizes A.b S.requires.0.0 (replicate {A = ℕ} 16384 0) (length-replicate {A = ℕ} 16384 0)
 
 keep-cells-requires : tie.Need-keep-cells-requires
 keep-cells-requires c κs =
@@ -57,7 +57,7 @@ keep-cells-requires c κs =
       (
         S.requires.0.1.1,
         (
-          front.lent-long A.nest A.sizes A.b S.requires.0.0 (replicate {A = ℕ} 16384 0)
+          front.lent_long A.nest A.sizes A.b S.requires.0.0 (replicate {A = ℕ} 16384 0)
               (length-replicate {A = ℕ} 16384 0),
           refl,
         ),
@@ -69,7 +69,7 @@ array-share-prefix-kept c =
     let S = c.before.before.before.before.before.before.before.before.before.before.before.before.before.before.before.before in
     let A = S.args in
     let keep-cells = c.before.before.keep-cells in
-    front.back-room A.nest A.sizes A.b S.requires.0.0 (replicate {A = ℕ} 16384 0) keep-cells.new.1.1.1.1.0 (length-replicate {A = ℕ}
+    front.back_room A.nest A.sizes A.b S.requires.0.0 (replicate {A = ℕ} 16384 0) keep-cells.new.1.1.1.1.0 (length-replicate {A = ℕ}
     16384 0) keep-cells.auto.1.1.1.1.0
 
 slice-aggregate-turn-in : tie.Need-slice-aggregate-turn-in
@@ -77,7 +77,7 @@ slice-aggregate-turn-in c =
     let S = c.before.before.before.before.before.before.before.before.before.before.before.before.before.before.before.before.before in
     let A = S.args in
     let keep-cells = c.before.before.before.keep-cells in
-    front.back-lent A.nest A.sizes A.b S.requires.0.0 (replicate {A = ℕ} 16384 0) keep-cells.new.1.1.1.1.0 (length-replicate {A = ℕ}
+    front.back_lent A.nest A.sizes A.b S.requires.0.0 (replicate {A = ℕ} 16384 0) keep-cells.new.1.1.1.1.0 (length-replicate {A = ℕ}
     16384 0) keep-cells.auto.1.1.1.1.0
 
 turn-in-requires : tie.Need-turn-in-requires

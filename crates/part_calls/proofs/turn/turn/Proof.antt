@@ -23,7 +23,7 @@ returns c =
     let A = S.args in
     let s : List ℕ → State = λ l. state_of A.memory.now A.mail.now l A.marks.now in
     λ l h. reading.refuses c.refused.result board.result.number c.refused.ensures if1.true (s l) 0 _
-    (turned.turn-read A.encoded.now A.route A.processor board.result board.ensures A.source.now (s l) if1.true)
+    (turned.turn_read A.encoded.now A.route A.processor board.result board.ensures A.source.now (s l) if1.true)
 
 take-turn-requires : tie.Need-take-turn-requires
 take-turn-requires c κs =
@@ -54,7 +54,7 @@ returns-2 c =
     let S = at_open.before.before.before.before.before.before in
     let A = S.args in
     let s : List ℕ → State = λ l. state_of A.memory.now A.mail.now l A.marks.now in
-    λ l h. turned.turn-past A.encoded.now A.route A.processor board.result board.ensures A.source.now (s l) if1.false _
+    λ l h. turned.turn_past A.encoded.now A.route A.processor board.result board.ensures A.source.now (s l) if1.false _
     (Turned-so.ensures l h)
 
 pub turn_spec : {M : Type 1} → statement M

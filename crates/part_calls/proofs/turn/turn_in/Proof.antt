@@ -6,8 +6,8 @@ use lib.Seq.{length-take-le}
 use Rattle.machine.specs.Machine.{State, state_of}
 use Rattle.plan.specs.Shaped.{plan_of}
 use Rattle.engine.specs.Calls.{answer}
-use Rattle.engine.specs.Given.{recordsAfter}
-use Rattle.part_calls.specs.turn.Step.{turnedOr}
+use Rattle.engine.specs.Given.{records_after}
+use Rattle.part_calls.specs.turn.Step.{turned_or}
 use Rattle.engine.proofs.Reading as reading
 use Rattle.part_calls.proofs.turn.Turned as turned
 use borrow.Author.Rules.{rules}
@@ -63,8 +63,8 @@ step-requires c κs =
     let p = plan_of A.sizes.route A.nest in
     let s : List ℕ → State = λ l. state_of A.memory.now A.mail.now l A.marks.now in (
       S.requires.0.0,
-      turned.may-step p A.b A.source.now (s (take 3 A.progress.words)) S.requires.1 refusal-of-areas.result
-          (refusal-of-areas.ensures.0 _ (turned.three-carried A.progress S.requires.0.1.1 (refusal-of-areas.ensures.1 if1.false))) if1.false
+      turned.may_step p A.b A.source.now (s (take 3 A.progress.words)) S.requires.1 refusal-of-areas.result
+          (refusal-of-areas.ensures.0 _ (turned.three_carried A.progress S.requires.0.1.1 (refusal-of-areas.ensures.1 if1.false))) if1.false
           S.requires.0.0.known.low,
     )
 
@@ -88,10 +88,10 @@ returns-2 c =
     let p = plan_of A.sizes.route A.nest in
     let s : List ℕ → State = λ l. state_of A.memory.now A.mail.now l A.marks.now in
     λ l h. subst (λ (k : List ℕ). answer step.result.number (state_of step.new.1.1.1.1.1.1.1.1.0 step.new.1.1.1.1.1.1.1.1.1.0
-    (recordsAfter k 0 step.result) step.new.1.1.1.1.1.1.1.1.1.1.1.0) ≡ turnedOr p A.source.now (s k) A.b)
-    (turned.three-are A.progress l (refusal-of-areas.ensures.1 if1.false) h) (turned.turned-is p A.b A.source.now
+    (records_after k 0 step.result) step.new.1.1.1.1.1.1.1.1.1.1.1.0) ≡ turned_or p A.source.now (s k) A.b)
+    (turned.three_are A.progress l (refusal-of-areas.ensures.1 if1.false) h) (turned.turned_is p A.b A.source.now
     (s (take 3 A.progress.words))
-    S.pre.1 refusal-of-areas.result (refusal-of-areas.ensures.0 _ (turned.three-carried A.progress S.pre.0.1.1
+    S.pre.1 refusal-of-areas.result (refusal-of-areas.ensures.0 _ (turned.three_carried A.progress S.pre.0.1.1
     (refusal-of-areas.ensures.1 if1.false))) if1.false _
     step.ensures)
 

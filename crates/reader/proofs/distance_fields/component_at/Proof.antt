@@ -29,7 +29,7 @@ returns c =
     let A = c.before.before.before.before.args in omega (
       arith,
       c.half_at.ensures,
-      L.component-wide A.encoded.now A.r A.j
+      L.component_wide A.encoded.now A.r A.j
           c.before.if1.true,
     )
 
@@ -48,7 +48,7 @@ byte-index-requires c κs = search rules
 returns-2 : tie.Need-returns-2
 returns-2 c =
     let start = c.before.before.before.before.before in
-    c.byte-index.ensures ∙ L.component-narrow start.args.encoded.now start.args.r start.args.j c.before.before.if1.false
+    c.byte-index.ensures ∙ L.component_narrow start.args.encoded.now start.args.r start.args.j c.before.before.if1.false
 
 pub component-at-spec : {M : Type 1} → statement M
 component-at-spec =

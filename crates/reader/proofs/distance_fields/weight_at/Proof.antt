@@ -20,7 +20,7 @@ half-at-requires c κs = search rules
 returns : tie.Need-returns
 returns c =
     let start = c.before.before.before.before in
-    c.half_at.ensures.0 ∙ L.weight-wide start.args.encoded.now start.args.r c.before.if1.true
+    c.half_at.ensures.0 ∙ L.weight_wide start.args.encoded.now start.args.r c.before.if1.true
 
 add-half-at-2 : tie.Need-overflow-add-half-at-2
 add-half-at-2 c = search rules
@@ -31,7 +31,7 @@ half-at-requires-2 c κs = search rules
 returns-2 : tie.Need-returns-2
 returns-2 c =
     let start = c.before.before.before.before in
-    c.half-at2.ensures.0 ∙ L.weight-narrow start.args.encoded.now start.args.r c.before.if1.false
+    c.half-at2.ensures.0 ∙ L.weight_narrow start.args.encoded.now start.args.r c.before.if1.false
 
 pub weight-at-spec : {M : Type 1} → statement M
 weight-at-spec =

@@ -3,19 +3,19 @@ use Prim.Native.Nat.{◌+◌, ◌-◌, ◌≤◌}
 use mathlib.Core.Path.{◌≡◌, ◌∙◌}
 use native.Mathlib.Omega.{arith}
 use borrow.Author.Rules.{rules}
-use Rattle.nest.specs.Reader.{weightAt, filled}
+use Rattle.nest.specs.Reader.{weight_at, filled}
 use Rattle.nest.proofs.Laws as L
 use Rattle.reader.proofs.distance_fields.weights_of.Statement.{statement}
 use Rattle.reader.proofs.distance_fields.weights_of.Tie as tie
 
 abbrev invariant-loop : tie.invariant-loop
-invariant-loop encoded r e values₀ i₀ values i = (i ≤ e) × (values ≡ filled 8 i (λ k. weightAt encoded (r + k)))
+invariant-loop encoded r e values₀ i₀ values i = (i ≤ e) × (values ≡ filled 8 i (λ k. weight_at encoded (r + k)))
 
 abbrev decreases-loop : tie.decreases-loop
 decreases-loop encoded r e values₀ i₀ values i = e - i
 
 loop-holds : tie.Need-loop-init invariant-loop decreases-loop
-loop-holds c = (omega arith, L.filled-start 8 _)
+loop-holds c = (omega arith, L.filled_start 8 _)
 
 add-weight-at : tie.Need-overflow-add-weight-at invariant-loop decreases-loop
 add-weight-at c = omega arith
@@ -42,7 +42,7 @@ loop-again : tie.Need-loop-preserved invariant-loop decreases-loop
 loop-again c = (omega arith, L.filled_next 8 _ _ _ _ c.before.before.before.loop.invariant.1 (omega arith) (c.index-wide.ensures ∙ c.before.weight-at.ensures))
 
 returns : tie.Need-returns invariant-loop decreases-loop
-returns c = L.filled-end 8 _ _ c.before.loop.i _ c.before.loop.invariant.0 c.loop-test.false c.before.loop.invariant.1
+returns c = L.filled_end 8 _ _ c.before.loop.i _ c.before.loop.invariant.0 c.loop-test.false c.before.loop.invariant.1
 
 pub weights-of-spec : {M : Type 1} → statement M
 weights-of-spec =

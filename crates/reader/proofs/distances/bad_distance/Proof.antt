@@ -6,7 +6,7 @@ use native.Mathlib.Omega.{arith}
 use borrow.Author.Rules.{rules}
 use Rattle.base.specs.Tests.{some}
 use Rattle.base.proofs.Tests.{some_one}
-use Rattle.nest.specs.Reader.{faulty, badDistance}
+use Rattle.nest.specs.Reader.{faulty, bad_distance}
 use Rattle.nest.proofs.Laws as L
 use Rattle.reader.proofs.distances.bad_distance.Statement.{statement}
 use Rattle.reader.proofs.distances.bad_distance.Tie as tie
@@ -18,13 +18,13 @@ abbrev decreases-loop : tie.decreases-loop
 decreases-loop nest n e₀ e = n - e
 
 loop-holds : tie.Need-loop-init invariant-loop decreases-loop
-loop-holds c = (omega arith, L.some-start _)
+loop-holds c = (omega arith, L.some_start _)
 
 faulty-requires : tie.Need-faulty-requires invariant-loop decreases-loop
 faulty-requires c κs = search rules
 
 returns : tie.Need-returns invariant-loop decreases-loop
-unfolding badDistance
+unfolding bad_distance
 returns c = sym (some_one _ _ c.before.before.before.loop.e c.before.before.loop-test.true (sym c.before.faulty.ensures ∙ c.if1.true))
 
 add-e : tie.Need-overflow-add-e invariant-loop decreases-loop
@@ -34,10 +34,10 @@ loop-less : tie.Need-loop-smaller invariant-loop decreases-loop
 loop-less c = search rules
 
 loop-again : tie.Need-loop-preserved invariant-loop decreases-loop
-loop-again c = (omega arith, L.some-step _ _ c.before.before.before.loop.invariant.1 (sym c.before.faulty.ensures ∙ c.if1.false))
+loop-again c = (omega arith, L.some_step _ _ c.before.before.before.loop.invariant.1 (sym c.before.faulty.ensures ∙ c.if1.false))
 
 returns-2 : tie.Need-returns-2 invariant-loop decreases-loop
-unfolding badDistance
+unfolding bad_distance
 returns-2 c = sym (L.some_end _ _ c.before.loop.e c.before.loop.invariant.0 c.loop-test.false c.before.loop.invariant.1)
 
 pub bad-distance-spec : {M : Type 1} → statement M

@@ -8,7 +8,7 @@ use borrow.Author.Rules.{rules}
 use borrow.Author.Tests.{lt-ltb, le-ltb, le-leb, lt-leb}
 use lib.Dec.{ltb, leb}
 use Rattle.base.specs.Tests.{◌and◌, some}
-use Rattle.base.proofs.Tests.{some_one, and-true, and-false, and_no}
+use Rattle.base.proofs.Tests.{some_one, and_true, and_false, and_no}
 use Rattle.nest.specs.Nest.{component}
 use Rattle.nest.specs.Reader.{beyond}
 use Rattle.nest.proofs.Laws as L
@@ -22,7 +22,7 @@ abbrev decreases-loop : tie.decreases-loop
 decreases-loop e nest n j₀ j = 4 - j
 
 loop-holds : tie.Need-loop-init invariant-loop decreases-loop
-loop-holds c = (omega arith, L.some-start _)
+loop-holds c = (omega arith, L.some_start _)
 
 mul-if2 : tie.Need-overflow-mul-if2 invariant-loop decreases-loop
 mul-if2 c = search rules
@@ -41,7 +41,7 @@ unfolding beyond
 returns c =
     let at-loop-test = c.before.before.before in
     let at-loop = at-loop-test.before in
-    sym (some_one _ _ at-loop.loop.j at-loop-test.loop-test.true (and-true (le-leb _ _ c.before.before.if1.true) (lt-ltb _ _ c.if2.true)))
+    sym (some_one _ _ at-loop.loop.j at-loop-test.loop-test.true (and_true (le-leb _ _ c.before.before.if1.true) (lt-ltb _ _ c.if2.true)))
 
 add-j : tie.Need-overflow-add-j invariant-loop decreases-loop
 add-j c = search rules
@@ -52,8 +52,8 @@ loop-less c = search rules
 loop-again : tie.Need-loop-preserved invariant-loop decreases-loop
 loop-again c = (
   omega arith,
-  L.some-step _ _ c.before.before.loop.invariant.1 (⊎_elim (λ w. and_no _ _ (le-ltb _ _ w.2.left))
-      (λ w. and-false _ _ (lt-leb _ _ w.left)) c.if1.branch),
+  L.some_step _ _ c.before.before.loop.invariant.1 (⊎_elim (λ w. and_no _ _ (le-ltb _ _ w.2.left))
+      (λ w. and_false _ _ (lt-leb _ _ w.left)) c.if1.branch),
 )
 
 returns-2 : tie.Need-returns-2 invariant-loop decreases-loop

@@ -12,7 +12,7 @@ all-zero-requires c κs = search rules
 
 returns : tie.Need-returns
 unfolding faulty
-returns c = sym (or_left _ (sym c.before.all-zero.ensures ∙ c.if1.true))
+returns c = sym (or_left _ (sym c.before.all_zero.ensures ∙ c.if1.true))
 
 repeated-requires : tie.Need-repeated-requires
 repeated-requires c κs = search rules
@@ -29,7 +29,7 @@ unfolding faulty
 returns-3 c =
     let at-if1 = c.before.before.before in
     let at-all-zero = at-if1.before in
-    c.beyond.ensures ∙ sym (L.or-skip (sym at-all-zero.all-zero.ensures ∙ at-if1.if1.false) ∙ L.or-skip (sym c.before.before.repeated.ensures
+    c.beyond.ensures ∙ sym (L.or_skip (sym at-all-zero.all_zero.ensures ∙ at-if1.if1.false) ∙ L.or_skip (sym c.before.before.repeated.ensures
     ∙ c.before.if2.false))
 
 pub faulty-spec : {M : Type 1} → statement M

@@ -27,7 +27,7 @@ element-copy-out-tile : tie.Need-element-copy-out-tile invariant-loop decreases-
 element-copy-out-tile c = search rules
 
 loop-holds : tie.Need-loop-init invariant-loop decreases-loop
-loop-holds c = (omega arith, L.some-start _)
+loop-holds c = (omega arith, L.some_start _)
 
 mul-if1 : tie.Need-overflow-mul-if1 invariant-loop decreases-loop
 mul-if1 c = search rules
@@ -52,7 +52,7 @@ loop-less : tie.Need-loop-smaller invariant-loop decreases-loop
 loop-less c = search rules
 
 loop-again : tie.Need-loop-preserved invariant-loop decreases-loop
-loop-again c = (omega arith, L.some-step _ _ c.before.before.before.loop.invariant.1 (le-ltb _ _ c.if1.false))
+loop-again c = (omega arith, L.some_step _ _ c.before.before.before.loop.invariant.1 (le-ltb _ _ c.if1.false))
 
 returns-2 : tie.Need-returns-2 invariant-loop decreases-loop
 unfolding reached

@@ -18,7 +18,7 @@ abbrev decreases-loop : tie.decreases-loop
 decreases-loop nest e f₀ f = e - f
 
 loop-holds : tie.Need-loop-init invariant-loop decreases-loop
-loop-holds c = (omega arith, L.some-start _)
+loop-holds c = (omega arith, L.some_start _)
 
 same-requires : tie.Need-same-requires invariant-loop decreases-loop
 same-requires c κs = search rules
@@ -33,7 +33,7 @@ loop-less : tie.Need-loop-smaller invariant-loop decreases-loop
 loop-less c = search rules
 
 loop-again : tie.Need-loop-preserved invariant-loop decreases-loop
-loop-again c = (omega arith, L.some-step _ _ c.before.before.before.loop.invariant.1 (sym c.before.same.ensures ∙ c.if1.false))
+loop-again c = (omega arith, L.some_step _ _ c.before.before.before.loop.invariant.1 (sym c.before.same.ensures ∙ c.if1.false))
 
 returns-2 : tie.Need-returns-2 invariant-loop decreases-loop
 returns-2 c = sym (L.some_end _ _ c.before.loop.f c.before.loop.invariant.0 c.loop-test.false c.before.loop.invariant.1)

@@ -7,7 +7,7 @@ use borrow.Author.Rules.{rules}
 use borrow.Author.Tests.{eq-eqb, ne_eqb}
 use lib.Dec.{eqb}
 use Rattle.base.specs.Tests.{every}
-use Rattle.base.proofs.Tests.{every-not}
+use Rattle.base.proofs.Tests.{every_not}
 use Rattle.nest.specs.Nest.{component}
 use Rattle.nest.specs.Reader.{same}
 use Rattle.nest.proofs.Laws as L
@@ -21,7 +21,7 @@ abbrev decreases-loop : tie.decreases-loop
 decreases-loop e f nest j₀ j = 4 - j
 
 loop-holds : tie.Need-loop-init invariant-loop decreases-loop
-loop-holds c = (omega arith, L.every-start _)
+loop-holds c = (omega arith, L.every_start _)
 
 mul-if1 : tie.Need-overflow-mul-if1 invariant-loop decreases-loop
 mul-if1 c = search rules
@@ -52,7 +52,7 @@ unfolding same
 returns c =
     let at-loop-test = c.before.before.before in
     let at-loop = at-loop-test.before in
-    sym (every-not _ _ at-loop.loop.j at-loop-test.loop-test.true (ne_eqb _ _ c.if1.true))
+    sym (every_not _ _ at-loop.loop.j at-loop-test.loop-test.true (ne_eqb _ _ c.if1.true))
 
 add-j : tie.Need-overflow-add-j invariant-loop decreases-loop
 add-j c = search rules
@@ -61,11 +61,11 @@ loop-less : tie.Need-loop-smaller invariant-loop decreases-loop
 loop-less c = search rules
 
 loop-again : tie.Need-loop-preserved invariant-loop decreases-loop
-loop-again c = (omega arith, L.every-step _ _ c.before.before.before.before.loop.invariant.1 (eq-eqb _ _ c.if1.false))
+loop-again c = (omega arith, L.every_step _ _ c.before.before.before.before.loop.invariant.1 (eq-eqb _ _ c.if1.false))
 
 returns-2 : tie.Need-returns-2 invariant-loop decreases-loop
 unfolding same
-returns-2 c = sym (L.every-end _ _ c.before.loop.j c.before.loop.invariant.0 c.loop-test.false c.before.loop.invariant.1)
+returns-2 c = sym (L.every_end _ _ c.before.loop.j c.before.loop.invariant.0 c.loop-test.false c.before.loop.invariant.1)
 
 pub same_spec : {M : Type 1} → statement M
 same_spec =

@@ -8,7 +8,7 @@ use borrow.Author.Tests.{eq-eqb, ne_eqb}
 use lib.ListN.{get_or}
 use lib.Dec.{eqb}
 use Rattle.base.specs.Tests.{every}
-use Rattle.base.proofs.Tests.{every-not}
+use Rattle.base.proofs.Tests.{every_not}
 use Rattle.nest.specs.Reader.{blank}
 use Rattle.nest.proofs.Laws as L
 use Rattle.reader.proofs.fields.blank.Statement.{statement}
@@ -21,7 +21,7 @@ abbrev decreases-loop : tie.decreases-loop
 decreases-loop encoded at count i₀ i = count - i
 
 loop-holds : tie.Need-loop-init invariant-loop decreases-loop
-loop-holds c = (omega arith, L.every-start _)
+loop-holds c = (omega arith, L.every_start _)
 
 add-if1 : tie.Need-overflow-add-if1 invariant-loop decreases-loop
 add-if1 c = search rules
@@ -31,7 +31,7 @@ shared-slice-read-if1 c = search rules
 
 returns : tie.Need-returns invariant-loop decreases-loop
 unfolding blank
-returns c = sym (every-not _ _ c.before.before.before.loop.i c.before.before.loop-test.true (ne_eqb _ _ c.if1.true))
+returns c = sym (every_not _ _ c.before.before.before.loop.i c.before.before.loop-test.true (ne_eqb _ _ c.if1.true))
 
 add-i : tie.Need-overflow-add-i invariant-loop decreases-loop
 add-i c = search rules
@@ -40,11 +40,11 @@ loop-less : tie.Need-loop-smaller invariant-loop decreases-loop
 loop-less c = search rules
 
 loop-again : tie.Need-loop-preserved invariant-loop decreases-loop
-loop-again c = (omega arith, L.every-step _ _ c.before.before.before.loop.invariant.1 (eq-eqb _ _ c.if1.false))
+loop-again c = (omega arith, L.every_step _ _ c.before.before.before.loop.invariant.1 (eq-eqb _ _ c.if1.false))
 
 returns-2 : tie.Need-returns-2 invariant-loop decreases-loop
 unfolding blank
-returns-2 c = sym (L.every-end _ _ c.before.loop.i c.before.loop.invariant.0 c.loop-test.false c.before.loop.invariant.1)
+returns-2 c = sym (L.every_end _ _ c.before.loop.i c.before.loop.invariant.0 c.loop-test.false c.before.loop.invariant.1)
 
 pub blank-spec : {M : Type 1} → statement M
 blank-spec =

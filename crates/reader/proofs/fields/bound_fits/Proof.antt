@@ -18,7 +18,7 @@ byte-at-requires c κs = search rules
 
 returns : tie.Need-returns
 returns c =
-    sym (L.bad-side c.before.before.before.args.encoded.now c.before.before.before.args.n c.before.before.before.args.r
+    sym (L.bad_side c.before.before.before.args.encoded.now c.before.before.before.args.n c.before.before.before.args.r
     (omega (arith, c.before.byte_at.ensures.0, c.if1.true)))
 
 add-byte-at-2 : tie.Need-overflow-add-byte-at-2
@@ -30,7 +30,7 @@ byte-at-requires-2 c κs = search rules
 returns-2 : tie.Need-returns-2
 returns-2 c =
     let start = c.before.before.before.before.before in
-    sym (L.bad-bounded start.args.encoded.now start.args.n start.args.r (omega (arith, c.before.byte-at2.ensures.0, c.if2.true)))
+    sym (L.bad_bounded start.args.encoded.now start.args.n start.args.r (omega (arith, c.before.byte-at2.ensures.0, c.if2.true)))
 
 add-byte-at-3 : tie.Need-overflow-add-byte-at-3
 add-byte-at-3 c = search rules
@@ -42,7 +42,7 @@ returns-3 : tie.Need-returns-3
 returns-3 c =
     let at-byte-at2 = c.before.before.before in
     let start = at-byte-at2.before.before.before.before in
-    sym (L.bad-earlier start.args.encoded.now start.args.n start.args.r
+    sym (L.bad_earlier start.args.encoded.now start.args.n start.args.r
     (omega (arith, c.before.byte-at3.ensures.0, at-byte-at2.byte-at2.ensures.0, c.if3.true)))
 
 slope-at-requires : tie.Need-slope-at-requires
@@ -51,7 +51,7 @@ slope-at-requires c κs = search rules
 returns-4 : tie.Need-returns-4
 returns-4 c =
     let start = c.before.before.before.before.before.before.before.before.before in
-    sym (L.bad-slope start.args.encoded.now start.args.n start.args.r (omega (arith, c.before.slope-at.ensures, c.if4.true)))
+    sym (L.bad_slope start.args.encoded.now start.args.n start.args.r (omega (arith, c.before.slope-at.ensures, c.if4.true)))
 
 add-blank : tie.Need-overflow-add-blank
 add-blank c = search rules
@@ -76,7 +76,7 @@ returns-5 c =
     let at-if1 = at-byte-at2.before in
     let at-byte-at = at-if1.before in
     let start = at-byte-at.before.before in
-    c.blank2.ensures ∙ sym (L.bound-left start.args.encoded.now start.args.n start.args.r
+    c.blank2.ensures ∙ sym (L.bound_left start.args.encoded.now start.args.n start.args.r
     (omega (arith, at-byte-at.byte_at.ensures.0, at-if1.if1.false)) (omega (arith, at-byte-at2.byte-at2.ensures.0, at-if2.if2.false))
     (omega (arith, at-byte-at3.byte-at3.ensures.0, at-byte-at2.byte-at2.ensures.0, at-if3.if3.false))
     (omega (arith, at-slope-at.slope-at.ensures, at-if4.if4.false)) (sym c.before.before.blank.ensures ∙ c.before.if5.true))
@@ -84,7 +84,7 @@ returns-5 c =
 returns-6 : tie.Need-returns-6
 returns-6 c =
     let start = c.before.before.before.before.before.before.before.before.before.before.before in
-    sym (L.bad-blank start.args.encoded.now start.args.n start.args.r (sym c.before.blank.ensures ∙ c.if5.false))
+    sym (L.bad_blank start.args.encoded.now start.args.n start.args.r (sym c.before.blank.ensures ∙ c.if5.false))
 
 pub bound-fits-spec : {M : Type 1} → statement M
 bound-fits-spec =

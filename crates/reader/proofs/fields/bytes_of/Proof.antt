@@ -15,7 +15,7 @@ abbrev decreases-loop : tie.decreases-loop
 decreases-loop encoded n b field values₀ k₀ values k = b - k
 
 loop-holds : tie.Need-loop-init invariant-loop decreases-loop
-loop-holds c = (omega arith, L.filled-start 4 _)
+loop-holds c = (omega arith, L.filled_start 4 _)
 
 add-values : tie.Need-overflow-add-values invariant-loop decreases-loop
 add-values c = omega arith
@@ -42,7 +42,7 @@ loop-again : tie.Need-loop-preserved invariant-loop decreases-loop
 loop-again c = (omega arith, L.filled_next 4 _ _ _ _ c.before.before.loop.invariant.1 (omega arith) refl)
 
 returns : tie.Need-returns invariant-loop decreases-loop
-returns c = L.filled-end 4 _ _ c.before.loop.k _ c.before.loop.invariant.0 c.loop-test.false c.before.loop.invariant.1
+returns c = L.filled_end 4 _ _ c.before.loop.k _ c.before.loop.invariant.0 c.loop-test.false c.before.loop.invariant.1
 
 pub bytes-of-spec : {M : Type 1} → statement M
 bytes-of-spec =

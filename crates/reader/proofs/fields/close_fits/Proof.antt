@@ -2,7 +2,7 @@
 use mathlib.Core.Path.{sym, ◌∙◌}
 use borrow.Author.Rules.{rules}
 use borrow.Author.Tests.{lt-ltb, le-ltb}
-use Rattle.base.proofs.Tests.{and_left, and-false}
+use Rattle.base.proofs.Tests.{and_left, and_false}
 use Rattle.nest.specs.Reader.{blank}
 use Rattle.reader.proofs.fields.close_fits.Statement.{statement}
 use Rattle.reader.proofs.fields.close_fits.Tie as tie
@@ -14,7 +14,7 @@ shared-slice-read-if1 : tie.Need-shared-slice-read-if1
 shared-slice-read-if1 c = search rules
 
 returns : tie.Need-returns
-returns c = sym (and-false _ _ (le-ltb _ _ c.if1.true))
+returns c = sym (and_false _ _ (le-ltb _ _ c.if1.true))
 
 add-blank : tie.Need-overflow-add-blank
 add-blank c = search rules
@@ -34,7 +34,7 @@ returns-2 c =
     ∙ c.before.if2.true))
 
 returns-3 : tie.Need-returns-3
-returns-3 c = sym (and_left _ _ (lt-ltb _ _ c.before.before.if1.false) ∙ and-false _ _ (sym c.before.blank.ensures ∙ c.if2.false))
+returns-3 c = sym (and_left _ _ (lt-ltb _ _ c.before.before.if1.false) ∙ and_false _ _ (sym c.before.blank.ensures ∙ c.if2.false))
 
 pub close-fits-spec : {M : Type 1} → statement M
 close-fits-spec =

@@ -17,8 +17,8 @@ add-result c =
       arith,
       c.before.count-kind.ensures,
       c.count-kind2.ensures,
-      L.kinds-few c.before.before.before.args.encoded.now 2,
-      L.kinds-few c.before.before.before.args.encoded.now 4,
+      L.kinds_few c.before.before.before.args.encoded.now 2,
+      L.kinds_few c.before.before.before.args.encoded.now 4,
     )
 
 returns : tie.Need-returns

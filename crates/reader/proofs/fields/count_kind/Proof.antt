@@ -6,8 +6,8 @@ use native.Mathlib.Omega.{arith}
 use borrow.Author.Rules.{rules}
 use lib.ListN.{length}
 use Rattle.base.specs.Tests.{those}
-use Rattle.base.proofs.Select.{those-few}
-use Rattle.nest.specs.Reader.{kind, records, ofKind}
+use Rattle.base.proofs.Select.{those_few}
+use Rattle.nest.specs.Reader.{kind, records, of_kind}
 use Rattle.nest.proofs.Laws as L
 use Rattle.reader.proofs.fields.count_kind.Statement.{statement}
 use Rattle.reader.proofs.fields.count_kind.Tie as tie
@@ -19,7 +19,7 @@ abbrev decreases-loop : tie.decreases-loop
 decreases-loop encoded wanted records n₀ r₀ n r = records - r
 
 loop-holds : tie.Need-loop-init invariant-loop decreases-loop
-loop-holds c = (omega arith, L.those-start _ _)
+loop-holds c = (omega arith, L.those_start _ _)
 
 mul-if1 : tie.Need-overflow-mul-if1 invariant-loop decreases-loop
 mul-if1 c = omega arith
@@ -31,7 +31,7 @@ add-n : tie.Need-overflow-add-n invariant-loop decreases-loop
 add-n c =
     let at-loop = c.before.before.before in
     let start = at-loop.before in
-    omega (arith, those-few (kind start.args.encoded.now) start.args.wanted at-loop.loop.r)
+    omega (arith, those_few (kind start.args.encoded.now) start.args.wanted at-loop.loop.r)
 
 add_r : tie.Need-overflow-add-r invariant-loop decreases-loop
 add_r c = search rules
@@ -42,13 +42,13 @@ loop-less c = search rules
 loop-again : tie.Need-loop-preserved invariant-loop decreases-loop
 loop-again c = (
   omega arith,
-  ⊎_elim (λ w. w.1 ∙ L.those-one _ _ _ _ c.before.before.before.loop.invariant.1 w.0.taken)
-      (λ w. w.1 ∙ L.those-skip _ _ _ _ c.before.before.before.loop.invariant.1 w.0.left) c.if1.branch,
+  ⊎_elim (λ w. w.1 ∙ L.those_one _ _ _ _ c.before.before.before.loop.invariant.1 w.0.taken)
+      (λ w. w.1 ∙ L.those_skip _ _ _ _ c.before.before.before.loop.invariant.1 w.0.left) c.if1.branch,
 )
 
 returns : tie.Need-returns invariant-loop decreases-loop
-unfolding ofKind
-returns c = L.those-end _ _ _ c.before.loop.r _ c.before.loop.invariant.0 c.loop-test.false c.before.loop.invariant.1
+unfolding of_kind
+returns c = L.those_end _ _ _ c.before.loop.r _ c.before.loop.invariant.0 c.loop-test.false c.before.loop.invariant.1
 
 pub count-kind-spec : {M : Type 1} → statement M
 count-kind-spec =

@@ -1,7 +1,7 @@
 -- `reader::fields::fields_fit_at` meets its contract: each return by its branches.
 use mathlib.Core.Path.{sym, ◌∙◌}
 use borrow.Author.Rules.{rules}
-use Rattle.base.proofs.Tests.{and_left, and-false}
+use Rattle.base.proofs.Tests.{and_left, and_false}
 use Rattle.reader.proofs.fields.fields_fit_at.Statement.{statement}
 use Rattle.reader.proofs.fields.fields_fit_at.Tie as tie
 
@@ -18,7 +18,7 @@ returns : tie.Need-returns
 returns c = c.fields_fit.ensures ∙ sym (and_left _ _ (sym c.before.before.stands.ensures ∙ c.before.if1.true))
 
 returns-2 : tie.Need-returns-2
-returns-2 c = sym (and-false _ _ (sym c.before.stands.ensures ∙ c.if1.false))
+returns-2 c = sym (and_false _ _ (sym c.before.stands.ensures ∙ c.if1.false))
 
 pub fields-fit-at-spec : {M : Type 1} → statement M
 fields-fit-at-spec =

@@ -36,39 +36,39 @@ bound-fits-at-requires c κs = search rules
 returns : tie.Need-returns
 returns c =
     let A = c.before.before.before.before.args in
-    L.fits_by A.encoded.now A.n A.b A.e A.r _ _ _ (L.dimension-stands A.n A.b A.e A.r _ c.before.match.keys1)
-    (L.checked-plain A.encoded.now A.n A.r _ (inl c.before.match.keys1)) c.fields-fit-at.ensures
+    L.fits_by A.encoded.now A.n A.b A.e A.r _ _ _ (L.dimension_stands A.n A.b A.e A.r _ c.before.match.keys1)
+    (L.checked_plain A.encoded.now A.n A.r _ (inl c.before.match.keys1)) c.fields-fit-at.ensures
 
 returns-2 : tie.Need-returns-2
 returns-2 c =
     let A = c.before.before.before.before.args in
-    L.fits_by A.encoded.now A.n A.b A.e A.r _ _ _ (L.distance-stands A.n A.b A.e A.r _ (inl c.before.match.keys2))
-    (L.checked-plain A.encoded.now A.n A.r _ (inr c.before.match.keys2)) c.fields-fit-at2.ensures
+    L.fits_by A.encoded.now A.n A.b A.e A.r _ _ _ (L.distance_stands A.n A.b A.e A.r _ (inl c.before.match.keys2))
+    (L.checked_plain A.encoded.now A.n A.r _ (inr c.before.match.keys2)) c.fields-fit-at2.ensures
 
 returns-3 : tie.Need-returns-3
 returns-3 c =
     let A = c.before.before.before.before.args in
-    L.fits_by A.encoded.now A.n A.b A.e A.r _ _ _ (L.close-stands A.n A.b A.e A.r _ c.before.match.keys3)
-    (L.checked-close A.encoded.now A.n A.r _ c.before.match.keys3) c.close-fits-at.ensures
+    L.fits_by A.encoded.now A.n A.b A.e A.r _ _ _ (L.close_stands A.n A.b A.e A.r _ c.before.match.keys3)
+    (L.checked_close A.encoded.now A.n A.r _ c.before.match.keys3) c.close-fits-at.ensures
 
 returns-4 : tie.Need-returns-4
 returns-4 c =
     let A = c.before.before.before.before.args in
-    L.fits_by A.encoded.now A.n A.b A.e A.r _ _ _ (L.distance-stands A.n A.b A.e A.r _ (inr c.before.match.keys4))
-    (L.checked-wide A.encoded.now A.n A.r _ c.before.match.keys4) c.fields-fit-at3.ensures
+    L.fits_by A.encoded.now A.n A.b A.e A.r _ _ _ (L.distance_stands A.n A.b A.e A.r _ (inr c.before.match.keys4))
+    (L.checked_wide A.encoded.now A.n A.r _ c.before.match.keys4) c.fields-fit-at3.ensures
 
 returns-5 : tie.Need-returns-5
 returns-5 c =
     let A = c.before.before.before.before.args in
-    L.fits_by A.encoded.now A.n A.b A.e A.r _ _ _ (L.bound-stands A.n A.b A.e A.r _ c.before.match.keys5)
-    (L.checked-bound A.encoded.now A.n A.r _ c.before.match.keys5) c.bound-fits-at.ensures
+    L.fits_by A.encoded.now A.n A.b A.e A.r _ _ _ (L.bound_stands A.n A.b A.e A.r _ c.before.match.keys5)
+    (L.checked_bound A.encoded.now A.n A.r _ c.before.match.keys5) c.bound-fits-at.ensures
 
 returns-6 : tie.Need-returns-6
 returns-6 c =
     let A = c.before.before.before.args in
     let rest = c.match.rest in
-    sym (L.fits-no A.encoded.now A.n A.b A.e A.r
-    (L.checked-none A.encoded.now A.n A.r _ rest.0.0.0.0.1 rest.0.0.0.1 rest.0.0.1 rest.0.1 rest.1))
+    sym (L.fits_no A.encoded.now A.n A.b A.e A.r
+    (L.checked_none A.encoded.now A.n A.r _ rest.0.0.0.0.1 rest.0.0.0.1 rest.0.0.1 rest.0.1 rest.1))
 
 pub fits-at-spec : {M : Type 1} → statement M
 fits-at-spec =

@@ -16,7 +16,7 @@ abbrev decreases-loop : tie.decreases-loop
 decreases-loop encoded n field values₀ j₀ values j = n - j
 
 loop-holds : tie.Need-loop-init invariant-loop decreases-loop
-loop-holds c = (omega arith, L.filled-start 4 _)
+loop-holds c = (omega arith, L.filled_start 4 _)
 
 mul-half-at : tie.Need-overflow-mul-half-at invariant-loop decreases-loop
 mul-half-at c = search rules
@@ -43,7 +43,7 @@ loop-again : tie.Need-loop-preserved invariant-loop decreases-loop
 loop-again c = (omega arith, L.filled_next 4 _ _ _ _ c.before.before.loop.invariant.1 (omega arith) c.half_at.ensures.0)
 
 returns : tie.Need-returns invariant-loop decreases-loop
-returns c = L.filled-end 4 _ _ c.before.loop.j _ c.before.loop.invariant.0 c.loop-test.false c.before.loop.invariant.1
+returns c = L.filled_end 4 _ _ c.before.loop.j _ c.before.loop.invariant.0 c.loop-test.false c.before.loop.invariant.1
 
 pub halves-spec : {M : Type 1} → statement M
 halves-spec =

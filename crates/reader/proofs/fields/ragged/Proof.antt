@@ -11,7 +11,7 @@ unfolding ragged ◌or◌
 returns c = simp (eq-eqb _ _ c.if1.true)
 
 returns-2 : tie.Need-returns-2
-returns-2 c = L.even-length c.before.args.encoded.now c.if1.false
+returns-2 c = L.even_length c.before.args.encoded.now c.if1.false
 
 pub ragged-spec : {M : Type 1} → statement M
 ragged-spec = tie.close (tie.spec returns returns-2)

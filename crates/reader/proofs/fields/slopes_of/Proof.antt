@@ -2,19 +2,19 @@
 use Prim.Native.Nat.{◌+◌, ◌*◌, ◌-◌, ◌≤◌}
 use mathlib.Core.Path.{◌≡◌, ◌∙◌}
 use native.Mathlib.Omega.{arith}
-use Rattle.nest.specs.Reader.{slopeAt, filled}
+use Rattle.nest.specs.Reader.{slope_at, filled}
 use Rattle.nest.proofs.Laws as L
 use Rattle.reader.proofs.fields.slopes_of.Statement.{statement}
 use Rattle.reader.proofs.fields.slopes_of.Tie as tie
 
 abbrev invariant-loop : tie.invariant-loop
-invariant-loop encoded n b values₀ k₀ values k = (k ≤ b) × (values ≡ filled 4 k (λ i. slopeAt encoded (n + i)))
+invariant-loop encoded n b values₀ k₀ values k = (k ≤ b) × (values ≡ filled 4 k (λ i. slope_at encoded (n + i)))
 
 abbrev decreases-loop : tie.decreases-loop
 decreases-loop encoded n b values₀ k₀ values k = b - k
 
 loop-holds : tie.Need-loop-init invariant-loop decreases-loop
-loop-holds c = (omega arith, L.filled-start 4 _)
+loop-holds c = (omega arith, L.filled_start 4 _)
 
 add-slope-at : tie.Need-overflow-add-slope-at invariant-loop decreases-loop
 add-slope-at c = omega arith
@@ -38,7 +38,7 @@ loop-again : tie.Need-loop-preserved invariant-loop decreases-loop
 loop-again c = (omega arith, L.filled_next 4 _ _ _ _ c.before.before.loop.invariant.1 (omega arith) c.slope-at.ensures)
 
 returns : tie.Need-returns invariant-loop decreases-loop
-returns c = L.filled-end 4 _ _ c.before.loop.k _ c.before.loop.invariant.0 c.loop-test.false c.before.loop.invariant.1
+returns c = L.filled_end 4 _ _ c.before.loop.k _ c.before.loop.invariant.0 c.loop-test.false c.before.loop.invariant.1
 
 pub slopes-of-spec : {M : Type 1} → statement M
 slopes-of-spec =

@@ -7,25 +7,25 @@ use Rattle.reader.proofs.fields.well_formed.Tie as tie
 
 returns : tie.Need-returns
 returns c =
-    sym (L.few-dimensions c.before.before.args.encoded.now c.before.before.args.n c.before.before.args.b c.before.before.args.e
+    sym (L.few_dimensions c.before.before.args.encoded.now c.before.before.args.n c.before.before.args.b c.before.before.args.e
     c.if1.true)
 
 returns-2 : tie.Need-returns-2
 returns-2 c =
-    sym (L.many-dimensions c.before.before.before.args.encoded.now c.before.before.before.args.n c.before.before.before.args.b
+    sym (L.many_dimensions c.before.before.before.args.encoded.now c.before.before.before.args.n c.before.before.before.args.b
     c.before.before.before.args.e c.before.if1.false c.if2.true)
 
 returns-3 : tie.Need-returns-3
 returns-3 c =
     let start = c.before.before.before.before in
-    sym (L.many-bounds start.args.encoded.now start.args.n start.args.b start.args.e c.before.before.if1.false c.before.if2.false
+    sym (L.many_bounds start.args.encoded.now start.args.n start.args.b start.args.e c.before.before.if1.false c.before.if2.false
     c.if3.true)
 
 returns-4 : tie.Need-returns-4
 returns-4 c =
     let at-if1 = c.before.before.before in
     let start = at-if1.before.before in
-    sym (L.few-distances start.args.encoded.now start.args.n start.args.b start.args.e at-if1.if1.false c.before.before.if2.false
+    sym (L.few_distances start.args.encoded.now start.args.n start.args.b start.args.e at-if1.if1.false c.before.before.if2.false
     c.before.if3.false c.if4.true)
 
 returns-5 : tie.Need-returns-5
@@ -51,7 +51,7 @@ returns-6 c =
     let at-if2 = at-if3.before in
     let at-if1 = at-if2.before in
     let start = at-if1.before.before in
-    sym (L.records-wrong start.args.encoded.now start.args.n start.args.b start.args.e at-if1.if1.false at-if2.if2.false
+    sym (L.records_wrong start.args.encoded.now start.args.n start.args.b start.args.e at-if1.if1.false at-if2.if2.false
     at-if3.if3.false c.before.before.if4.false c.before.if5.false c.if6.true)
 
 all-fit-requires : tie.Need-all-fit-requires
@@ -64,7 +64,7 @@ returns-7 c =
     let at-if2 = at-if3.before in
     let at-if1 = at-if2.before in
     let start = at-if1.before.before in
-    c.all_fit.ensures ∙ L.records-fit start.args.encoded.now start.args.n start.args.b start.args.e at-if1.if1.false
+    c.all_fit.ensures ∙ L.records_fit start.args.encoded.now start.args.n start.args.b start.args.e at-if1.if1.false
     at-if2.if2.false at-if3.if3.false at-if4.if4.false c.before.before.if5.false c.before.if6.false
 
 pub well-formed-spec : {M : Type 1} → statement M

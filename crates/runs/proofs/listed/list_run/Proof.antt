@@ -1,7 +1,7 @@
 -- `list_run` meets its contract: the first y cells are listed.
 use Prim.Native.Nat.{◌-◌}
 use native.Mathlib.Omega.{arith}
-use Rattle.base.proofs.Copies.{Copies, copies-none, copies-long, copies-end}
+use Rattle.base.proofs.Copies.{Copies, copies_none, copies_long, copies_end}
 use Rattle.runs.specs.listed.Numbers.{numbers}
 use Rattle.runs.proofs.listed.Numbers as L
 use Rattle.runs.proofs.listed.list_run.Statement.{statement}
@@ -14,7 +14,7 @@ abbrev decreases-loop : tie.decreases-loop
 decreases-loop cells₀ at first n y₀ cells y = n - y
 
 loop-holds : tie.Need-loop-init invariant-loop decreases-loop
-loop-holds c = copies-none _ _ _ _ _
+loop-holds c = copies_none _ _ _ _ _
 
 add-cells : tie.Need-overflow-add-cells invariant-loop decreases-loop
 add-cells c = omega (arith, c.loop-test.true, c.before.before.requires.outer)
@@ -30,7 +30,7 @@ mul-cells c = omega (arith, c.loop-test.true, c.before.before.requires.inner, c.
 
 slice-write-cells : tie.Need-slice-write-cells invariant-loop decreases-loop
 slice-write-cells c =
-    omega (arith, c.loop-test.true, c.before.before.requires.inner, copies-long _ _ _ _ _ c.before.before.requires.inner (rw L.numbers-long c.before.before.requires.outer) _ _ c.before.loop.invariant)
+    omega (arith, c.loop-test.true, c.before.before.requires.inner, copies_long _ _ _ _ _ c.before.before.requires.inner (rw L.numbers_long c.before.before.requires.outer) _ _ c.before.loop.invariant)
 
 add-y : tie.Need-overflow-add-y invariant-loop decreases-loop
 add-y c = omega (arith, c.loop-test.true, c.before.before.requires.inner, c.before.before.requires.short.0)
@@ -42,10 +42,10 @@ loop-again : tie.Need-loop-preserved invariant-loop decreases-loop
 loop-again c = L.listed_more _ _ _ _ c.before.before.requires.inner c.before.before.requires.outer _ _ c.before.loop.invariant c.loop-test.true
 
 same_length : tie.Need-same-length invariant-loop decreases-loop
-same_length c = copies-long _ _ _ _ _ c.before.before.requires.inner (rw L.numbers-long c.before.before.requires.outer) _ _ c.before.loop.invariant
+same_length c = copies_long _ _ _ _ _ c.before.before.requires.inner (rw L.numbers_long c.before.before.requires.outer) _ _ c.before.loop.invariant
 
 returns : tie.Need-returns invariant-loop decreases-loop
-returns c = copies-end _ _ _ _ _ c.before.before.requires.inner (rw L.numbers-long c.before.before.requires.outer) _ _ c.before.loop.invariant c.loop-test.false
+returns c = copies_end _ _ _ _ _ c.before.before.requires.inner (rw L.numbers_long c.before.before.requires.outer) _ _ c.before.loop.invariant c.loop-test.false
 
 pub list-run-spec : {M : Type 1} → statement M
 list-run-spec =

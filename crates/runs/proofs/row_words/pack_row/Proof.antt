@@ -16,7 +16,7 @@ add-to : tie.Need-overflow-add-to invariant-loop decreases-loop
 add-to c = omega (arith, c.before.before.requires.small)
 
 loop-holds : tie.Need-loop-init invariant-loop decreases-loop
-loop-holds c = L.packing-none _ _ _ _ _ _ _ _ _
+loop-holds c = L.packing_none _ _ _ _ _ _ _ _ _
 
 piece-of-requires : tie.Need-piece-of-requires invariant-loop decreases-loop
 piece-of-requires c κs = (c.before.before.before.before.requires.few, c.loop-test.true)
@@ -34,8 +34,8 @@ copy-part-requires : tie.Need-copy-part-requires invariant-loop decreases-loop
 copy-part-requires c κs =
     let start = c.before.before.before.before.before.before in
     let at-loop = c.before.before.before.loop in
-    let fit = L.packs-fit _ _ _ _ _ _ _ _ _ start.requires _ _ at-loop.invariant.from
-    at-loop.invariant.first.count-is _ _ c.before.piece_of.ensures in
+    let fit = L.packs_fit _ _ _ _ _ _ _ _ _ start.requires _ _ at-loop.invariant.from
+    at-loop.invariant.first.count_is _ _ c.before.piece_of.ensures in
     (omega (arith, fit.inner, at-loop.invariant.first.long), fit.outer)
 
 add-count : tie.Need-overflow-add-count invariant-loop decreases-loop
@@ -46,7 +46,7 @@ add-count c =
     omega (
       arith,
       start.requires.short.1,
-      L.piece-words _ _ _ _ _ _ _ _ _ start.requires _ _ at-loop.invariant.from at-loop.invariant.first.count-is _ _ at_piece.piece_of.ensures,
+      L.piece_words _ _ _ _ _ _ _ _ _ start.requires _ _ at-loop.invariant.from at-loop.invariant.first.count_is _ _ at_piece.piece_of.ensures,
     )
 
 loop-less : tie.Need-loop-smaller invariant-loop decreases-loop
@@ -58,14 +58,14 @@ loop-again : tie.Need-loop-preserved invariant-loop decreases-loop
 loop-again c =
     let at_piece = c.before.before.before.before.before in
     let at-loop = at_piece.before.before in
-    L.packing-more _ _ _ _ _ _ _ _ _ _ _ _ at-loop.loop.invariant at-loop.before.before.before.requires _ _ at_piece.piece_of.ensures _
+    L.packing_more _ _ _ _ _ _ _ _ _ _ _ _ at-loop.loop.invariant at-loop.before.before.before.requires _ _ at_piece.piece_of.ensures _
     c.before.before.before.copy-part.ensures
 
 same_length : tie.Need-same-length invariant-loop decreases-loop
 same_length c = c.before.loop.invariant.first.long
 
 returns : tie.Need-returns invariant-loop decreases-loop
-returns c = L.packing-end _ _ _ _ _ _ _ _ _ _ _ _ c.before.loop.invariant c.loop-test.false
+returns c = L.packing_end _ _ _ _ _ _ _ _ _ _ _ _ c.before.loop.invariant c.loop-test.false
 
 pub pack-row-spec : {M : Type 1} → statement M
 pack-row-spec =

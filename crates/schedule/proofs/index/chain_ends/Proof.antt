@@ -31,7 +31,7 @@ loop-holds : tie.Need-loop-init invariant-loop decreases-loop
 loop-holds c =
     let S = c.before.before.before in
     let clear = c.clear in (
-      chains.chain-start (end_of S.args.side (plan_of S.args.sizes.route S.args.nest))
+      chains.chain_start (end_of S.args.side (plan_of S.args.sizes.route S.args.nest))
           (count (plan_of S.args.sizes.route S.args.nest)) _ _ S.requires.1 clear.ensures.0 clear.ensures.1,
       omega (arith, S.requires.1),
     )
@@ -49,7 +49,7 @@ end-of-requires : tie.Need-end-of-requires invariant-loop decreases-loop
 end-of-requires c κs =
     let at-steps-of = c.before.before.before.before.before in
     let start = at-steps-of.before in
-    (start.requires.0.0, (at-steps-of.steps_of.ensures, telling.found-self _ _ _ _ c.spot.ensures))
+    (start.requires.0.0, (at-steps-of.steps_of.ensures, telling.found_self _ _ _ _ c.spot.ensures))
 
 link-requires : tie.Need-link-requires invariant-loop decreases-loop
 link-requires c κs =

@@ -12,7 +12,7 @@ abbrev decreases-loop : tie.decreases-loop
 decreases-loop chain₀ none t₀ chain t = 1024 - t
 
 loop-holds : tie.Need-loop-init invariant-loop decreases-loop
-loop-holds c = chains.clear-start _ _ c.requires.0
+loop-holds c = chains.clear_start _ _ c.requires.0
 
 cast-chain : tie.Need-overflow-cast-chain invariant-loop decreases-loop
 cast-chain c = omega (arith, c.before.before.requires.1)
@@ -36,7 +36,7 @@ loop-again : tie.Need-loop-preserved invariant-loop decreases-loop
 loop-again c = chains.clear_next _ _ _ c.before.loop.invariant c.loop-test.true
 
 returns : tie.Need-returns invariant-loop decreases-loop
-returns c = chains.clear-done _ _ _ c.before.loop.invariant c.loop-test.false
+returns c = chains.clear_done _ _ _ c.before.loop.invariant c.loop-test.false
 
 pub clear_spec : {M : Type 1} → statement M
 clear_spec =

@@ -11,12 +11,12 @@ tiles-of-requires c κs =
 mul-list-spots : tie.Need-overflow-mul-list-spots
 mul-list-spots c =
     let S = c.before.before in
-    omega (arith, (L.list-sheet _ _ S.requires.0.0 _ S.requires.0.1 _ c.before.tiles-of.ensures.0).few)
+    omega (arith, (L.list_sheet _ _ S.requires.0.0 _ S.requires.0.1 _ c.before.tiles-of.ensures.0).few)
 
 list-spots-requires : tie.Need-list-spots-requires
 list-spots-requires c κs =
     let S = c.before.before.before in
-    (L.list-sheet _ _ S.requires.0.0 _ S.requires.0.1 _ c.before.before.tiles-of.ensures.0, S.requires.1)
+    (L.list_sheet _ _ S.requires.0.0 _ S.requires.0.1 _ c.before.before.tiles-of.ensures.0, S.requires.1)
 
 returns : tie.Need-returns
 returns c =

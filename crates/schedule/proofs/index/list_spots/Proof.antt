@@ -17,7 +17,7 @@ decreases-loop lens slots spots₀ slot₀ number₀ offset₀ spots slot number
 
 loop-holds : tie.Need-loop-init invariant-loop decreases-loop
 loop-holds c =
-    L.list-start _ _ _ c.requires.1
+    L.list_start _ _ _ c.requires.1
 
 mul-half-index : tie.Need-overflow-mul-half-index invariant-loop decreases-loop
 mul-half-index c =
@@ -233,7 +233,7 @@ loop-again c =
     let loop = at-loop.loop in
     let half-index = c.before.half-index in
     let if1 = c.if1 in
-    L.list-next _ _ _ _ _ _ loop.invariant at-loop-test.loop-test.true start.requires.0 half-index.result half-index.ensures if1.number
+    L.list_next _ _ _ _ _ _ loop.invariant at-loop-test.loop-test.true start.requires.0 half-index.result half-index.ensures if1.number
     (⊎_elim (λ w. inl (w.0.taken, w.1)) (λ w. inr (w.0.left, w.1)) if1.branch) _ refl
 
 returns : tie.Need-returns invariant-loop decreases-loop

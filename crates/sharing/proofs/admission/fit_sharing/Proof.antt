@@ -4,7 +4,7 @@ use Rattle.core.specs.Prelude.{[]}
 use borrow.Author.Tests.{not-true, not-false}
 use Rattle.machine.specs.Machine.{state_of}
 use Rattle.plan.specs.Shaped.{plan_of}
-use Rattle.tenants.specs.Tenants.{tenantAreas}
+use Rattle.tenants.specs.Tenants.{tenant_areas}
 use Rattle.engine.proofs.Lines as areas
 use Rattle.sharing.proofs.Lines as lines
 use borrow.Author.Rules.{rules}
@@ -16,13 +16,13 @@ fit-records-requires c κs = search rules
 
 returns : tie.Need-returns
 returns c =
-    let fit-records = c.before.fit-records in
+    let fit_records = c.before.fit_records in
     let if1 = c.if1 in
     let A = c.before.before.before.before.before.before.args in
     let p = plan_of A.sizes.route A.nest in
     let s = state_of [] [] A.progress.now A.status.now in
-    lines.unfit-own p A.tenant (tenantAreas s A.engaged.now) A.theirs.now
-    (areas.unfit-record p s (sym fit-records.ensures ∙ not-true _ if1.true))
+    lines.unfit_own p A.tenant (tenant_areas s A.engaged.now) A.theirs.now
+    (areas.unfit_record p s (sym fit_records.ensures ∙ not-true _ if1.true))
 
 fit-status-requires : tie.Need-fit-status-requires
 fit-status-requires c κs = search rules
@@ -35,8 +35,8 @@ returns-2 c =
     let A = S.args in
     let p = plan_of A.sizes.route A.nest in
     let s = state_of [] [] A.progress.now A.status.now in
-    lines.unfit-own p A.tenant (tenantAreas s A.engaged.now) A.theirs.now
-    (areas.unfit-status p s S.requires.1.0.1 (sym fit-status.ensures ∙ not-true _ if2.true))
+    lines.unfit_own p A.tenant (tenant_areas s A.engaged.now) A.theirs.now
+    (areas.unfit_status p s S.requires.1.0.1 (sym fit-status.ensures ∙ not-true _ if2.true))
 
 fit-records-requires-2 : tie.Need-fit-records-requires-2
 fit-records-requires-2 c κs = search rules
@@ -49,7 +49,7 @@ returns-3 c =
     let A = start.args in
     let p = plan_of A.sizes.route A.nest in
     let s = state_of [] [] A.progress.now A.status.now in
-    lines.unfit-theirs p A.tenant (tenantAreas s A.engaged.now) A.theirs.now (sym fit-records2.ensures ∙ not-true _ if3.true)
+    lines.unfit_theirs p A.tenant (tenant_areas s A.engaged.now) A.theirs.now (sym fit-records2.ensures ∙ not-true _ if3.true)
 
 fit-words-requires : tie.Need-fit-words-requires
 fit-words-requires c κs = search rules
@@ -61,7 +61,7 @@ returns-4 c =
     let at-if1 = at-fit-status.before in
     let at-fit-records = at-if1.before in
     let S = at-fit-records.before.before.before.before.before in
-    let fit-records = at-fit-records.fit-records in
+    let fit_records = at-fit-records.fit_records in
     let if1 = at-if1.if1 in
     let fit-status = at-fit-status.fit-status in
     let if2 = at-if2.if2 in
@@ -71,7 +71,7 @@ returns-4 c =
     let A = S.args in
     let p = plan_of A.sizes.route A.nest in
     let s = state_of [] [] A.progress.now A.status.now in
-    lines.by-words p A.tenant (tenantAreas s A.engaged.now) A.theirs.now (areas.fit-both p s S.requires.1.0.1 (sym fit-records.ensures
+    lines.by_words p A.tenant (tenant_areas s A.engaged.now) A.theirs.now (areas.fit_both p s S.requires.1.0.1 (sym fit_records.ensures
     ∙ not-false _ if1.false) (sym fit-status.ensures ∙ not-false _ if2.false)) (sym fit-records2.ensures ∙ not-false _ if3.false)
     fit_words.result fit_words.ensures S.requires.1.1.0
 

@@ -4,17 +4,17 @@ use mathlib.Core.Path.{sym, ap, ◌∙◌}
 use native.Mathlib.Omega.{arith}
 use borrow.Author.Tests.{not-true, not-false}
 use Rattle.base.specs.Tests.{every}
-use Rattle.base.proofs.Tests.{every-not}
+use Rattle.base.proofs.Tests.{every_not}
 use borrow.Author.Rules.{rules}
-use Rattle.machine.specs.Machine.{progressOnly}
-use Rattle.tenants.specs.Tenants.{tenantAreas, stageAgrees, fitWord}
+use Rattle.machine.specs.Machine.{progress_only}
+use Rattle.tenants.specs.Tenants.{tenant_areas, stage_agrees, fit_word}
 use Rattle.base.proofs.Loops as loops
 use Rattle.sharing.proofs.Tests as tests
 use Rattle.sharing.proofs.admission.fit_words.Statement.{statement}
 use Rattle.sharing.proofs.admission.fit_words.Tie as tie
 
 abbrev invariant-loop : tie.invariant-loop
-invariant-loop engaged progress theirs tenant second b₀ b = (b ≤ length engaged) × (every (fitWord tenant (tenantAreas (progressOnly progress) engaged) theirs) b ≡
+invariant-loop engaged progress theirs tenant second b₀ b = (b ≤ length engaged) × (every (fit_word tenant (tenant_areas (progress_only progress) engaged) theirs) b ≡
     true)
 
 abbrev decreases-loop : tie.decreases-loop
@@ -28,8 +28,8 @@ other-requires c κs =
 loop-holds : tie.Need-loop-init invariant-loop decreases-loop
 loop-holds c =
     let A = c.before.before.before.before.args in
-    let f = fitWord A.tenant (tenantAreas (progressOnly A.progress.now) A.engaged.now) A.theirs.now in
-    (omega arith, loops.every-start f)
+    let f = fit_word A.tenant (tenant_areas (progress_only A.progress.now) A.engaged.now) A.theirs.now in
+    (omega arith, loops.every_start f)
 
 mul-holder : tie.Need-overflow-mul-holder invariant-loop decreases-loop
 mul-holder c = search rules
@@ -47,8 +47,8 @@ returns c =
     let loop-test = c.before.before.loop-test in
     let if1 = c.if1 in
     let A = start.args in
-    let f = fitWord A.tenant (tenantAreas (progressOnly A.progress.now) A.engaged.now) A.theirs.now in
-    sym (every-not f (length A.engaged.now) loop.b (omega (arith, loop-test.true)) (tests.word-high A.tenant A.progress.now A.engaged.now
+    let f = fit_word A.tenant (tenant_areas (progress_only A.progress.now) A.engaged.now) A.theirs.now in
+    sym (every_not f (length A.engaged.now) loop.b (omega (arith, loop-test.true)) (tests.word_high A.tenant A.progress.now A.engaged.now
     A.theirs.now loop.b if1.true))
 
 mul-stage-agrees : tie.Need-overflow-mul-stage-agrees invariant-loop decreases-loop
@@ -76,8 +76,8 @@ returns-2 c =
     let stage-agrees = c.before.stage-agrees in
     let if2 = c.if2 in
     let A = start.args in
-    let f = fitWord A.tenant (tenantAreas (progressOnly A.progress.now) A.engaged.now) A.theirs.now in
-    sym (every-not f (length A.engaged.now) loop.b (omega (arith, loop-test.true)) (tests.word-own A.tenant A.progress.now A.engaged.now
+    let f = fit_word A.tenant (tenant_areas (progress_only A.progress.now) A.engaged.now) A.theirs.now in
+    sym (every_not f (length A.engaged.now) loop.b (omega (arith, loop-test.true)) (tests.word_own A.tenant A.progress.now A.engaged.now
     A.theirs.now loop.b (sym stage-agrees.ensures ∙ not-true _ if2.true)))
 
 mul-stage-agrees-3 : tie.Need-overflow-mul-stage-agrees-3 invariant-loop decreases-loop
@@ -107,9 +107,9 @@ returns-3 c =
     let stage-agrees2 = c.before.stage-agrees2 in
     let if3 = c.if3 in
     let A = start.args in
-    let f = fitWord A.tenant (tenantAreas (progressOnly A.progress.now) A.engaged.now) A.theirs.now in
-    sym (every-not f (length A.engaged.now) loop.b (omega (arith, loop-test.true)) (tests.word-theirs A.tenant A.progress.now
-    A.engaged.now A.theirs.now loop.b (ap (λ (k : ℕ). stageAgrees (get_or A.engaged.now loop.b 0) k (get_or A.theirs.now (3 * loop.b + 1)
+    let f = fit_word A.tenant (tenant_areas (progress_only A.progress.now) A.engaged.now) A.theirs.now in
+    sym (every_not f (length A.engaged.now) loop.b (omega (arith, loop-test.true)) (tests.word_theirs A.tenant A.progress.now
+    A.engaged.now A.theirs.now loop.b (ap (λ (k : ℕ). stage_agrees (get_or A.engaged.now loop.b 0) k (get_or A.theirs.now (3 * loop.b + 1)
     0)) (sym other.ensures) ∙ sym stage-agrees2.ensures ∙ not-true _ if3.true)))
 
 add-b : tie.Need-overflow-add-b invariant-loop decreases-loop
@@ -136,11 +136,11 @@ loop-again c =
     let stage-agrees2 = c.before.stage-agrees2 in
     let if3 = c.if3 in
     let A = start.args in
-    let f = fitWord A.tenant (tenantAreas (progressOnly A.progress.now) A.engaged.now) A.theirs.now in (
+    let f = fit_word A.tenant (tenant_areas (progress_only A.progress.now) A.engaged.now) A.theirs.now in (
       omega (arith, loop-test.true),
-      loops.every-step f loop.b loop.invariant.1 (tests.word_fits A.tenant A.progress.now A.engaged.now
+      loops.every_step f loop.b loop.invariant.1 (tests.word_fits A.tenant A.progress.now A.engaged.now
           A.theirs.now loop.b (omega (arith, if1.false)) (sym stage-agrees.ensures ∙ not-false _ if2.false)
-          (ap (λ (k : ℕ). stageAgrees (get_or A.engaged.now loop.b 0) k (get_or A.theirs.now (3 * loop.b + 1) 0)) (sym other.ensures)
+          (ap (λ (k : ℕ). stage_agrees (get_or A.engaged.now loop.b 0) k (get_or A.theirs.now (3 * loop.b + 1) 0)) (sym other.ensures)
           ∙ sym stage-agrees2.ensures ∙ not-false _ if3.false)),
     )
 
@@ -149,8 +149,8 @@ returns-4 c =
     let loop = c.before.loop in
     let loop-test = c.loop-test in
     let A = c.before.before.before.before.before.before.args in
-    let f = fitWord A.tenant (tenantAreas (progressOnly A.progress.now) A.engaged.now) A.theirs.now in
-    sym (loops.every-end f (length A.engaged.now) loop.b loop.invariant.0 (omega (arith, loop-test.false)) loop.invariant.1)
+    let f = fit_word A.tenant (tenant_areas (progress_only A.progress.now) A.engaged.now) A.theirs.now in
+    sym (loops.every_end f (length A.engaged.now) loop.b loop.invariant.0 (omega (arith, loop-test.false)) loop.invariant.1)
 
 pub fit-words-spec : {M : Type 1} → statement M
 fit-words-spec =

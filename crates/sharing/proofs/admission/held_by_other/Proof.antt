@@ -27,7 +27,7 @@ returns c =
     let tile-count = c.before.tile-count in
     let if1 = c.if1 in
     let A = c.before.before.before.before.before.before.args in
-    tests.held-over (plan_of A.sizes.route A.nest) A.tenant A.progress.now A.engaged.now A.b
+    tests.held_over (plan_of A.sizes.route A.nest) A.tenant A.progress.now A.engaged.now A.b
     (omega (arith, word-index.ensures, tile-count.ensures.0, if1.true))
 
 mul-result : tie.Need-overflow-mul-result
@@ -49,7 +49,7 @@ returns-2 c =
     let if1 = c.before.before.if1 in
     let other = c.other in
     let A = start.args in
-    tests.held-left (plan_of A.sizes.route A.nest) A.tenant A.progress.now A.engaged.now A.b (omega (
+    tests.held_left (plan_of A.sizes.route A.nest) A.tenant A.progress.now A.engaged.now A.b (omega (
       arith,
       word-index.ensures,
       tile-count.ensures.0,

@@ -5,7 +5,7 @@ use native.Mathlib.Omega.{arith}
 use borrow.Author.Tests.{not-true, not-false, le-leb, lt-leb}
 use Rattle.machine.specs.Machine.{state_of}
 use Rattle.plan.specs.Shaped.{plan_of}
-use Rattle.tenants.specs.Tenants.{tenantAreas}
+use Rattle.tenants.specs.Tenants.{tenant_areas}
 use Rattle.engine.proofs.Lines as areas
 use Rattle.engine.proofs.Reading as reading
 use Rattle.sharing.proofs.Lines as lines
@@ -18,13 +18,13 @@ areas-fit-requires c κs = search rules
 
 returns : tie.Need-returns
 returns c =
-    let areas-fit = c.before.areas-fit in
+    let areas_fit = c.before.areas_fit in
     let if1 = c.if1 in
     let A = c.before.before.before.before.before.before.before.args in
     let p = plan_of A.sizes.route A.nest in (
-      λ l q h k. lines.unfit-9 p A.source.now A.tenant (tenantAreas (state_of A.memories.now A.buffer.now l A.status.now) A.engaged.now) q
-          (lines.no_own p A.source.now (tenantAreas (state_of A.memories.now A.buffer.now l A.status.now) A.engaged.now) q
-          (sym (areas-fit.ensures.0 l h.counted) ∙ not-true _ if1.true)),
+      λ l q h k. lines.unfit_9 p A.source.now A.tenant (tenant_areas (state_of A.memories.now A.buffer.now l A.status.now) A.engaged.now) q
+          (lines.no_own p A.source.now (tenant_areas (state_of A.memories.now A.buffer.now l A.status.now) A.engaged.now) q
+          (sym (areas_fit.ensures.0 l h.counted) ∙ not-true _ if1.true)),
       λ z. absurd (omega arith),
     )
 
@@ -34,8 +34,8 @@ returns-2 c =
     let S = c.before.before.before.before.before.before.before.before.before in
     let A = S.args in
     let p = plan_of A.sizes.route A.nest in (
-      λ l q h k. lines.unfit-9 p A.source.now A.tenant (tenantAreas (state_of A.memories.now A.buffer.now l A.status.now) A.engaged.now) q
-          (lines.no_words p A.source.now (tenantAreas (state_of A.memories.now A.buffer.now l A.status.now) A.engaged.now) q
+      λ l q h k. lines.unfit_9 p A.source.now A.tenant (tenant_areas (state_of A.memories.now A.buffer.now l A.status.now) A.engaged.now) q
+          (lines.no_words p A.source.now (tenant_areas (state_of A.memories.now A.buffer.now l A.status.now) A.engaged.now) q
           (λ e. if2.true (e ∙ sym S.requires.0.0.processors))),
       λ z. absurd (omega arith),
     )
@@ -49,9 +49,9 @@ returns-3 c =
     let S = c.before.before.before.before.before.before.before.before.before.before.before in
     let A = S.args in
     let p = plan_of A.sizes.route A.nest in (
-      λ l q h k. lines.unfit-9 p A.source.now A.tenant (tenantAreas (state_of A.memories.now A.buffer.now l A.status.now) A.engaged.now) q
-          (lines.no-theirs p A.source.now (tenantAreas (state_of A.memories.now A.buffer.now l A.status.now) A.engaged.now) q
-          (λ e. if3.true (k.counted ∙ e ∙ sym (areas.records-are A.nest A.sizes S.requires.0.0)))),
+      λ l q h k. lines.unfit_9 p A.source.now A.tenant (tenant_areas (state_of A.memories.now A.buffer.now l A.status.now) A.engaged.now) q
+          (lines.no_theirs p A.source.now (tenant_areas (state_of A.memories.now A.buffer.now l A.status.now) A.engaged.now) q
+          (λ e. if3.true (k.counted ∙ e ∙ sym (areas.records_are A.nest A.sizes S.requires.0.0)))),
       λ z. absurd (omega arith),
     )
 
@@ -61,18 +61,18 @@ returns-4 c =
     let at-if1 = at-if2.before.before in
     let at-areas-fit = at-if1.before in
     let S = at-areas-fit.before.before.before.before.before.before in
-    let areas-fit = at-areas-fit.areas-fit in
+    let areas_fit = at-areas-fit.areas_fit in
     let if1 = at-if1.if1 in
     let if2 = at-if2.if2 in
     let if3 = c.before.if3 in
     let if4 = c.if4 in
     let A = S.args in
     let p = plan_of A.sizes.route A.nest in (
-      λ l q h k. lines.unfit-11 p A.source.now A.tenant (tenantAreas (state_of A.memories.now A.buffer.now l A.status.now) A.engaged.now)
+      λ l q h k. lines.unfit_11 p A.source.now A.tenant (tenant_areas (state_of A.memories.now A.buffer.now l A.status.now) A.engaged.now)
           q
-          (lines.all-long p A.source.now (tenantAreas (state_of A.memories.now A.buffer.now l A.status.now) A.engaged.now) q
-          (sym (areas-fit.ensures.0 l h.counted) ∙ not-false _ if1.false) (if2.false ∙ S.requires.0.0.processors) (sym k.counted ∙ if3.false
-          ∙ areas.records-are A.nest A.sizes S.requires.0.0)) (lt-leb _ _ if4.true),
+          (lines.all_long p A.source.now (tenant_areas (state_of A.memories.now A.buffer.now l A.status.now) A.engaged.now) q
+          (sym (areas_fit.ensures.0 l h.counted) ∙ not-false _ if1.false) (if2.false ∙ S.requires.0.0.processors) (sym k.counted ∙ if3.false
+          ∙ areas.records_are A.nest A.sizes S.requires.0.0)) (lt-leb _ _ if4.true),
       λ z. absurd (omega arith),
     )
 
@@ -87,10 +87,10 @@ part-fit-sharing-end c =
     let at-if1 = c.before.before.before.before.before.before.before.before in
     let at-areas-fit = at-if1.before in
     let S = at-areas-fit.before.before.before.before.before.before in
-    let areas-fit = at-areas-fit.areas-fit in
+    let areas_fit = at-areas-fit.areas_fit in
     let if1 = at-if1.if1 in
     let A = S.args in
-    omega (arith, S.requires.1.0, reading.few_words A.nest A.sizes S.requires.0.0 A.progress.count (areas-fit.ensures.1 (not-false _ if1.false)))
+    omega (arith, S.requires.1.0, reading.few_words A.nest A.sizes S.requires.0.0 A.progress.count (areas_fit.ensures.1 (not-false _ if1.false)))
 
 sub-fit-sharing-2 : tie.Need-overflow-sub-fit-sharing-2
 sub-fit-sharing-2 c = search rules
@@ -109,7 +109,7 @@ fit-sharing-requires c κs =
     let at-if1 = at-if2.before.before in
     let at-areas-fit = at-if1.before in
     let S = at-areas-fit.before.before.before.before.before.before in
-    let areas-fit = at-areas-fit.areas-fit in
+    let areas_fit = at-areas-fit.areas_fit in
     let if1 = at-if1.if1 in
     let if3 = at-if3.if3 in
     let if2 = at-if2.if2 in
@@ -118,20 +118,20 @@ fit-sharing-requires c κs =
     let p = plan_of A.sizes.route A.nest in
     let own = take (A.progress.count - 0) (drop 0 A.progress.words) in
     let other = take (A.theirs.count - 0) (drop 0 A.theirs.words) in
-    let n = (areas-fit.ensures.1 (not-false _ if1.false)) in
+    let n = (areas_fit.ensures.1 (not-false _ if1.false)) in
     let few = reading.few_words A.nest A.sizes S.requires.0.0 A.progress.count n in
-    let few2 = reading.few_words A.nest A.sizes S.requires.0.0 A.theirs.count (if3.false ∙ areas.records-are A.nest A.sizes S.requires.0.0) in
-    let h = reading.part-carries A.progress S.requires.1.0 few in
-    let k = reading.part-carries A.theirs S.requires.1.1 few2 in
-    let lengths = areas.areas-are p A.source.now (state_of A.memories.now A.buffer.now own A.status.now)
-    (sym (areas-fit.ensures.0 own h.counted) ∙ not-false _ if1.false) in (
+    let few2 = reading.few_words A.nest A.sizes S.requires.0.0 A.theirs.count (if3.false ∙ areas.records_are A.nest A.sizes S.requires.0.0) in
+    let h = reading.part_carries A.progress S.requires.1.0 few in
+    let k = reading.part_carries A.theirs S.requires.1.1 few2 in
+    let lengths = areas.areas_are p A.source.now (state_of A.memories.now A.buffer.now own A.status.now)
+    (sym (areas_fit.ensures.0 own h.counted) ∙ not-false _ if1.false) in (
       S.requires.0,
       (
         (lengths.progress, lengths.status),
         (
           if2.false ∙ S.requires.0.0.processors,
           (
-            sym k.counted ∙ if3.false ∙ areas.records-are A.nest
+            sym k.counted ∙ if3.false ∙ areas.records_are A.nest
                 A.sizes S.requires.0.0,
             omega (arith, if4.false),
           ),
@@ -147,7 +147,7 @@ returns-5 c =
     let at-if1 = at-if2.before.before in
     let at-areas-fit = at-if1.before in
     let S = at-areas-fit.before.before.before.before.before.before in
-    let areas-fit = at-areas-fit.areas-fit in
+    let areas_fit = at-areas-fit.areas_fit in
     let if1 = at-if1.if1 in
     let if3 = at-if3.if3 in
     let if2 = at-if2.if2 in
@@ -158,16 +158,16 @@ returns-5 c =
     let p = plan_of A.sizes.route A.nest in
     let own = take (A.progress.count - 0) (drop 0 A.progress.words) in
     let other = take (A.theirs.count - 0) (drop 0 A.theirs.words) in
-    let n = (areas-fit.ensures.1 (not-false _ if1.false)) in
+    let n = (areas_fit.ensures.1 (not-false _ if1.false)) in
     let few = reading.few_words A.nest A.sizes S.requires.0.0 A.progress.count n in
-    let few2 = reading.few_words A.nest A.sizes S.requires.0.0 A.theirs.count (if3.false ∙ areas.records-are A.nest A.sizes S.requires.0.0) in (
-      λ l q h k. lines.unfit-10 p A.source.now A.tenant (tenantAreas (state_of A.memories.now A.buffer.now l A.status.now) A.engaged.now)
+    let few2 = reading.few_words A.nest A.sizes S.requires.0.0 A.theirs.count (if3.false ∙ areas.records_are A.nest A.sizes S.requires.0.0) in (
+      λ l q h k. lines.unfit_10 p A.source.now A.tenant (tenant_areas (state_of A.memories.now A.buffer.now l A.status.now) A.engaged.now)
           q
-          (lines.all-long p A.source.now (tenantAreas (state_of A.memories.now A.buffer.now l A.status.now) A.engaged.now) q
-          (sym (areas-fit.ensures.0 l h.counted) ∙ not-false _ if1.false) (if2.false ∙ S.requires.0.0.processors) (sym k.counted ∙ if3.false
-          ∙ areas.records-are A.nest A.sizes S.requires.0.0)) (le-leb A.tenant 1 (omega (arith, if4.false)))
-          (sym (lines.fit-as p A.tenant A.memories.now A.buffer.now own l A.status.now A.engaged.now other q (reading.part-is A.progress l
-          few h) (reading.part-is A.theirs q few2 k)) ∙ sym fit-sharing.ensures ∙ not-true _ if5.true),
+          (lines.all_long p A.source.now (tenant_areas (state_of A.memories.now A.buffer.now l A.status.now) A.engaged.now) q
+          (sym (areas_fit.ensures.0 l h.counted) ∙ not-false _ if1.false) (if2.false ∙ S.requires.0.0.processors) (sym k.counted ∙ if3.false
+          ∙ areas.records_are A.nest A.sizes S.requires.0.0)) (le-leb A.tenant 1 (omega (arith, if4.false)))
+          (sym (lines.fit_as p A.tenant A.memories.now A.buffer.now own l A.status.now A.engaged.now other q (reading.part_is A.progress l
+          few h) (reading.part_is A.theirs q few2 k)) ∙ sym fit-sharing.ensures ∙ not-true _ if5.true),
       λ z. absurd (omega arith),
     )
 
@@ -179,7 +179,7 @@ returns-6 c =
     let at-if1 = at-if2.before.before in
     let at-areas-fit = at-if1.before in
     let S = at-areas-fit.before.before.before.before.before.before in
-    let areas-fit = at-areas-fit.areas-fit in
+    let areas_fit = at-areas-fit.areas_fit in
     let if1 = at-if1.if1 in
     let if3 = at-if3.if3 in
     let if2 = at-if2.if2 in
@@ -190,18 +190,18 @@ returns-6 c =
     let p = plan_of A.sizes.route A.nest in
     let own = take (A.progress.count - 0) (drop 0 A.progress.words) in
     let other = take (A.theirs.count - 0) (drop 0 A.theirs.words) in
-    let n = (areas-fit.ensures.1 (not-false _ if1.false)) in
+    let n = (areas_fit.ensures.1 (not-false _ if1.false)) in
     let few = reading.few_words A.nest A.sizes S.requires.0.0 A.progress.count n in
-    let few2 = reading.few_words A.nest A.sizes S.requires.0.0 A.theirs.count (if3.false ∙ areas.records-are A.nest A.sizes S.requires.0.0) in (
-      λ l q h k. lines.unfit-0 p A.source.now A.tenant (tenantAreas (state_of A.memories.now A.buffer.now l A.status.now) A.engaged.now) q
-          (lines.all-long p A.source.now (tenantAreas (state_of A.memories.now A.buffer.now l A.status.now) A.engaged.now) q
-          (sym (areas-fit.ensures.0 l h.counted) ∙ not-false _ if1.false) (if2.false ∙ S.requires.0.0.processors) (sym k.counted ∙ if3.false
-          ∙ areas.records-are A.nest A.sizes S.requires.0.0)) (le-leb A.tenant 1 (omega (arith, if4.false)))
-          (sym (lines.fit-as p A.tenant A.memories.now A.buffer.now own l A.status.now A.engaged.now other q (reading.part-is A.progress l
-          few h) (reading.part-is A.theirs q few2 k)) ∙ sym fit-sharing.ensures ∙ not-false _ if5.false),
+    let few2 = reading.few_words A.nest A.sizes S.requires.0.0 A.theirs.count (if3.false ∙ areas.records_are A.nest A.sizes S.requires.0.0) in (
+      λ l q h k. lines.unfit_0 p A.source.now A.tenant (tenant_areas (state_of A.memories.now A.buffer.now l A.status.now) A.engaged.now) q
+          (lines.all_long p A.source.now (tenant_areas (state_of A.memories.now A.buffer.now l A.status.now) A.engaged.now) q
+          (sym (areas_fit.ensures.0 l h.counted) ∙ not-false _ if1.false) (if2.false ∙ S.requires.0.0.processors) (sym k.counted ∙ if3.false
+          ∙ areas.records_are A.nest A.sizes S.requires.0.0)) (le-leb A.tenant 1 (omega (arith, if4.false)))
+          (sym (lines.fit_as p A.tenant A.memories.now A.buffer.now own l A.status.now A.engaged.now other q (reading.part_is A.progress l
+          few h) (reading.part_is A.theirs q few2 k)) ∙ sym fit-sharing.ensures ∙ not-false _ if5.false),
       λ z. (
         n,
-        if3.false ∙ areas.records-are A.nest
+        if3.false ∙ areas.records_are A.nest
             A.sizes S.requires.0.0,
       ),
     )

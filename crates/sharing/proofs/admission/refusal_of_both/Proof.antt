@@ -3,7 +3,7 @@ use mathlib.Core.Path.{sym, ◌∙◌}
 use borrow.Author.Tests.{not-true, not-false}
 use Rattle.machine.specs.Machine.{state_of}
 use Rattle.plan.specs.Shaped.{plan_of}
-use Rattle.tenants.specs.Tenants.{sharingOf, sourcesOf}
+use Rattle.tenants.specs.Tenants.{sharing_of, sources_of}
 use Rattle.engine.proofs.Lines.{Opened}
 use Rattle.sharing.proofs.Starts as starts
 use borrow.Author.Rules.{rules}
@@ -17,8 +17,8 @@ returns : tie.Need-returns
 returns c =
     let opens = c.before.«open» in
     let A = c.before.before.before.before.before.before.before.before.before.before.before.before.args in
-    λ l q e h k w. starts.number_read A.encoded.now A.route (sourcesOf A.source0.now A.source1.now)
-    (sharingOf (state_of A.memories0.now A.buffer0.now l A.status0.now) (state_of A.memories1.now A.buffer1.now q A.status1.now) e)
+    λ l q e h k w. starts.number_read A.encoded.now A.route (sources_of A.source0.now A.source1.now)
+    (sharing_of (state_of A.memories0.now A.buffer0.now l A.status0.now) (state_of A.memories1.now A.buffer1.now q A.status1.now) e)
     opens.result.number opens.ensures.number c.if1.true
 
 areas-fit-requires : tie.Need-areas-fit-requires
@@ -36,11 +36,11 @@ returns-2 c =
     let A = at-if1.before.before.before.before.before.before.before.before.before.before.before.before.args in
     let p = plan_of opens.result.sizes.route opens.result.nest in
     let op : Opened A.encoded.now A.route p = opened-as in
-    λ l q e h k w. starts.number-area A.encoded.now A.route (sourcesOf A.source0.now A.source1.now)
-    (sharingOf (state_of A.memories0.now A.buffer0.now l A.status0.now) (state_of A.memories1.now A.buffer1.now q A.status1.now) e)
-    p op (starts.no-first p (sourcesOf A.source0.now A.source1.now)
-    (sharingOf (state_of A.memories0.now A.buffer0.now l A.status0.now) (state_of A.memories1.now A.buffer1.now q A.status1.now) e)
-    (sym (c.before.areas-fit.ensures.0 l h) ∙ not-true _ c.if2.true))
+    λ l q e h k w. starts.number_area A.encoded.now A.route (sources_of A.source0.now A.source1.now)
+    (sharing_of (state_of A.memories0.now A.buffer0.now l A.status0.now) (state_of A.memories1.now A.buffer1.now q A.status1.now) e)
+    p op (starts.no_first p (sources_of A.source0.now A.source1.now)
+    (sharing_of (state_of A.memories0.now A.buffer0.now l A.status0.now) (state_of A.memories1.now A.buffer1.now q A.status1.now) e)
+    (sym (c.before.areas_fit.ensures.0 l h) ∙ not-true _ c.if2.true))
 
 areas-fit-requires-2 : tie.Need-areas-fit-requires-2
 areas-fit-requires-2 c κs =
@@ -57,10 +57,10 @@ returns-3 c =
     let A = at-if1.before.before.before.before.before.before.before.before.before.before.before.before.args in
     let p = plan_of opens.result.sizes.route opens.result.nest in
     let op : Opened A.encoded.now A.route p = opened-as in
-    λ l q e h k w. starts.number-area A.encoded.now A.route (sourcesOf A.source0.now A.source1.now)
-    (sharingOf (state_of A.memories0.now A.buffer0.now l A.status0.now) (state_of A.memories1.now A.buffer1.now q A.status1.now) e)
-    p op (starts.no_second p (sourcesOf A.source0.now A.source1.now)
-    (sharingOf (state_of A.memories0.now A.buffer0.now l A.status0.now) (state_of A.memories1.now A.buffer1.now q A.status1.now) e)
+    λ l q e h k w. starts.number_area A.encoded.now A.route (sources_of A.source0.now A.source1.now)
+    (sharing_of (state_of A.memories0.now A.buffer0.now l A.status0.now) (state_of A.memories1.now A.buffer1.now q A.status1.now) e)
+    p op (starts.no_second p (sources_of A.source0.now A.source1.now)
+    (sharing_of (state_of A.memories0.now A.buffer0.now l A.status0.now) (state_of A.memories1.now A.buffer1.now q A.status1.now) e)
     (sym (c.before.areas-fit2.ensures.0 q k) ∙ not-true _ c.if3.true))
 
 returns-4 : tie.Need-returns-4
@@ -72,10 +72,10 @@ returns-4 c =
     let A = at-if1.before.before.before.before.before.before.before.before.before.before.before.before.args in
     let p = plan_of opens.result.sizes.route opens.result.nest in
     let op : Opened A.encoded.now A.route p = opened-as in
-    λ l q e h k w. starts.number-area A.encoded.now A.route (sourcesOf A.source0.now A.source1.now)
-    (sharingOf (state_of A.memories0.now A.buffer0.now l A.status0.now) (state_of A.memories1.now A.buffer1.now q A.status1.now) e)
-    p op (starts.no_shared p (sourcesOf A.source0.now A.source1.now)
-    (sharingOf (state_of A.memories0.now A.buffer0.now l A.status0.now) (state_of A.memories1.now A.buffer1.now q A.status1.now) e)
+    λ l q e h k w. starts.number_area A.encoded.now A.route (sources_of A.source0.now A.source1.now)
+    (sharing_of (state_of A.memories0.now A.buffer0.now l A.status0.now) (state_of A.memories1.now A.buffer1.now q A.status1.now) e)
+    p op (starts.no_shared p (sources_of A.source0.now A.source1.now)
+    (sharing_of (state_of A.memories0.now A.buffer0.now l A.status0.now) (state_of A.memories1.now A.buffer1.now q A.status1.now) e)
     (λ is. c.if4.true (w ∙ is ∙ sym planned.0.processors)))
 
 returns-5 : tie.Need-returns-5
@@ -89,11 +89,11 @@ returns-5 c =
     let op : Opened A.encoded.now A.route p = opened-as in
     let at-if3 = c.before.before in
     let at-if2 = at-if3.before.before.before in
-    λ l q e h k w. starts.number-none A.encoded.now A.route (sourcesOf A.source0.now A.source1.now)
-    (sharingOf (state_of A.memories0.now A.buffer0.now l A.status0.now) (state_of A.memories1.now A.buffer1.now q A.status1.now) e)
-    p op (starts.all_there p (sourcesOf A.source0.now A.source1.now)
-    (sharingOf (state_of A.memories0.now A.buffer0.now l A.status0.now) (state_of A.memories1.now A.buffer1.now q A.status1.now) e)
-    (sym (at-if2.before.areas-fit.ensures.0 l h) ∙ not-false _ at-if2.if2.false)
+    λ l q e h k w. starts.number_none A.encoded.now A.route (sources_of A.source0.now A.source1.now)
+    (sharing_of (state_of A.memories0.now A.buffer0.now l A.status0.now) (state_of A.memories1.now A.buffer1.now q A.status1.now) e)
+    p op (starts.all_there p (sources_of A.source0.now A.source1.now)
+    (sharing_of (state_of A.memories0.now A.buffer0.now l A.status0.now) (state_of A.memories1.now A.buffer1.now q A.status1.now) e)
+    (sym (at-if2.before.areas_fit.ensures.0 l h) ∙ not-false _ at-if2.if2.false)
     (sym (at-if3.before.areas-fit2.ensures.0 q k) ∙ not-false _ at-if3.if3.false) (sym w ∙ c.if4.false ∙ planned.0.processors))
 
 pub refusal-of-both-spec : {M : Type 1} → statement M

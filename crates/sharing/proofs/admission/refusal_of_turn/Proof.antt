@@ -5,7 +5,7 @@ use native.Mathlib.Omega.{arith}
 use borrow.Author.Tests.{leb-true}
 use Rattle.machine.specs.Machine.{state_of}
 use Rattle.plan.specs.Shaped.{plan_of}
-use Rattle.tenants.specs.Tenants.{tenantAreas}
+use Rattle.tenants.specs.Tenants.{tenant_areas}
 use Rattle.engine.proofs.Reading as reading
 use Rattle.sharing.proofs.Lines as lines
 use borrow.Author.Rules.{rules}
@@ -21,7 +21,7 @@ returns c =
     let S = at-refusal-of-areas.before.before.before.before.before.before in
     let A = S.args in
     let p = plan_of A.sizes.route A.nest in (
-      λ l q h k. lines.barred-unfit p A.source.now A.tenant (tenantAreas (state_of A.memories.now A.buffer.now l A.status.now)
+      λ l q h k. lines.barred_unfit p A.source.now A.tenant (tenant_areas (state_of A.memories.now A.buffer.now l A.status.now)
           A.engaged.now)
           q A.b at-refusal-of-areas.refusal-of-areas.result
           (at-refusal-of-areas.refusal-of-areas.ensures.0 l q h k) c.if1.true,
@@ -35,7 +35,7 @@ returns-2 c =
     let S = at-refusal-of-areas.before.before.before.before.before.before in
     let A = S.args in
     let p = plan_of A.sizes.route A.nest in (
-      λ l q h k. lines.barred-beyond p A.source.now A.tenant (tenantAreas (state_of A.memories.now A.buffer.now l A.status.now)
+      λ l q h k. lines.barred_beyond p A.source.now A.tenant (tenant_areas (state_of A.memories.now A.buffer.now l A.status.now)
           A.engaged.now) q A.b at-refusal-of-areas.refusal-of-areas.result
           (at-refusal-of-areas.refusal-of-areas.ensures.0 l q h k) at-if1.if1.false (omega (arith, S.requires.0.0.processors, c.if2.true)),
       λ z. absurd (omega arith),
@@ -71,12 +71,12 @@ held-by-other-requires c κs =
     let few2 = reading.few_words _ _ S.requires.0.0 A.theirs.count counts.1 in
     let own = take (A.progress.count - 0) (drop 0 A.progress.words) in
     let other = take (A.theirs.count - 0) (drop 0 A.theirs.words) in
-    let none = lines.unfit-none p A.source.now A.tenant (tenantAreas (state_of A.memories.now A.buffer.now own A.status.now)
+    let none = lines.unfit_none p A.source.now A.tenant (tenant_areas (state_of A.memories.now A.buffer.now own A.status.now)
     A.engaged.now)
     other at-refusal-of-areas.refusal-of-areas.result (at-refusal-of-areas.refusal-of-areas.ensures.0 own other
-    (reading.part-carries A.progress S.requires.1.0 few)
-    (reading.part-carries A.theirs S.requires.1.1 few2)) at-if1.if1.false in
-    let lengths = lines.lengths-are p A.source.now (tenantAreas (state_of A.memories.now A.buffer.now own A.status.now) A.engaged.now)
+    (reading.part_carries A.progress S.requires.1.0 few)
+    (reading.part_carries A.theirs S.requires.1.1 few2)) at-if1.if1.false in
+    let lengths = lines.lengths_are p A.source.now (tenant_areas (state_of A.memories.now A.buffer.now own A.status.now) A.engaged.now)
     other none.0 in (
       S.requires.0,
       (
@@ -99,12 +99,12 @@ returns-3 c =
     let counts = at-refusal-of-areas.refusal-of-areas.ensures.1 at-if1.if1.false in
     let few = reading.few_words _ _ S.requires.0.0 A.progress.count counts.0 in
     let own = take (A.progress.count - 0) (drop 0 A.progress.words) in (
-      λ l q h k. lines.barred-held p A.source.now A.tenant (tenantAreas (state_of A.memories.now A.buffer.now l A.status.now)
+      λ l q h k. lines.barred_held p A.source.now A.tenant (tenant_areas (state_of A.memories.now A.buffer.now l A.status.now)
           A.engaged.now)
           q A.b at-refusal-of-areas.refusal-of-areas.result
           (at-refusal-of-areas.refusal-of-areas.ensures.0 l q h k) at-if1.if1.false (omega (arith, S.requires.0.0.processors, at-if2.if2.false))
-          (lines.held-as p A.tenant A.memories.now A.buffer.now own l A.status.now A.engaged.now A.b
-          (reading.part-is A.progress l few h)
+          (lines.held_as p A.tenant A.memories.now A.buffer.now own l A.status.now A.engaged.now A.b
+          (reading.part_is A.progress l few h)
           ∙ sym c.before.held-by-other.ensures ∙ c.if3.true),
       λ z. absurd (omega arith),
     )
@@ -120,12 +120,12 @@ returns-4 c =
     let counts = at-refusal-of-areas.refusal-of-areas.ensures.1 at-if1.if1.false in
     let few = reading.few_words _ _ S.requires.0.0 A.progress.count counts.0 in
     let own = take (A.progress.count - 0) (drop 0 A.progress.words) in (
-      λ l q h k. lines.barred-0 p A.source.now A.tenant (tenantAreas (state_of A.memories.now A.buffer.now l A.status.now) A.engaged.now)
+      λ l q h k. lines.barred_0 p A.source.now A.tenant (tenant_areas (state_of A.memories.now A.buffer.now l A.status.now) A.engaged.now)
           q
           A.b at-refusal-of-areas.refusal-of-areas.result
           (at-refusal-of-areas.refusal-of-areas.ensures.0 l q h k) at-if1.if1.false (omega (arith, S.requires.0.0.processors, at-if2.if2.false))
-          (lines.held-as p A.tenant A.memories.now A.buffer.now own l A.status.now A.engaged.now A.b
-          (reading.part-is A.progress l few h)
+          (lines.held_as p A.tenant A.memories.now A.buffer.now own l A.status.now A.engaged.now A.b
+          (reading.part_is A.progress l few h)
           ∙ sym c.before.held-by-other.ensures ∙ c.if3.false),
       λ z. counts,
     )

@@ -1,5 +1,5 @@
 use Rattle.sharing.proofs.Starts as starts
-use Rattle.engine.proofs.Reading.{zeros-after-no}
+use Rattle.engine.proofs.Reading.{zeros_after_no}
 use Rattle.sharing.proofs.core.clear_records.Statement.{statement}
 use Rattle.sharing.proofs.core.clear_records.Tie as tie
 
@@ -17,7 +17,7 @@ returns c =
     at-zero-words.zero-words.ensures
 
 returns-2 : tie.Need-returns-2
-returns-2 c = zeros-after-no _ _ c.if1.false
+returns-2 c = zeros_after_no _ _ c.if1.false
 
 pub clear-records-spec : {M : Type 1} → statement M
 clear-records-spec = tie.close (tie.spec zero-words-requires same_length returns returns-2)

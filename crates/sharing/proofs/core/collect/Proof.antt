@@ -4,7 +4,7 @@ use mathlib.Core.Path.{sym, ◌∙◌}
 use native.Mathlib.Omega.{arith}
 use Rattle.machine.specs.Machine.{state_of}
 use Rattle.plan.specs.Shaped.{plan_of}
-use Rattle.tenants.specs.Tenants.{tenantAreas}
+use Rattle.tenants.specs.Tenants.{tenant_areas}
 use Rattle.engine.proofs.Reading as reading
 use Rattle.sharing.proofs.Lines as lines
 use borrow.Author.Rules.{rules}
@@ -20,7 +20,7 @@ returns c =
     let opens = c.before.«open» in
     let if1 = c.if1 in
     let A = start.args in
-    λ l q h k. lines.collect-read A.encoded.now A.route A.source.now A.tenant (tenantAreas (state_of A.memories.now A.buffer.now l
+    λ l q h k. lines.collect_read A.encoded.now A.route A.source.now A.tenant (tenant_areas (state_of A.memories.now A.buffer.now l
     A.status.now) A.engaged.now) q A.grid.now opens.result.number opens.ensures.number if1.true
 
 returns-2 : tie.Need-returns-2
@@ -35,7 +35,7 @@ returns-2 c =
     let planned = opens.ensures.planned if1.false in
     let opened-as = opens.ensures.opened if1.false in
     let p = plan_of opens.result.sizes.route opens.result.nest in
-    λ l q h k. lines.collect-grid A.encoded.now A.route A.source.now A.tenant (tenantAreas (state_of A.memories.now A.buffer.now l
+    λ l q h k. lines.collect_grid A.encoded.now A.route A.source.now A.tenant (tenant_areas (state_of A.memories.now A.buffer.now l
     A.status.now) A.engaged.now) q A.grid.now p opened-as (λ e. if2.true (e ∙ sym planned.0.cells))
 
 refusal-of-areas-requires : tie.Need-refusal-of-areas-requires
@@ -64,7 +64,7 @@ returns-3 c =
     let planned = opens.ensures.planned if1.false in
     let opened-as = opens.ensures.opened if1.false in
     let p = plan_of opens.result.sizes.route opens.result.nest in
-    λ l q h k. lines.collect-unfit A.encoded.now A.route A.source.now A.tenant (tenantAreas (state_of A.memories.now A.buffer.now l
+    λ l q h k. lines.collect_unfit A.encoded.now A.route A.source.now A.tenant (tenant_areas (state_of A.memories.now A.buffer.now l
     A.status.now) A.engaged.now) q A.grid.now p opened-as (if2.false ∙ planned.0.cells) refusal-of-areas.result
     (refusal-of-areas.ensures.0 l q h k) if3.true
 
@@ -114,12 +114,12 @@ tiles-left-requires c κs =
     let counts = refusal-of-areas.ensures.1 if3.false in
     let few = reading.few_words _ _ planned.0 A.progress.count counts.0 in
     let few2 = reading.few_words _ _ planned.0 A.theirs.count counts.1 in
-    let none = lines.unfit-none p A.source.now A.tenant (tenantAreas (state_of A.memories.now A.buffer.now own A.status.now)
+    let none = lines.unfit_none p A.source.now A.tenant (tenant_areas (state_of A.memories.now A.buffer.now own A.status.now)
     A.engaged.now)
-    other refusal-of-areas.result (refusal-of-areas.ensures.0 own other (reading.part-carries A.progress S.requires.0 few)
-    (reading.part-carries A.theirs S.requires.1
+    other refusal-of-areas.result (refusal-of-areas.ensures.0 own other (reading.part_carries A.progress S.requires.0 few)
+    (reading.part_carries A.theirs S.requires.1
     few2)) if3.false in
-    let lengths = lines.lengths-are p A.source.now (tenantAreas (state_of A.memories.now A.buffer.now own A.status.now) A.engaged.now) other
+    let lengths = lines.lengths_are p A.source.now (tenant_areas (state_of A.memories.now A.buffer.now own A.status.now) A.engaged.now) other
     none.0 in
     (planned.0, (planned.1, lengths.own.progress))
 
@@ -136,7 +136,7 @@ returns-4 c =
     let refusal-of-areas = at-refusal-of-areas.refusal-of-areas in
     let if3 = at-if3.if3 in
     let if2 = at-if2.if2 in
-    let tiles-left = c.before.tiles-left in
+    let tiles_left = c.before.tiles_left in
     let if4 = c.if4 in
     let A = start.args in
     let planned = opens.ensures.planned if1.false in
@@ -147,10 +147,10 @@ returns-4 c =
     let counts = refusal-of-areas.ensures.1 if3.false in
     let few = reading.few_words _ _ planned.0 A.progress.count counts.0 in
     let few2 = reading.few_words _ _ planned.0 A.theirs.count counts.1 in
-    λ l q h k. lines.collect-left A.encoded.now A.route A.source.now A.tenant (tenantAreas (state_of A.memories.now A.buffer.now l
+    λ l q h k. lines.collect_left A.encoded.now A.route A.source.now A.tenant (tenant_areas (state_of A.memories.now A.buffer.now l
     A.status.now) A.engaged.now) q A.grid.now p opened-as (if2.false ∙ planned.0.cells) refusal-of-areas.result
-    (refusal-of-areas.ensures.0 l q h k) if3.false tiles-left.result (tiles-left.ensures ∙ sym
-    (reading.left_as p _ l (reading.part-is A.progress l few h)))
+    (refusal-of-areas.ensures.0 l q h k) if3.false tiles_left.result (tiles_left.ensures ∙ sym
+    (reading.left_as p _ l (reading.part_is A.progress l few h)))
     if4.true
 
 copy-cells-requires : tie.Need-copy-cells-requires
@@ -174,12 +174,12 @@ copy-cells-requires c κs =
     let counts = refusal-of-areas.ensures.1 if3.false in
     let few = reading.few_words _ _ planned.0 A.progress.count counts.0 in
     let few2 = reading.few_words _ _ planned.0 A.theirs.count counts.1 in
-    let none = lines.unfit-none p A.source.now A.tenant (tenantAreas (state_of A.memories.now A.buffer.now own A.status.now)
+    let none = lines.unfit_none p A.source.now A.tenant (tenant_areas (state_of A.memories.now A.buffer.now own A.status.now)
     A.engaged.now)
-    other refusal-of-areas.result (refusal-of-areas.ensures.0 own other (reading.part-carries A.progress S.requires.0 few)
-    (reading.part-carries A.theirs S.requires.1
+    other refusal-of-areas.result (refusal-of-areas.ensures.0 own other (reading.part_carries A.progress S.requires.0 few)
+    (reading.part_carries A.theirs S.requires.1
     few2)) if3.false in
-    let lengths = lines.lengths-are p A.source.now (tenantAreas (state_of A.memories.now A.buffer.now own A.status.now) A.engaged.now) other
+    let lengths = lines.lengths_are p A.source.now (tenant_areas (state_of A.memories.now A.buffer.now own A.status.now) A.engaged.now) other
     none.0 in
     ((planned.0, planned.1.routed), (lengths.own.memories, if2.false ∙ planned.0.cells))
 
@@ -201,7 +201,7 @@ returns-5 c =
     let refusal-of-areas = at-refusal-of-areas.refusal-of-areas in
     let if3 = at-if3.if3 in
     let if2 = at-if2.if2 in
-    let tiles-left = at-tiles-left.tiles-left in
+    let tiles_left = at-tiles-left.tiles_left in
     let copy-cells = c.before.before.copy-cells in
     let if4 = at-if4.if4 in
     let A = start.args in
@@ -213,10 +213,10 @@ returns-5 c =
     let counts = refusal-of-areas.ensures.1 if3.false in
     let few = reading.few_words _ _ planned.0 A.progress.count counts.0 in
     let few2 = reading.few_words _ _ planned.0 A.theirs.count counts.1 in
-    λ l q h k. lines.collect-done A.encoded.now A.route A.source.now A.tenant (tenantAreas (state_of A.memories.now A.buffer.now l
+    λ l q h k. lines.collect_done A.encoded.now A.route A.source.now A.tenant (tenant_areas (state_of A.memories.now A.buffer.now l
     A.status.now) A.engaged.now) q A.grid.now p opened-as (if2.false ∙ planned.0.cells) refusal-of-areas.result
-    (refusal-of-areas.ensures.0 l q h k) if3.false tiles-left.result (tiles-left.ensures ∙ sym
-    (reading.left_as p _ l (reading.part-is A.progress l few h)))
+    (refusal-of-areas.ensures.0 l q h k) if3.false tiles_left.result (tiles_left.ensures ∙ sym
+    (reading.left_as p _ l (reading.part_is A.progress l few h)))
     copy-cells.new.1.1.1.0 if4.false copy-cells.ensures
 
 pub collect-spec : {M : Type 1} → statement M

@@ -1,7 +1,7 @@
 -- Each return is the call by the line that counts.
 use Rattle.machine.specs.Machine.{state_of}
 use Rattle.plan.specs.Shaped.{plan_of}
-use Rattle.tenants.specs.Tenants.{tenantAreas}
+use Rattle.tenants.specs.Tenants.{tenant_areas}
 use Rattle.sharing.proofs.Lines as lines
 use borrow.Author.Rules.{rules}
 use Rattle.sharing.proofs.core.deliver.Statement.{statement}
@@ -16,7 +16,7 @@ returns c =
     let opens = c.before.«open» in
     let if1 = c.if1 in
     let A = start.args in
-    λ l q h k. lines.deliver-read A.encoded.now A.route A.source.now A.tenant (tenantAreas (state_of A.memories.now A.buffer.now l
+    λ l q h k. lines.deliver_read A.encoded.now A.route A.source.now A.tenant (tenant_areas (state_of A.memories.now A.buffer.now l
     A.status.now) A.engaged.now) q A.message opens.result.number opens.ensures.number if1.true
 
 refusal-of-areas-requires : tie.Need-refusal-of-areas-requires
@@ -45,7 +45,7 @@ returns-2 c =
     let A = start.args in
     let opened-as = opens.ensures.opened if1.false in
     let p = plan_of opens.result.sizes.route opens.result.nest in
-    λ l q h k. lines.deliver-unfit A.encoded.now A.route A.source.now A.tenant (tenantAreas (state_of A.memories.now A.buffer.now l
+    λ l q h k. lines.deliver_unfit A.encoded.now A.route A.source.now A.tenant (tenant_areas (state_of A.memories.now A.buffer.now l
     A.status.now) A.engaged.now) q A.message p opened-as refusal-of-areas.result (refusal-of-areas.ensures.0 l q h k)
     if2.true
 
@@ -70,7 +70,7 @@ returns-3 c =
     let A = start.args in
     let opened-as = opens.ensures.opened if1.false in
     let p = plan_of opens.result.sizes.route opens.result.nest in
-    λ l q h k. lines.deliver-over A.encoded.now A.route A.source.now A.tenant (tenantAreas (state_of A.memories.now A.buffer.now l
+    λ l q h k. lines.deliver_over A.encoded.now A.route A.source.now A.tenant (tenant_areas (state_of A.memories.now A.buffer.now l
     A.status.now) A.engaged.now) q A.message p opened-as refusal-of-areas.result (refusal-of-areas.ensures.0 l q h k)
     if2.false hand-over.result hand-over.new.0 hand-over.ensures
 

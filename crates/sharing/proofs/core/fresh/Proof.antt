@@ -1,7 +1,7 @@
 -- A refusal writes nothing; a start clears all areas of both tenants and frees every processor.
 use mathlib.Core.Path.{refl}
 use Rattle.machine.specs.Machine.{state_of}
-use Rattle.tenants.specs.Tenants.{sharingOf, sourcesOf}
+use Rattle.tenants.specs.Tenants.{sharing_of, sources_of}
 use Rattle.sharing.proofs.Starts as starts
 use Rattle.sharing.proofs.core.fresh.Statement.{statement}
 use Rattle.sharing.proofs.core.fresh.Tie as tie
@@ -32,9 +32,9 @@ returns c =
     let at-refusal-of-both = c.before in
     let A = at-refusal-of-both.before.before.before.before.before.before.before.before.before.before.before.before.before.before.before.before.before.args in
     let refusal-of-both = at-refusal-of-both.refusal-of-both in
-    λ l q h k. starts.zeros-kept refusal-of-both.result A.memories0.now A.buffer0.now A.status0.now A.memories1.now A.buffer1.now
-    A.status1.now l q A.engaged.now _ c.if1.true (starts.fresh-refused A.encoded.now A.route (sourcesOf A.source0.now A.source1.now)
-    (sharingOf (state_of A.memories0.now A.buffer0.now l A.status0.now) (state_of A.memories1.now A.buffer1.now q A.status1.now)
+    λ l q h k. starts.zeros_kept refusal-of-both.result A.memories0.now A.buffer0.now A.status0.now A.memories1.now A.buffer1.now
+    A.status1.now l q A.engaged.now _ c.if1.true (starts.fresh_refused A.encoded.now A.route (sources_of A.source0.now A.source1.now)
+    (sharing_of (state_of A.memories0.now A.buffer0.now l A.status0.now) (state_of A.memories1.now A.buffer1.now q A.status1.now)
     A.engaged.now) refusal-of-both.result (refusal-of-both.ensures l q A.engaged.now h k refl)
     c.if1.true)
 
@@ -88,7 +88,7 @@ returns-2 c =
     let at-refusal-of-both = at-if1.before in
     let A = at-refusal-of-both.before.before.before.before.before.before.before.before.before.before.before.before.before.before.before.before.before.args in
     let refusal-of-both = at-refusal-of-both.refusal-of-both in
-    λ l q h k. starts.fresh-done A.encoded.now A.route (sourcesOf A.source0.now A.source1.now)
+    λ l q h k. starts.fresh_done A.encoded.now A.route (sources_of A.source0.now A.source1.now)
     (state_of A.memories0.now A.buffer0.now l A.status0.now)
     (state_of A.memories1.now A.buffer1.now q A.status1.now) A.engaged.now refusal-of-both.result
     (refusal-of-both.ensures l q A.engaged.now h k refl)

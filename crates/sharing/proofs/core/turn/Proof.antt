@@ -4,8 +4,8 @@ use mathlib.Core.Path.{refl}
 use native.Mathlib.Omega.{arith}
 use Rattle.machine.specs.Machine.{state_of}
 use Rattle.plan.specs.Shaped.{plan_of}
-use Rattle.tenants.specs.Tenants.{tenantAreas}
-use Rattle.tenants.proofs.OneCall.{own-fits}
+use Rattle.tenants.specs.Tenants.{tenant_areas}
+use Rattle.tenants.proofs.OneCall.{own_fits}
 use Rattle.engine.proofs.Reading as reading
 use Rattle.sharing.proofs.Lines as lines
 use borrow.Author.Rules.{rules}
@@ -24,8 +24,8 @@ returns c =
     let if1 = c.before.if1 in
     let A = c.before.before.before.before.before.before.before.before.before.before.args in
     λ l q h k. lines.refuses c.refused.result opens.result.number c.refused.ensures if1.true
-    (tenantAreas (state_of A.memories.now A.buffer.now l A.status.now) A.engaged.now) A.processor _ (lines.turn-read A.encoded.now
-    A.route A.source.now A.tenant (tenantAreas (state_of A.memories.now A.buffer.now l A.status.now) A.engaged.now) q A.processor
+    (tenant_areas (state_of A.memories.now A.buffer.now l A.status.now) A.engaged.now) A.processor _ (lines.turn_read A.encoded.now
+    A.route A.source.now A.tenant (tenant_areas (state_of A.memories.now A.buffer.now l A.status.now) A.engaged.now) q A.processor
     opens.result.number opens.ensures.number if1.true)
 
 refusal-of-turn-requires : tie.Need-refusal-of-turn-requires
@@ -60,8 +60,8 @@ returns-2 c =
     let opened-as = at_open.«open».ensures.opened at-if1.if1.false in
     let p = plan_of at_open.«open».result.sizes.route at_open.«open».result.nest in
     λ l q h k. lines.refuses c.refused2.result at-refusal-of-turn.refusal-of-turn.result c.refused2.ensures at-if2.if2.true
-    (tenantAreas (state_of A.memories.now A.buffer.now l A.status.now) A.engaged.now) A.processor _ (lines.turn-barred A.encoded.now
-    A.route A.source.now A.tenant (tenantAreas (state_of A.memories.now A.buffer.now l A.status.now) A.engaged.now) q A.processor
+    (tenant_areas (state_of A.memories.now A.buffer.now l A.status.now) A.engaged.now) A.processor _ (lines.turn_barred A.encoded.now
+    A.route A.source.now A.tenant (tenant_areas (state_of A.memories.now A.buffer.now l A.status.now) A.engaged.now) q A.processor
     p opened-as at-refusal-of-turn.refusal-of-turn.result (at-refusal-of-turn.refusal-of-turn.ensures.0 l q h k) at-if2.if2.true)
 
 sub-step-for : tie.Need-overflow-sub-step-for
@@ -98,16 +98,16 @@ step-for-requires c κs =
     let own = take (A.progress.count - 0) (drop 0 A.progress.words) in
     let other = take (A.theirs.count - 0) (drop 0 A.theirs.words) in
     let few2 = reading.few_words _ _ planned.0 A.theirs.count counts.1 in
-    let free = lines.barred-none p A.source.now A.tenant (tenantAreas (state_of A.memories.now A.buffer.now own A.status.now)
+    let free = lines.barred_none p A.source.now A.tenant (tenant_areas (state_of A.memories.now A.buffer.now own A.status.now)
     A.engaged.now)
     other A.processor at-refusal-of-turn.refusal-of-turn.result (at-refusal-of-turn.refusal-of-turn.ensures.0 own other
-    (reading.part-carries A.progress S.requires.0 few)
-    (reading.part-carries A.theirs S.requires.1 few2)) at-if2.if2.false in (
+    (reading.part_carries A.progress S.requires.0 few)
+    (reading.part_carries A.theirs S.requires.1 few2)) at-if2.if2.false in (
       planned,
       (
         record {
           areas = free.lengths.own;
-          fit = own-fits p A.tenant (tenantAreas (state_of A.memories.now A.buffer.now own A.status.now) A.engaged.now) other free.fits;
+          fit = own_fits p A.tenant (tenant_areas (state_of A.memories.now A.buffer.now own A.status.now) A.engaged.now) other free.fits;
           processor = free.low;
         },
         omega (arith, free.lengths.engaged, free.low),
@@ -143,16 +143,16 @@ returns-3 c =
     let own = take (A.progress.count - 0) (drop 0 A.progress.words) in
     let other = take (A.theirs.count - 0) (drop 0 A.theirs.words) in
     let few2 = reading.few_words _ _ planned.0 A.theirs.count counts.1 in
-    let free = lines.barred-none p A.source.now A.tenant (tenantAreas (state_of A.memories.now A.buffer.now own A.status.now)
+    let free = lines.barred_none p A.source.now A.tenant (tenant_areas (state_of A.memories.now A.buffer.now own A.status.now)
     A.engaged.now)
     other A.processor at-refusal-of-turn.refusal-of-turn.result (at-refusal-of-turn.refusal-of-turn.ensures.0 own other
-    (reading.part-carries A.progress S.requires.0 few)
-    (reading.part-carries A.theirs S.requires.1 few2)) at-if2.if2.false in
-    λ l q h k. lines.turn-as A.encoded.now A.route A.source.now A.tenant A.memories.now A.buffer.now A.status.now A.engaged.now
-    own l other q A.processor (reading.part-is A.progress l few h) (reading.part-is A.theirs q few2 k) step-for.result
+    (reading.part_carries A.progress S.requires.0 few)
+    (reading.part_carries A.theirs S.requires.1 few2)) at-if2.if2.false in
+    λ l q h k. lines.turn_as A.encoded.now A.route A.source.now A.tenant A.memories.now A.buffer.now A.status.now A.engaged.now
+    own l other q A.processor (reading.part_is A.progress l few h) (reading.part_is A.theirs q few2 k) step-for.result
     step-for.new.1.1.1.1.0 step-for.new.1.1.1.1.1.0
     step-for.new.1.1.1.1.1.1.1.0 step-for.new.1.1.1.1.1.1.1.1.0
-    (lines.turn-steps A.encoded.now A.route A.source.now A.tenant (tenantAreas (state_of A.memories.now A.buffer.now own A.status.now)
+    (lines.turn_steps A.encoded.now A.route A.source.now A.tenant (tenant_areas (state_of A.memories.now A.buffer.now own A.status.now)
     A.engaged.now) other
     A.processor p opened-as free step-for.result step-for.new.1.1.1.1.0 step-for.new.1.1.1.1.1.0
     step-for.new.1.1.1.1.1.1.1.0 step-for.new.1.1.1.1.1.1.1.1.0

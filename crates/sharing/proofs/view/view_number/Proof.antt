@@ -8,9 +8,9 @@ view-at-requires c κs = search rules
 
 returns : tie.Need-returns
 returns c =
-    let view-at = c.view-at in
+    let view_at = c.view_at in
     let A = c.before.before.before.before.args in
-    view-at.ensures.0 A.first.now A.second.now refl refl
+    view_at.ensures.0 A.first.now A.second.now refl refl
 
 pub view-number-spec : {M : Type 1} → statement M
 view-number-spec = tie.close (tie.spec view-at-requires returns)

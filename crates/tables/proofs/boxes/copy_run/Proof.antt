@@ -4,7 +4,7 @@ use Prim.Native.Nat.{ℕ, ◌-◌, ◌*◌, ◌≤◌}
 use native.Mathlib.Nat.{add-mul}
 use mathlib.Core.Path.{subst}
 use Rattle.tables.specs.boxes.Table.{Filling}
-use Rattle.layout.proofs.Cells.{box-few}
+use Rattle.layout.proofs.Cells.{box_few}
 use Rattle.tables.proofs.boxes.Scans as L
 use Rattle.tables.proofs.boxes.Runs as R
 use Rattle.tables.proofs.boxes.copy_run.Statement.{statement}
@@ -19,7 +19,7 @@ decreases-loop nest sizes lens₀ tile run end slot₀ lens slot = end - slot
 add-end : tie.Need-overflow-add-end invariant-loop decreases-loop
 add-end c =
     let start = c.before in
-    omega (arith, start.requires.1.0.room, box-few _ start.requires.0.accepted)
+    omega (arith, start.requires.1.0.room, box_few _ start.requires.0.accepted)
 
 mul-end : tie.Need-overflow-mul-end invariant-loop decreases-loop
 mul-end c =
@@ -27,7 +27,7 @@ mul-end c =
     omega (
       arith,
       R.run_end start.args.sizes.route _ _ start.requires.0.ways _ _ _ start.requires.1.0,
-      L.slots-few start.args.sizes.route _ start.requires.0.accepted start.requires.1.1.plain,
+      L.slots_few start.args.sizes.route _ start.requires.0.accepted start.requires.1.1.plain,
     )
 
 mul-slot : tie.Need-overflow-mul-slot invariant-loop decreases-loop
@@ -36,7 +36,7 @@ mul-slot c =
     omega (
       arith,
       R.run_end start.args.sizes.route _ _ start.requires.0.ways _ _ _ start.requires.1.0,
-      L.slots-few start.args.sizes.route _ start.requires.0.accepted start.requires.1.1.plain,
+      L.slots_few start.args.sizes.route _ start.requires.0.accepted start.requires.1.1.plain,
       add-mul start.args.tile start.args.run.tiles start.args.sizes.ways,
     )
 
@@ -58,7 +58,7 @@ mul-lens c =
       arith,
       c.before.before.loop-test.true,
       R.run_end start.args.sizes.route _ _ start.requires.0.ways _ _ _ start.requires.1.0,
-      L.slots-few start.args.sizes.route _ start.requires.0.accepted start.requires.1.1.plain,
+      L.slots_few start.args.sizes.route _ start.requires.0.accepted start.requires.1.1.plain,
     )
 
 element-write-lens : tie.Need-element-write-lens invariant-loop decreases-loop
@@ -68,7 +68,7 @@ element-write-lens c =
       arith,
       c.before.before.loop-test.true,
       R.run_end start.args.sizes.route _ _ start.requires.0.ways _ _ _ start.requires.1.0,
-      L.slots-few start.args.sizes.route _ start.requires.0.accepted start.requires.1.1.plain,
+      L.slots_few start.args.sizes.route _ start.requires.0.accepted start.requires.1.1.plain,
       c.before.before.before.loop.invariant.0.long,
     )
 
@@ -79,7 +79,7 @@ add-slot c =
       arith,
       c.before.before.loop-test.true,
       R.run_end start.args.sizes.route _ _ start.requires.0.ways _ _ _ start.requires.1.0,
-      L.slots-few start.args.sizes.route _ start.requires.0.accepted start.requires.1.1.plain,
+      L.slots_few start.args.sizes.route _ start.requires.0.accepted start.requires.1.1.plain,
     )
 
 loop-less : tie.Need-loop-smaller invariant-loop decreases-loop
@@ -90,9 +90,9 @@ loop-again c =
     let start = c.before.before.before.before.before.before.before in
     let loop = c.before.before.before.loop in
     let loop-test = c.before.before.loop-test in (
-      L.fill-turn start.args.sizes.route _ _ _ _ loop.invariant.0
+      L.fill_turn start.args.sizes.route _ _ _ _ loop.invariant.0
           (omega (arith, loop-test.true, R.run_end start.args.sizes.route _ _ start.requires.0.ways _ _ _ start.requires.1.0))
-          (L.slots-few start.args.sizes.route _ start.requires.0.accepted start.requires.1.1.plain) c.length_back.ensures,
+          (L.slots_few start.args.sizes.route _ start.requires.0.accepted start.requires.1.1.plain) c.length_back.ensures,
       (omega (arith, loop.invariant.1.0), omega (arith, loop-test.true)),
     )
 

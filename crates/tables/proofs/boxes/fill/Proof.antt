@@ -19,7 +19,7 @@ loop-holds c = rw (zero-mul c.args.sizes.ways) (L.fill_start c.args.sizes.route 
 fill-from-requires : tie.Need-fill-from-requires invariant-loop decreases-loop
 fill-from-requires c κs =
     let start = c.before.before.before in
-    (start.requires.0, (L.under-tiles _ _ start.requires.0 _ c.before.loop-test.true, c.before.before.loop.invariant))
+    (start.requires.0, (L.under_tiles _ _ start.requires.0 _ c.before.loop-test.true, c.before.before.loop.invariant))
 
 loop-less : tie.Need-loop-smaller invariant-loop decreases-loop
 loop-less c = omega (arith, c.before.before.loop-test.true, c.fill-from.ensures.0)

@@ -5,10 +5,10 @@ use Rattle.tables.proofs.boxes.length_at.Statement.{statement}
 use Rattle.tables.proofs.boxes.length_at.Tie as tie
 
 mul-result : tie.Need-overflow-mul-result
-mul-result c = omega (arith, c.requires.1.1, L.slots-few c.args.sizes.route _ c.requires.0.accepted c.requires.1.0.plain)
+mul-result c = omega (arith, c.requires.1.1, L.slots_few c.args.sizes.route _ c.requires.0.accepted c.requires.1.0.plain)
 
 element-copy-out-result : tie.Need-element-copy-out-result
-element-copy-out-result c = omega (arith, c.requires.1.0.long, c.requires.1.1, L.slots-few c.args.sizes.route _ c.requires.0.accepted c.requires.1.0.plain)
+element-copy-out-result c = omega (arith, c.requires.1.0.long, c.requires.1.1, L.slots_few c.args.sizes.route _ c.requires.0.accepted c.requires.1.0.plain)
 
 cast-result : tie.Need-overflow-cast-result
 cast-result c =
@@ -16,7 +16,7 @@ cast-result c =
     omega (
       arith,
       start.requires.1.0.each start.args.slot start.requires.1.1,
-      L.parcel-few start.args.sizes.route
+      L.parcel_few start.args.sizes.route
           start.args.nest start.requires.0.accepted start.args.slot,
     )
 
@@ -27,7 +27,7 @@ returns c =
       omega (
         arith,
         start.requires.1.0.each start.args.slot start.requires.1.1,
-        L.parcel-few start.args.sizes.route start.args.nest
+        L.parcel_few start.args.sizes.route start.args.nest
             start.requires.0.accepted start.args.slot,
       ),
     )

@@ -12,8 +12,8 @@ mul-result c =
     omega (
       arith,
       R.back_low start.args.sizes.route _ _ start.requires.0.0.ways _ _ _ _ start.requires.0.1.0 start.requires.1.0 start.requires.1.1,
-      R.slot-low start.args.sizes.route _ _ start.requires.0.0.ways _ _ _ _ start.requires.0.1.0 start.requires.1.0 start.requires.1.1,
-      L.slots-few start.args.sizes.route _ start.requires.0.0.accepted start.requires.0.1.1.plain,
+      R.slot_low start.args.sizes.route _ _ start.requires.0.0.ways _ _ _ _ start.requires.0.1.0 start.requires.1.0 start.requires.1.1,
+      L.slots_few start.args.sizes.route _ start.requires.0.0.accepted start.requires.0.1.1.plain,
     )
 
 sub-result : tie.Need-overflow-sub-result
@@ -27,8 +27,8 @@ mul-result-2 c =
     omega (
       arith,
       R.back_low start.args.sizes.route _ _ start.requires.0.0.ways _ _ _ _ start.requires.0.1.0 start.requires.1.0 start.requires.1.1,
-      R.slot-low start.args.sizes.route _ _ start.requires.0.0.ways _ _ _ _ start.requires.0.1.0 start.requires.1.0 start.requires.1.1,
-      L.slots-few start.args.sizes.route _ start.requires.0.0.accepted start.requires.0.1.1.plain,
+      R.slot_low start.args.sizes.route _ _ start.requires.0.0.ways _ _ _ _ start.requires.0.1.0 start.requires.1.0 start.requires.1.1,
+      L.slots_few start.args.sizes.route _ start.requires.0.0.accepted start.requires.0.1.1.plain,
     )
 
 element-copy-out-result : tie.Need-element-copy-out-result
@@ -37,16 +37,16 @@ element-copy-out-result c =
     omega (
       arith,
       R.back_low start.args.sizes.route _ _ start.requires.0.0.ways _ _ _ _ start.requires.0.1.0 start.requires.1.0 start.requires.1.1,
-      R.slot-low start.args.sizes.route _ _ start.requires.0.0.ways _ _ _ _ start.requires.0.1.0 start.requires.1.0 start.requires.1.1,
-      L.slots-few start.args.sizes.route _ start.requires.0.0.accepted start.requires.0.1.1.plain,
+      R.slot_low start.args.sizes.route _ _ start.requires.0.0.ways _ _ _ _ start.requires.0.1.0 start.requires.1.0 start.requires.1.1,
+      L.slots_few start.args.sizes.route _ start.requires.0.0.accepted start.requires.0.1.1.plain,
     )
 
 returns : tie.Need-returns
 returns c =
     let start = c.before.before.before in
     start.requires.0.1.1.each _
-    (R.back-before start.args.sizes.route _ _ start.requires.0.0.ways _ _ _ _ start.requires.0.1.0 start.requires.1.0 start.requires.1.1)
-    ∙ R.back-same start.args.sizes.route _ _ start.requires.0.0.ways _ _ _ _ start.requires.0.1.0 start.requires.1.0 start.requires.1.1
+    (R.back_before start.args.sizes.route _ _ start.requires.0.0.ways _ _ _ _ start.requires.0.1.0 start.requires.1.0 start.requires.1.1)
+    ∙ R.back_same start.args.sizes.route _ _ start.requires.0.0.ways _ _ _ _ start.requires.0.1.0 start.requires.1.0 start.requires.1.1
 
 pub length-back-spec : {M : Type 1} → statement M
 length-back-spec =

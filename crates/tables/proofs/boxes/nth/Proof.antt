@@ -16,7 +16,7 @@ mul-slots : tie.Need-overflow-mul-slots invariant-loop decreases-loop
 mul-slots c = omega (arith, L.slots_small c.before.args.nest c.before.args.sizes c.before.requires.0.0 c.before.requires.0.1.plain)
 
 loop-holds : tie.Need-loop-init invariant-loop decreases-loop
-loop-holds c = record { before = omega arith; sums = L.sum-start c.before.args.sizes.route c.before.args.nest }
+loop-holds c = record { before = omega arith; sums = L.sum_start c.before.args.sizes.route c.before.args.nest }
 
 length-at-requires : tie.Need-length-at-requires invariant-loop decreases-loop
 length-at-requires c κs =
@@ -61,7 +61,7 @@ loop-again : tie.Need-loop-preserved invariant-loop decreases-loop
 loop-again c =
     let start = c.before.before.before.before.before in
     let turn = c.before.before.before.loop in
-    L.seek-turn start.args.sizes.route start.args.nest start.args.m turn.slot turn.number turn.offset
+    L.seek_turn start.args.sizes.route start.args.nest start.args.m turn.slot turn.number turn.offset
     c.before.length_at.result c.if1.number start.requires.0.0.accepted turn.invariant
     (L.under start.args.nest start.args.sizes start.requires.0.0 turn.slot c.before.before.loop-test.true)
     c.before.length_at.ensures.0 (⊎_elim (λ w. inl (w.0.taken, w.1.left, w.2)) (λ w. inr (w.0.left, w.1)) c.if1.branch)
@@ -70,7 +70,7 @@ returns-2 : tie.Need-returns-2 invariant-loop decreases-loop
 returns-2 c =
     let start = c.before.before.before in
     let turn = c.before.loop in
-    absurd (L.seek-nowhere start.args.sizes.route start.args.nest start.args.m turn.slot turn.number turn.offset
+    absurd (L.seek_nowhere start.args.sizes.route start.args.nest start.args.m turn.slot turn.number turn.offset
     turn.invariant (L.over start.args.nest start.args.sizes start.requires.0.0 turn.slot c.loop-test.false) start.requires.1)
 
 pub nth-spec : {M : Type 1} → statement M

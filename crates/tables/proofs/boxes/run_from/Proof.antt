@@ -3,9 +3,9 @@ use native.Mathlib.Omega.{arith}
 use Prim.Native.Nat.{◌-◌}
 use native.Mathlib.Nat.{mod-lt}
 use lib.ListN.{get_or}
-use Rattle.plan.proofs.Tiles.{tileCount-pos}
+use Rattle.plan.proofs.Tiles.{tile_count_pos}
 use Rattle.layout.specs.Places.{nth}
-use Rattle.layout.proofs.Cells.{count_most, box-few}
+use Rattle.layout.proofs.Cells.{count_most, box_few}
 use Rattle.tables.proofs.boxes.Runs as R
 use Rattle.tables.proofs.boxes.run_from.Statement.{statement}
 use Rattle.tables.proofs.boxes.run_from.Tie as tie
@@ -31,7 +31,7 @@ mul-n c =
       arith,
       c.loop-test.true,
       c.before.loop.invariant.low,
-      c.before.before.before.before.before.before.requires.0.accepted.dimensions-most,
+      c.before.before.before.before.before.before.requires.0.accepted.dimensions_most,
     )
 
 array-read-n : tie.Need-array-read-n invariant-loop decreases-loop
@@ -40,7 +40,7 @@ array-read-n c =
       arith,
       c.loop-test.true,
       c.before.loop.invariant.low,
-      c.before.before.before.before.before.before.requires.0.accepted.dimensions-most,
+      c.before.before.before.before.before.before.requires.0.accepted.dimensions_most,
     )
 
 rem-places-like : tie.Need-nonzero-rem-places-like invariant-loop decreases-loop
@@ -51,7 +51,7 @@ rem-places-like c =
     omega (
       arith,
       start.requires.0.across (loop.left - 1) (omega (arith, loop-test.true, loop.invariant.low)),
-      tileCount-pos _ start.requires.0.accepted (loop.left - 1) (omega (arith, loop-test.true, loop.invariant.low)),
+      tile_count_pos _ start.requires.0.accepted (loop.left - 1) (omega (arith, loop-test.true, loop.invariant.low)),
     )
 
 mul-places-like : tie.Need-overflow-mul-places-like invariant-loop decreases-loop
@@ -60,7 +60,7 @@ mul-places-like c =
       arith,
       c.loop-test.true,
       c.before.loop.invariant.low,
-      c.before.before.before.before.before.before.requires.0.accepted.dimensions-most,
+      c.before.before.before.before.before.before.requires.0.accepted.dimensions_most,
     )
 
 array-read-places-like : tie.Need-array-read-places-like invariant-loop decreases-loop
@@ -69,7 +69,7 @@ array-read-places-like c =
       arith,
       c.loop-test.true,
       c.before.loop.invariant.low,
-      c.before.before.before.before.before.before.requires.0.accepted.dimensions-most,
+      c.before.before.before.before.before.before.requires.0.accepted.dimensions_most,
     )
 
 mul-places-like-2 : tie.Need-overflow-mul-places-like-2 invariant-loop decreases-loop
@@ -78,7 +78,7 @@ mul-places-like-2 c =
       arith,
       c.loop-test.true,
       c.before.loop.invariant.low,
-      c.before.before.before.before.before.before.requires.0.accepted.dimensions-most,
+      c.before.before.before.before.before.before.requires.0.accepted.dimensions_most,
     )
 
 array-read-places-like-2 : tie.Need-array-read-places-like-2 invariant-loop decreases-loop
@@ -87,7 +87,7 @@ array-read-places-like-2 c =
       arith,
       c.loop-test.true,
       c.before.loop.invariant.low,
-      c.before.before.before.before.before.before.requires.0.accepted.dimensions-most,
+      c.before.before.before.before.before.before.requires.0.accepted.dimensions_most,
     )
 
 places-like-requires : tie.Need-places-like-requires invariant-loop decreases-loop
@@ -103,7 +103,7 @@ places-like-requires c κs =
             (omega (
               arith,
               start.requires.0.across (loop.left - 1) (omega (arith, loop-test.true, loop.invariant.low)),
-              tileCount-pos _
+              tile_count_pos _
                   start.requires.0.accepted (loop.left - 1) (omega (arith, loop-test.true, loop.invariant.low)),
             )),
       ),
@@ -118,9 +118,9 @@ add-t26 c =
     let start = c.before.before.before.before.before.before.before.before in
     omega (
       arith,
-      R.running-low _ _ _ _ _ _ c.before.before.before.loop.invariant,
+      R.running_low _ _ _ _ _ _ c.before.before.before.loop.invariant,
       start.requires.1,
-      box-few _ start.requires.0.accepted,
+      box_few _ start.requires.0.accepted,
       c.before.places-like.ensures.few,
     )
 
@@ -143,7 +143,7 @@ sub-t28 c =
     let start = at-two-before.before.before.before.before in
     omega (
       arith,
-      R.run-over start.args.sizes.route _ start.requires.0.accepted _ start.requires.1 start.args.sizes.across
+      R.run_over start.args.sizes.route _ start.requires.0.accepted _ start.requires.1 start.args.sizes.across
           (record { each = start.requires.0.across }) _ at-two-before.two-before.ensures _ _ _ at-loop.loop.invariant c.before.before.loop-test.true _
           c.before.places-like.ensures c.if1.true,
     )
@@ -164,7 +164,7 @@ div-rest c =
     omega (
       arith,
       start.requires.0.across (loop.left - 1) (omega (arith, loop-test.true, loop.invariant.low)),
-      tileCount-pos _ start.requires.0.accepted (loop.left - 1) (omega (arith, loop-test.true, loop.invariant.low)),
+      tile_count_pos _ start.requires.0.accepted (loop.left - 1) (omega (arith, loop-test.true, loop.invariant.low)),
     )
 
 mul-stride : tie.Need-overflow-mul-stride invariant-loop decreases-loop
@@ -179,7 +179,7 @@ mul-stride c =
           (R.running_more _ _ _ _ _ _ loop.invariant loop-test.true (omega (
             arith,
             start.requires.0.across (loop.left - 1) (omega (arith, loop-test.true, loop.invariant.low)),
-            tileCount-pos _ start.requires.0.accepted
+            tile_count_pos _ start.requires.0.accepted
                 (loop.left - 1) (omega (arith, loop-test.true, loop.invariant.low)),
           ))),
     )
@@ -196,7 +196,7 @@ loop-again c =
     (omega (
       arith,
       start.requires.0.across (loop.left - 1) (omega (arith, loop-test.true, loop.invariant.low)),
-      tileCount-pos _ start.requires.0.accepted
+      tile_count_pos _ start.requires.0.accepted
           (loop.left - 1) (omega (arith, loop-test.true, loop.invariant.low)),
     ))
 

@@ -1,8 +1,8 @@
 -- `tables::boxes::slots_at` meets its contract: those of the first ways.
 use Prim.Native.Nat.{◌-◌}
 use native.Mathlib.Omega.{arith}
-use Rattle.layout.proofs.Steps.{ways-few}
-use Rattle.layout.proofs.Steps.{ways-few}
+use Rattle.layout.proofs.Steps.{ways_few}
+use Rattle.layout.proofs.Steps.{ways_few}
 use Rattle.tables.proofs.boxes.Ends as E
 use Rattle.tables.proofs.boxes.slots_at.Statement.{statement}
 use Rattle.tables.proofs.boxes.slots_at.Tie as tie
@@ -17,7 +17,7 @@ steps-of-requires : tie.Need-steps-of-requires invariant-loop decreases-loop
 steps-of-requires c κs = c.requires.0
 
 loop-holds : tie.Need-loop-init invariant-loop decreases-loop
-loop-holds c = E.ending-none c.before.args.sizes.route _ _ _ _ (omega arith)
+loop-holds c = E.ending_none c.before.args.sizes.route _ _ _ _ (omega arith)
 
 slot-at-requires : tie.Need-slot-at-requires invariant-loop decreases-loop
 slot-at-requires c κs =
@@ -27,17 +27,17 @@ slot-at-requires c κs =
 mul-ends : tie.Need-overflow-mul-ends invariant-loop decreases-loop
 mul-ends c =
     let start = c.before.before.before.before in
-    omega (arith, c.before.before.loop.invariant.low, ways-few _ start.requires.0.accepted start.args.sizes.route)
+    omega (arith, c.before.before.loop.invariant.low, ways_few _ start.requires.0.accepted start.args.sizes.route)
 
 array-write-ends : tie.Need-array-write-ends invariant-loop decreases-loop
 array-write-ends c =
     let start = c.before.before.before.before in
-    omega (arith, c.before.before.loop.invariant.low, ways-few _ start.requires.0.accepted start.args.sizes.route)
+    omega (arith, c.before.before.loop.invariant.low, ways_few _ start.requires.0.accepted start.args.sizes.route)
 
 add-way : tie.Need-overflow-add-way invariant-loop decreases-loop
 add-way c =
     let start = c.before.before.before.before in
-    omega (arith, c.before.before.loop.invariant.low, ways-few _ start.requires.0.accepted start.args.sizes.route)
+    omega (arith, c.before.before.loop.invariant.low, ways_few _ start.requires.0.accepted start.args.sizes.route)
 
 loop-less : tie.Need-loop-smaller invariant-loop decreases-loop
 loop-less c = omega (arith, c.before.loop-test.true)
@@ -45,15 +45,15 @@ loop-less c = omega (arith, c.before.loop-test.true)
 loop-again : tie.Need-loop-preserved invariant-loop decreases-loop
 loop-again c =
     let start = c.before.before.before.before in
-    E.ending-more start.args.sizes.route _ _ _ _ _ _ c.before.before.loop.invariant
+    E.ending_more start.args.sizes.route _ _ _ _ _ _ c.before.before.loop.invariant
     (omega (arith, c.before.loop-test.true, start.requires.0.ways))
-    (omega (arith, ways-few _ start.requires.0.accepted start.args.sizes.route))
+    (omega (arith, ways_few _ start.requires.0.accepted start.args.sizes.route))
     (c.slot_at.ensures start.args.side c.before.before.before.steps_of.ensures)
 
 returns : tie.Need-returns invariant-loop decreases-loop
 returns c =
     let start = c.before.before.before in
-    E.ending-end start.args.sizes.route _ _ _ _ _ c.before.loop.invariant (omega (arith, c.loop-test.false, start.requires.0.ways))
+    E.ending_end start.args.sizes.route _ _ _ _ _ c.before.loop.invariant (omega (arith, c.loop-test.false, start.requires.0.ways))
 
 pub slots-at-spec : {M : Type 1} → statement M
 slots-at-spec =

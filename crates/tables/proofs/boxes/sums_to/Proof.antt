@@ -14,7 +14,7 @@ abbrev decreases-loop : tie.decreases-loop
 decreases-loop nest sizes lens end s₀ messages₀ words₀ s messages words = end - s
 
 loop-holds : tie.Need-loop-init invariant-loop decreases-loop
-loop-holds c = (L.sum-start c.args.sizes.route c.args.nest, omega arith)
+loop-holds c = (L.sum_start c.args.sizes.route c.args.nest, omega arith)
 
 length-at-requires : tie.Need-length-at-requires invariant-loop decreases-loop
 length-at-requires c κs =
@@ -28,7 +28,7 @@ add-messages c =
       arith,
       c.before.before.before.loop.invariant.0.few,
       c.before.before.before.loop.invariant.0.low,
-      L.slots-few
+      L.slots_few
           start.args.sizes.route _ start.requires.0.accepted start.requires.1.0.plain,
     )
 
@@ -40,13 +40,13 @@ add_words c =
       c.before.before.before.loop.invariant.0.small,
       c.before.before.before.loop.invariant.0.low,
       c.before.length_at.ensures.1,
-      L.slots-few start.args.sizes.route _ start.requires.0.accepted start.requires.1.0.plain,
+      L.slots_few start.args.sizes.route _ start.requires.0.accepted start.requires.1.0.plain,
     )
 
 add-s : tie.Need-overflow-add-s invariant-loop decreases-loop
 add-s c =
     let start = c.before.before.before.before in
-    omega (arith, c.before.before.before.loop.invariant.0.low, L.slots-few start.args.sizes.route _ start.requires.0.accepted start.requires.1.0.plain)
+    omega (arith, c.before.before.before.loop.invariant.0.low, L.slots_few start.args.sizes.route _ start.requires.0.accepted start.requires.1.0.plain)
 
 loop-less : tie.Need-loop-smaller invariant-loop decreases-loop
 loop-less c = omega (arith, c.before.before.loop-test.true)
@@ -54,7 +54,7 @@ loop-less c = omega (arith, c.before.before.loop-test.true)
 loop-again : tie.Need-loop-preserved invariant-loop decreases-loop
 loop-again c =
     let start = c.before.before.before.before in (
-      L.sum-turn start.args.sizes.route start.args.nest c.before.before.before.loop.s
+      L.sum_turn start.args.sizes.route start.args.nest c.before.before.before.loop.s
           c.before.before.before.loop.messages c.before.before.before.loop.words c.before.length_at.result c.if1.messages
           start.requires.0.accepted c.before.before.before.loop.invariant.0
           (omega (arith, start.requires.1.1, c.before.before.loop-test.true)) c.before.length_at.ensures.0
@@ -65,7 +65,7 @@ loop-again c =
 returns : tie.Need-returns invariant-loop decreases-loop
 returns c =
     let start = c.before.before in
-    L.sum-end start.args.sizes.route start.args.nest start.args.end c.before.loop.s _ _ c.before.loop.invariant.0
+    L.sum_end start.args.sizes.route start.args.nest start.args.end c.before.loop.s _ _ c.before.loop.invariant.0
     c.before.loop.invariant.1 c.loop-test.false
 
 pub sums-to-spec : {M : Type 1} → statement M

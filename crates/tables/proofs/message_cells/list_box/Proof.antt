@@ -4,15 +4,15 @@ use native.Mathlib.Nat.{zero-mul, mul-le-mul_right}
 use native.Mathlib.Omega.{arith}
 use mathlib.Core.Path.{refl, sym, ap, ◌∙◌}
 use Rattle.base.specs.Lists.{pack}
-use Rattle.layout.proofs.Steps.{ways-some, way-low}
-use Rattle.parcels.proofs.Walks.{found-few}
+use Rattle.layout.proofs.Steps.{ways_some, way_low}
+use Rattle.parcels.proofs.Walks.{found_few}
 use Rattle.parcels.proofs.Windows.{run_room}
-use Rattle.parcels.proofs.Packing.{PackedTo, packed_none, packed-end}
-use Rattle.parcels.proofs.Rows.{size_few, rows_few, row-ranked}
-use Rattle.parcels.proofs.Alike.{row_first, packed-over, packed-next}
-use Rattle.parcels.proofs.Sendings.{headed, full-found, words-found}
+use Rattle.parcels.proofs.Packing.{PackedTo, packed_none, packed_end}
+use Rattle.parcels.proofs.Rows.{size_few, rows_few, row_ranked}
+use Rattle.parcels.proofs.Alike.{row_first, packed_over, packed_next}
+use Rattle.parcels.proofs.Sendings.{headed, full_found, words_found}
 use Rattle.runs.specs.listed.Numbers.{numbers}
-use Rattle.tables.proofs.message_cells.Laws.{run-listed}
+use Rattle.tables.proofs.message_cells.Laws.{run_listed}
 use Rattle.tables.proofs.message_cells.list_box.Statement.{statement}
 use Rattle.tables.proofs.message_cells.list_box.Tie as tie
 
@@ -24,7 +24,7 @@ decreases-loop nest slot cells₀ sending components rows lengths count₀ r₀ 
 
 div-place-of-tile : tie.Need-nonzero-div-place-of-tile invariant-loop decreases-loop
 div-place-of-tile c =
-    ways-some _ c.before.before.requires.0.accepted c.before.before.args.sizes.route _ c.before.before.requires.0.ways
+    ways_some _ c.before.before.requires.0.accepted c.before.before.args.sizes.route _ c.before.before.requires.0.ways
 
 place-of-tile-requires : tie.Need-place-of-tile-requires invariant-loop decreases-loop
 place-of-tile-requires c κs = c.before.before.requires.0
@@ -32,12 +32,12 @@ place-of-tile-requires c κs = c.before.before.requires.0
 rem-along-of : tie.Need-nonzero-rem-along-of invariant-loop decreases-loop
 rem-along-of c =
     let start = c.before.before.before.before in
-    ways-some _ start.requires.0.accepted start.args.sizes.route _ start.requires.0.ways
+    ways_some _ start.requires.0.accepted start.args.sizes.route _ start.requires.0.ways
 
 along-of-requires : tie.Need-along-of-requires invariant-loop decreases-loop
 along-of-requires c κs =
     let start = c.before.before.before.before in
-    (start.requires.0, way-low _ start.requires.0.accepted start.args.sizes.route _ start.requires.0.ways start.args.slot)
+    (start.requires.0, way_low _ start.requires.0.accepted start.args.sizes.route _ start.requires.0.ways start.args.slot)
 
 sending-of-requires : tie.Need-sending-of-requires invariant-loop decreases-loop
 sending-of-requires c κs =
@@ -52,7 +52,7 @@ loop-holds c =
     let at-sending-of = c.before.before in
     let start = at-sending-of.before.before.before.before.before.before in
     rw (zero-mul at-sending-of.sending-of.result.width)
-    (packed_none _ _ _ _ (words-found _ _ _ _ at-sending-of.sending-of.ensures _ start.requires.1.1)
+    (packed_none _ _ _ _ (words_found _ _ _ _ at-sending-of.sending-of.ensures _ start.requires.1.1)
     (size_few _ start.requires.0.accepted _ at-sending-of.sending-of.ensures.shape))
 
 row-at-requires : tie.Need-row-at-requires invariant-loop decreases-loop
@@ -78,14 +78,14 @@ loop-again : tie.Need-loop-preserved invariant-loop decreases-loop
 loop-again c =
     let at-row-at = c.before.before.before in
     let at-loop = at-row-at.before.before.before in
-    packed-over _ _ _ _ at-row-at.row_at.ensures c.before.if1.true _ _ _ at-loop.loop.invariant
+    packed_over _ _ _ _ at-row-at.row_at.ensures c.before.if1.true _ _ _ at-loop.loop.invariant
 
 rank-requires : tie.Need-rank-requires invariant-loop decreases-loop
 rank-requires c κs =
     let at-row-at = c.before.before.before in
     let at-sending-of = at-row-at.before.before.before.before.before.before in
     let start = at-sending-of.before.before.before.before.before.before in
-    row-ranked _ _ _ _ at-row-at.row_at.ensures.place start.requires.0.accepted at-sending-of.sending-of.ensures.shape
+    row_ranked _ _ _ _ at-row-at.row_at.ensures.place start.requires.0.accepted at-sending-of.sending-of.ensures.shape
 
 list-run-requires : tie.Need-list-run-requires invariant-loop decreases-loop
 list-run-requires c κs =
@@ -97,16 +97,16 @@ list-run-requires c κs =
     record {
       inner = omega (
         arith,
-        run_room _ _ _ _ _ _ _ row _ at-row-at.row_at.ensures.run _ at-loop.loop.invariant.count-is,
+        run_room _ _ _ _ _ _ _ row _ at-row-at.row_at.ensures.run _ at-loop.loop.invariant.count_is,
         at-loop.loop.invariant.long,
       );
-      outer = omega (arith, row.low, at-row-at.row_at.ensures.run.low, start.requires.0.accepted.cells-most);
+      outer = omega (arith, row.low, at-row-at.row_at.ensures.run.low, start.requires.0.accepted.cells_most);
       short = (
         omega (
           arith,
           at-loop.loop.invariant.long,
           at-loop.loop.invariant.small,
-          found-few start.args.nest at-sending-of.sending-of.result
+          found_few start.args.nest at-sending-of.sending-of.result
               (at-sending-of.sending-of.result.rows * at-sending-of.sending-of.result.width),
         ),
         omega arith,
@@ -115,16 +115,16 @@ list-run-requires c κs =
 
 add-count : tie.Need-overflow-add-count invariant-loop decreases-loop
 add-count c =
-    let at-rank = c.before.before.before.before.before in
-    let at-row-at = at-rank.before.before.before.before in
+    let at_rank = c.before.before.before.before.before in
+    let at-row-at = at_rank.before.before.before.before in
     let at-loop = at-row-at.before.before.before in
     let at-sending-of = at-loop.before.before.before in
     let start = at-sending-of.before.before.before.before.before.before in
     omega (
       arith,
-      run_room _ _ _ _ _ _ _ (row_first _ _ _ _ at-row-at.row_at.ensures _ at-rank.rank.ensures) _ at-row-at.row_at.ensures.run _
-          at-loop.loop.invariant.count-is,
-      found-few start.args.nest at-sending-of.sending-of.result
+      run_room _ _ _ _ _ _ _ (row_first _ _ _ _ at-row-at.row_at.ensures _ at_rank.rank.ensures) _ at-row-at.row_at.ensures.run _
+          at-loop.loop.invariant.count_is,
+      found_few start.args.nest at-sending-of.sending-of.result
           (at-sending-of.sending-of.result.rows * at-sending-of.sending-of.result.width),
       size_few _ start.requires.0.accepted _
           at-sending-of.sending-of.ensures.shape,
@@ -145,33 +145,33 @@ loop-less-2 c =
 loop-again-2 : tie.Need-loop-preserved-2 invariant-loop decreases-loop
 loop-again-2 c =
     let at-list-run = c.before.before.before in
-    let at-rank = at-list-run.before.before in
-    let at-row-at = at-rank.before.before.before.before in
+    let at_rank = at-list-run.before.before in
+    let at-row-at = at_rank.before.before.before.before in
     let at-loop = at-row-at.before.before.before in
     let start = at-loop.before.before.before.before.before.before.before.before.before in
-    let row = row_first _ _ _ _ at-row-at.row_at.ensures _ at-rank.rank.ensures in
-    packed-next _ _ _ _ at-row-at.row_at.ensures _ row _ _ _ _ _ at-loop.loop.invariant
-    (run-listed _ _ _ _ _ _ at-row-at.row_at.ensures.run _ _ _
+    let row = row_first _ _ _ _ at-row-at.row_at.ensures _ at_rank.rank.ensures in
+    packed_next _ _ _ _ at-row-at.row_at.ensures _ row _ _ _ _ _ at-loop.loop.invariant
+    (run_listed _ _ _ _ _ _ at-row-at.row_at.ensures.run _ _ _
     (omega (
       arith,
-      run_room _ _ _ _ _ _ _ row _ at-row-at.row_at.ensures.run _ at-loop.loop.invariant.count-is,
+      run_room _ _ _ _ _ _ _ row _ at-row-at.row_at.ensures.run _ at-loop.loop.invariant.count_is,
       at-loop.loop.invariant.long,
     ))
-    (omega (arith, row.low, at-row-at.row_at.ensures.run.low, start.requires.0.accepted.cells-most))
+    (omega (arith, row.low, at-row-at.row_at.ensures.run.low, start.requires.0.accepted.cells_most))
     at-list-run.list-run.ensures)
 
 same_length : tie.Need-same-length invariant-loop decreases-loop
 same_length c =
     let at-sending-of = c.before.before.before.before in
     let start = at-sending-of.before.before.before.before.before.before in
-    c.before.loop.invariant.long ∙ sym (words-found _ _ _ _ at-sending-of.sending-of.ensures _ start.requires.1.1)
+    c.before.loop.invariant.long ∙ sym (words_found _ _ _ _ at-sending-of.sending-of.ensures _ start.requires.1.1)
 
 returns : tie.Need-returns invariant-loop decreases-loop
 returns c =
     let at-sending-of = c.before.before.before.before in
     let start = at-sending-of.before.before.before.before.before.before in
-    packed-end _ _ _ _ _ _ c.before.loop.invariant (mul-le-mul_right at-sending-of.sending-of.result.width c.loop-test.false)
-    ∙ ap (pack numbers) (sym (full-found _ _ _ _ at-sending-of.sending-of.ensures _ start.requires.1.1))
+    packed_end _ _ _ _ _ _ c.before.loop.invariant (mul-le-mul_right at-sending-of.sending-of.result.width c.loop-test.false)
+    ∙ ap (pack numbers) (sym (full_found _ _ _ _ at-sending-of.sending-of.ensures _ start.requires.1.1))
 
 pub list-box-spec : {M : Type 1} → statement M
 list-box-spec =

@@ -3,7 +3,7 @@ use Prim.Native.Nat.{◌-◌}
 use native.Mathlib.Omega.{arith}
 use Rattle.runs.proofs.Laws as runs
 use Rattle.runs.specs.listed.Numbers.{numbers}
-use Rattle.runs.proofs.listed.Numbers.{numbers-long}
+use Rattle.runs.proofs.listed.Numbers.{numbers_long}
 use Rattle.tables.proofs.message_cells.list_row.Statement.{statement}
 use Rattle.tables.proofs.message_cells.list_row.Tie as tie
 
@@ -18,7 +18,7 @@ add-to : tie.Need-overflow-add-to invariant-loop decreases-loop
 add-to c = omega (arith, c.before.requires.small)
 
 loop-holds : tie.Need-loop-init invariant-loop decreases-loop
-loop-holds c = runs.packing-none _ _ _ _ _ _ _ _ _
+loop-holds c = runs.packing_none _ _ _ _ _ _ _ _ _
 
 piece-of-requires : tie.Need-piece-of-requires invariant-loop decreases-loop
 piece-of-requires c κs = (c.before.before.before.requires.few, c.loop-test.true)
@@ -37,8 +37,8 @@ list-run-requires c κs =
     let start = c.before.before.before.before.before in
     let at-loop = c.before.before.before.loop in
     rw at-loop.invariant.first.long
-    (runs.packs-fit _ _ _ _ _ _ _ _ _ start.requires _ _ at-loop.invariant.from
-    at-loop.invariant.first.count-is _ _ c.before.piece_of.ensures)
+    (runs.packs_fit _ _ _ _ _ _ _ _ _ start.requires _ _ at-loop.invariant.from
+    at-loop.invariant.first.count_is _ _ c.before.piece_of.ensures)
 
 add-count : tie.Need-overflow-add-count invariant-loop decreases-loop
 add-count c =
@@ -48,7 +48,7 @@ add-count c =
     omega (
       arith,
       start.requires.short.1,
-      runs.piece-words _ _ _ _ _ _ _ _ _ start.requires _ _ at-loop.invariant.from at-loop.invariant.first.count-is _ _ at_piece.piece_of.ensures,
+      runs.piece_words _ _ _ _ _ _ _ _ _ start.requires _ _ at-loop.invariant.from at-loop.invariant.first.count_is _ _ at_piece.piece_of.ensures,
     )
 
 loop-less : tie.Need-loop-smaller invariant-loop decreases-loop
@@ -60,14 +60,14 @@ loop-again : tie.Need-loop-preserved invariant-loop decreases-loop
 loop-again c =
     let at_piece = c.before.before.before.before.before in
     let at-loop = at_piece.before.before in
-    runs.packing-more _ _ _ _ _ _ _ _ _ _ _ _ at-loop.loop.invariant (rw numbers-long at-loop.before.before.requires) _ _ at_piece.piece_of.ensures _
+    runs.packing_more _ _ _ _ _ _ _ _ _ _ _ _ at-loop.loop.invariant (rw numbers_long at-loop.before.before.requires) _ _ at_piece.piece_of.ensures _
     c.before.before.before.list-run.ensures
 
 same_length : tie.Need-same-length invariant-loop decreases-loop
 same_length c = c.before.loop.invariant.first.long
 
 returns : tie.Need-returns invariant-loop decreases-loop
-returns c = runs.packing-end _ _ _ _ _ _ _ _ _ _ _ _ c.before.loop.invariant c.loop-test.false
+returns c = runs.packing_end _ _ _ _ _ _ _ _ _ _ _ _ c.before.loop.invariant c.loop-test.false
 
 pub list-row-spec : {M : Type 1} → statement M
 list-row-spec =

@@ -2,11 +2,11 @@
 use Prim.Native.Nat.{◌-◌}
 use mathlib.Core.Path.{refl, sym, ◌∙◌}
 use native.Mathlib.Omega.{arith}
-use Rattle.parcels.proofs.Rows.{rows_few, row-ranked, row_number}
-use Rattle.parcels.proofs.shaped.Found.{Packing, packing-none, packing-row}
+use Rattle.parcels.proofs.Rows.{rows_few, row_ranked, row_number}
+use Rattle.parcels.proofs.shaped.Found.{Packing, packing_none, packing_row}
 use Rattle.parcels.proofs.shaped.Listing as L
 use Rattle.runs.specs.listed.Numbers.{numbers}
-use Rattle.tables.proofs.message_cells.Laws.{room-numbers}
+use Rattle.tables.proofs.message_cells.Laws.{room_numbers}
 use Rattle.tables.proofs.message_cells.list_shaped.Statement.{statement}
 use Rattle.tables.proofs.message_cells.list_shaped.Tie as tie
 
@@ -22,12 +22,12 @@ rows-at-requires c κs = c.before.requires.0
 sub-last : tie.Need-overflow-sub-last invariant-loop decreases-loop
 sub-last c =
     let start = c.before.before.before.before.before in
-    omega (arith, start.requires.0.0.accepted.dimensions-least)
+    omega (arith, start.requires.0.0.accepted.dimensions_least)
 
 loop-holds : tie.Need-loop-init invariant-loop decreases-loop
 loop-holds c =
     let at_rows = c.before.before.before in
-    packing-none _ _ _ _ (L.words-found _ _ _ _ at_rows.rows_at.ensures _ at_rows.before.before.requires.1)
+    packing_none _ _ _ _ (L.words_found _ _ _ _ at_rows.rows_at.ensures _ at_rows.before.before.requires.1)
 
 row-of-requires : tie.Need-row-of-requires invariant-loop decreases-loop
 row-of-requires c κs =
@@ -43,29 +43,29 @@ rank-requires : tie.Need-rank-requires invariant-loop decreases-loop
 rank-requires c κs =
     let at_row = c.before.before.before in
     let at_rows = at_row.before.before.before.before.before.before.before in
-    row-ranked _ _ _ _ at_row.row_of.ensures.place at_rows.before.before.requires.0.0.accepted at_rows.rows_at.ensures.shape
+    row_ranked _ _ _ _ at_row.row_of.ensures.place at_rows.before.before.requires.0.0.accepted at_rows.rows_at.ensures.shape
 
 mul-list-row : tie.Need-overflow-mul-list-row invariant-loop decreases-loop
 mul-list-row c =
     let start = c.before.before.before.before.before.before.before.before.before.before.before.before.before.before.before.before in
-    omega (arith, start.requires.0.0.accepted.dimensions-least, start.requires.0.0.accepted.dimensions-most)
+    omega (arith, start.requires.0.0.accepted.dimensions_least, start.requires.0.0.accepted.dimensions_most)
 
 array-read-list-row : tie.Need-array-read-list-row invariant-loop decreases-loop
 array-read-list-row c =
     let start = c.before.before.before.before.before.before.before.before.before.before.before.before.before.before.before.before in
-    omega (arith, start.requires.0.0.accepted.dimensions-least, start.requires.0.0.accepted.dimensions-most)
+    omega (arith, start.requires.0.0.accepted.dimensions_least, start.requires.0.0.accepted.dimensions_most)
 
 list-row-requires : tie.Need-list-row-requires invariant-loop decreases-loop
 list-row-requires c κs =
-    let at-rank = c.before.before.before in
-    let at_row = at-rank.before.before.before.before in
+    let at_rank = c.before.before.before in
+    let at_row = at_rank.before.before.before.before in
     let at_test = at_row.before.before in
     let at-loop = at_test.before.loop in
     let at_rows = at_test.before.before.before.before.before in
     let start = at_rows.before.before in
-    room-numbers start.args.nest start.requires.0.0.accepted _ _ _ _ _ _ _ _
+    room_numbers start.args.nest start.requires.0.0.accepted _ _ _ _ _ _ _ _
     (L.row_room _ start.requires.0.0.accepted _ at_rows.rows_at.ensures.shape _ at_test.loop-test.true _ _ _ _
-    at_row.row_of.ensures _ at-loop.invariant.counted _ at-rank.rank.ensures _ _ refl at-loop.invariant.long)
+    at_row.row_of.ensures _ at-loop.invariant.counted _ at_rank.rank.ensures _ _ refl at-loop.invariant.long)
 
 add_r : tie.Need-overflow-add-r invariant-loop decreases-loop
 add_r c =
@@ -80,27 +80,27 @@ loop-less c =
 
 loop-again : tie.Need-loop-preserved invariant-loop decreases-loop
 loop-again c =
-    let at-rank = c.before.before.before.before.before.before in
-    let at_row = at-rank.before.before.before.before in
+    let at_rank = c.before.before.before.before.before.before in
+    let at_row = at_rank.before.before.before.before in
     let at_test = at_row.before.before in
     let at-loop = at_test.before.loop in
     let at_rows = at_test.before.before.before.before.before in
     let start = at_rows.before.before in
-    packing-row _ _ start.requires.0.0.accepted at_rows.rows_at.ensures.shape _ at_test.loop-test.true _ _ _ _
+    packing_row _ _ start.requires.0.0.accepted at_rows.rows_at.ensures.shape _ at_test.loop-test.true _ _ _ _
     at_row.row_of.ensures _
-    (at-rank.rank.ensures ∙ row_number start.args.nest at_rows.rows_at.result at-loop.r _ at_row.row_of.ensures.place)
+    (at_rank.rank.ensures ∙ row_number start.args.nest at_rows.rows_at.result at-loop.r _ at_row.row_of.ensures.place)
     _ _ _ at-loop.invariant _ _ c.before.before.list-row.ensures
 
 same_length : tie.Need-same-length invariant-loop decreases-loop
 same_length c =
     let at_rows = c.before.before.before.before.before in
-    c.before.loop.invariant.long ∙ sym (L.words-found _ _ _ _ at_rows.rows_at.ensures _ at_rows.before.before.requires.1)
+    c.before.loop.invariant.long ∙ sym (L.words_found _ _ _ _ at_rows.rows_at.ensures _ at_rows.before.before.requires.1)
 
 returns : tie.Need-returns invariant-loop decreases-loop
 returns c =
     let at_rows = c.before.before.before.before.before in
     let start = at_rows.before.before in
-    L.packs-all _ start.requires.0.0.accepted _ _ _ at_rows.rows_at.ensures _ _ _ _ c.before.loop.invariant c.loop-test.false
+    L.packs_all _ start.requires.0.0.accepted _ _ _ at_rows.rows_at.ensures _ _ _ _ c.before.loop.invariant c.loop-test.false
 
 pub list-shaped-spec : {M : Type 1} → statement M
 list-shaped-spec =

@@ -18,7 +18,7 @@ abbrev decreases-loop : tie.decreases-loop
 decreases-loop lens slots m slot₀ number₀ offset₀ slot number offset = slots - slot
 
 loop-holds : tie.Need-loop-init invariant-loop decreases-loop
-loop-holds c = (omega arith, (omega arith, (omega arith, (omega arith, λ f h. L.sum-start f))))
+loop-holds c = (omega arith, (omega arith, (omega arith, (omega arith, λ f h. L.sum_start f))))
 
 mul-half-index : tie.Need-overflow-mul-half-index invariant-loop decreases-loop
 mul-half-index c = omega (arith, c.loop-test.true, c.before.before.requires.few, c.before.before.requires.long)
@@ -87,7 +87,7 @@ loop-again c =
               start.requires.short at-loop.loop.slot
                   at-loop-test.loop-test.true,
             ),
-            λ f h. L.sum-turn f at-loop.loop.slot at-loop.loop.number at-loop.loop.offset c.before.half-index.result c.if1.number
+            λ f h. L.sum_turn f at-loop.loop.slot at-loop.loop.number at-loop.loop.offset c.before.half-index.result c.if1.number
                 (at-loop.loop.invariant.1.1.1.1 f h) (c.before.half-index.ensures ∙ h.each at-loop.loop.slot at-loop-test.loop-test.true)
                 (⊎_elim (λ w. inl (w.0.taken, w.2)) (λ w. inr (w.0.left, w.1)) c.if1.branch),
           ),
@@ -97,7 +97,7 @@ loop-again c =
 
 returns-2 : tie.Need-returns-2 invariant-loop decreases-loop
 returns-2 c =
-    λ f h q. absurd (L.seek-nowhere f c.before.before.args.slots c.before.before.args.m c.before.loop.slot c.before.loop.number
+    λ f h q. absurd (L.seek_nowhere f c.before.before.args.slots c.before.before.args.m c.before.loop.slot c.before.loop.number
     c.before.loop.offset (c.before.loop.invariant.1.1.1.1 f h) c.before.loop.invariant.1.0 c.before.loop.invariant.0 c.loop-test.false q)
 
 pub nth-spec : {M : Type 1} → statement M

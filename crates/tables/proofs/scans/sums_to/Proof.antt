@@ -18,7 +18,7 @@ abbrev decreases-loop : tie.decreases-loop
 decreases-loop lens end s₀ messages₀ words₀ s messages words = end - s
 
 loop-holds : tie.Need-loop-init invariant-loop decreases-loop
-loop-holds c = (omega arith, (omega arith, (omega arith, λ f h. L.sum-start f)))
+loop-holds c = (omega arith, (omega arith, (omega arith, λ f h. L.sum_start f)))
 
 mul-half-index : tie.Need-overflow-mul-half-index invariant-loop decreases-loop
 mul-half-index c = omega (arith, c.loop-test.true, c.before.before.requires.few, c.before.before.requires.long)
@@ -69,7 +69,7 @@ loop-again c =
         ⊎_elim (λ w. omega (arith, w.1, at-loop.loop.invariant.1.0)) (λ w. omega (arith, w.1, at-loop.loop.invariant.1.0)) c.if1.branch,
         (
           omega (arith, at-loop.loop.invariant.1.1.0, c.before.half-index.ensures, start.requires.short at-loop.loop.s at-loop-test.loop-test.true),
-          λ f h. L.sum-turn f at-loop.loop.s at-loop.loop.messages at-loop.loop.words c.before.half-index.result c.if1.messages
+          λ f h. L.sum_turn f at-loop.loop.s at-loop.loop.messages at-loop.loop.words c.before.half-index.result c.if1.messages
               (at-loop.loop.invariant.1.1.1 f h) (c.before.half-index.ensures ∙ h.each at-loop.loop.s at-loop-test.loop-test.true)
               (⊎_elim (λ w. inl (w.0.taken, w.1)) (λ w. inr (w.0.left, w.1)) c.if1.branch),
         ),
@@ -81,7 +81,7 @@ returns c = (
   omega (arith, c.before.loop.invariant.0, c.before.loop.invariant.1.0, c.before.before.requires.few),
   (
     omega (arith, c.before.loop.invariant.0, c.before.loop.invariant.1.1.0, c.before.before.requires.few),
-    λ f h. L.sum-end f c.before.loop.s c.before.before.args.end _ _ c.before.loop.invariant.0 c.loop-test.false
+    λ f h. L.sum_end f c.before.loop.s c.before.before.args.end _ _ c.before.loop.invariant.0 c.loop-test.false
         (c.before.loop.invariant.1.1.1 f h),
   ),
 )

@@ -25,7 +25,7 @@ box-of-requires-2 c κs =
 add-if1 : tie.Need-overflow-add-if1 invariant-loop decreases-loop
 add-if1 c =
     let start = c.before.before.before.before in
-    omega (arith, c.box-of2.ensures.1, L.box-few _ start.requires.0, start.requires.1.1.1.0)
+    omega (arith, c.box-of2.ensures.1, L.box_few _ start.requires.0, start.requires.1.1.1.0)
 
 returns : tie.Need-returns invariant-loop decreases-loop
 returns c = omega (arith, c.before.before.loop-test.true)
@@ -33,7 +33,7 @@ returns c = omega (arith, c.before.before.loop-test.true)
 add-p : tie.Need-overflow-add-p invariant-loop decreases-loop
 add-p c =
     let start = c.before.before.before.before.before in
-    omega (arith, c.before.before.loop-test.true, start.requires.1.0, start.requires.0.tiles-most)
+    omega (arith, c.before.before.loop-test.true, start.requires.1.0, start.requires.0.tiles_most)
 
 loop-less : tie.Need-loop-smaller invariant-loop decreases-loop
 loop-less c = omega (arith, c.before.before.loop-test.true)

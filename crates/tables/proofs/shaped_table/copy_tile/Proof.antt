@@ -29,7 +29,7 @@ length-as-requires c κs =
           omega (
             arith,
             c.before.loop-test.true,
-            (L.ways-are start.args.nest start.requires.0.0.accepted start.args.sizes.ways start.args.sizes.route
+            (L.ways_are start.args.nest start.requires.0.0.accepted start.args.sizes.ways start.args.sizes.route
                 start.requires.0.0.ways start.requires.0.1.0),
           ),
           c.before.before.loop.invariant.0,
@@ -44,12 +44,12 @@ mul-lens c =
     let loop-test = c.before.before.loop-test in
     omega (
       arith,
-      (L.slot-place start.args.nest start.requires.0.0.accepted start.args.tile start.args.sizes.ways loop.way
-          (L.ways-are start.args.nest start.requires.0.0.accepted start.args.sizes.ways start.args.sizes.route start.requires.0.0.ways
+      (L.slot_place start.args.nest start.requires.0.0.accepted start.args.tile start.args.sizes.ways loop.way
+          (L.ways_are start.args.nest start.requires.0.0.accepted start.args.sizes.ways start.args.sizes.route start.requires.0.0.ways
           start.requires.0.1.0)
           start.requires.1.0 loop-test.true).0,
-      (L.slot-place start.args.nest start.requires.0.0.accepted start.args.tile start.args.sizes.ways loop.way
-          (L.ways-are start.args.nest start.requires.0.0.accepted start.args.sizes.ways start.args.sizes.route start.requires.0.0.ways
+      (L.slot_place start.args.nest start.requires.0.0.accepted start.args.tile start.args.sizes.ways loop.way
+          (L.ways_are start.args.nest start.requires.0.0.accepted start.args.sizes.ways start.args.sizes.route start.requires.0.0.ways
           start.requires.0.1.0)
           start.requires.1.0 loop-test.true).1,
     )
@@ -61,12 +61,12 @@ add-lens c =
     let loop-test = c.before.before.loop-test in
     omega (
       arith,
-      (L.slot-place start.args.nest start.requires.0.0.accepted start.args.tile start.args.sizes.ways loop.way
-          (L.ways-are start.args.nest start.requires.0.0.accepted start.args.sizes.ways start.args.sizes.route start.requires.0.0.ways
+      (L.slot_place start.args.nest start.requires.0.0.accepted start.args.tile start.args.sizes.ways loop.way
+          (L.ways_are start.args.nest start.requires.0.0.accepted start.args.sizes.ways start.args.sizes.route start.requires.0.0.ways
           start.requires.0.1.0)
           start.requires.1.0 loop-test.true).0,
-      (L.slot-place start.args.nest start.requires.0.0.accepted start.args.tile start.args.sizes.ways loop.way
-          (L.ways-are start.args.nest start.requires.0.0.accepted start.args.sizes.ways start.args.sizes.route start.requires.0.0.ways
+      (L.slot_place start.args.nest start.requires.0.0.accepted start.args.tile start.args.sizes.ways loop.way
+          (L.ways_are start.args.nest start.requires.0.0.accepted start.args.sizes.ways start.args.sizes.route start.requires.0.0.ways
           start.requires.0.1.0)
           start.requires.1.0 loop-test.true).1,
     )
@@ -78,12 +78,12 @@ mul-lens-2 c =
     let loop-test = c.before.before.loop-test in
     omega (
       arith,
-      (L.slot-place start.args.nest start.requires.0.0.accepted start.args.tile start.args.sizes.ways loop.way
-          (L.ways-are start.args.nest start.requires.0.0.accepted start.args.sizes.ways start.args.sizes.route start.requires.0.0.ways
+      (L.slot_place start.args.nest start.requires.0.0.accepted start.args.tile start.args.sizes.ways loop.way
+          (L.ways_are start.args.nest start.requires.0.0.accepted start.args.sizes.ways start.args.sizes.route start.requires.0.0.ways
           start.requires.0.1.0)
           start.requires.1.0 loop-test.true).0,
-      (L.slot-place start.args.nest start.requires.0.0.accepted start.args.tile start.args.sizes.ways loop.way
-          (L.ways-are start.args.nest start.requires.0.0.accepted start.args.sizes.ways start.args.sizes.route start.requires.0.0.ways
+      (L.slot_place start.args.nest start.requires.0.0.accepted start.args.tile start.args.sizes.ways loop.way
+          (L.ways_are start.args.nest start.requires.0.0.accepted start.args.sizes.ways start.args.sizes.route start.requires.0.0.ways
           start.requires.0.1.0)
           start.requires.1.0 loop-test.true).1,
     )
@@ -94,8 +94,8 @@ element-write-lens c =
     let loop = c.before.before.before.loop in
     omega (
       arith,
-      (L.slot-place start.args.nest start.requires.0.0.accepted start.args.tile start.args.sizes.ways loop.way
-          (L.ways-are start.args.nest start.requires.0.0.accepted start.args.sizes.ways start.args.sizes.route start.requires.0.0.ways
+      (L.slot_place start.args.nest start.requires.0.0.accepted start.args.tile start.args.sizes.ways loop.way
+          (L.ways_are start.args.nest start.requires.0.0.accepted start.args.sizes.ways start.args.sizes.route start.requires.0.0.ways
           start.requires.0.1.0)
           start.requires.1.0 c.before.before.loop-test.true).1,
       loop.invariant.0.owned.tiled.numbers.long,
@@ -108,12 +108,12 @@ add-way c =
     let loop-test = c.before.before.loop-test in
     omega (
       arith,
-      (L.slot-place start.args.nest start.requires.0.0.accepted start.args.tile start.args.sizes.ways loop.way
-          (L.ways-are start.args.nest start.requires.0.0.accepted start.args.sizes.ways start.args.sizes.route start.requires.0.0.ways
+      (L.slot_place start.args.nest start.requires.0.0.accepted start.args.tile start.args.sizes.ways loop.way
+          (L.ways_are start.args.nest start.requires.0.0.accepted start.args.sizes.ways start.args.sizes.route start.requires.0.0.ways
           start.requires.0.1.0)
           start.requires.1.0 loop-test.true).0,
-      (L.slot-place start.args.nest start.requires.0.0.accepted start.args.tile start.args.sizes.ways loop.way
-          (L.ways-are start.args.nest start.requires.0.0.accepted start.args.sizes.ways start.args.sizes.route start.requires.0.0.ways
+      (L.slot_place start.args.nest start.requires.0.0.accepted start.args.tile start.args.sizes.ways loop.way
+          (L.ways_are start.args.nest start.requires.0.0.accepted start.args.sizes.ways start.args.sizes.route start.requires.0.0.ways
           start.requires.0.1.0)
           start.requires.1.0 loop-test.true).1,
     )
@@ -126,7 +126,7 @@ loop-again c =
     let start = c.before.before.before.before in
     let loop-test = c.before.before.loop-test in (
       L.fill_step _ start.requires.0.0.accepted _ _ _ _ _
-          (L.ways-are start.args.nest start.requires.0.0.accepted start.args.sizes.ways start.args.sizes.route start.requires.0.0.ways
+          (L.ways_are start.args.nest start.requires.0.0.accepted start.args.sizes.ways start.args.sizes.route start.requires.0.0.ways
           start.requires.0.1.0)
           c.before.before.before.loop.invariant.0 start.requires.1.0 loop-test.true c.length-as.ensures,
       omega (arith, loop-test.true),
@@ -136,8 +136,8 @@ returns : tie.Need-returns invariant-loop decreases-loop
 returns c =
     let start = c.before.before in
     let loop = c.before.loop in
-    L.fill-next _ start.requires.0.0.accepted _ _ _ _
-    (L.ways-are start.args.nest start.requires.0.0.accepted start.args.sizes.ways start.args.sizes.route start.requires.0.0.ways
+    L.fill_next _ start.requires.0.0.accepted _ _ _ _
+    (L.ways_are start.args.nest start.requires.0.0.accepted start.args.sizes.ways start.args.sizes.route start.requires.0.0.ways
     start.requires.0.1.0)
     loop.invariant.1 c.loop-test.false loop.invariant.0
 

@@ -3,7 +3,7 @@ use Prim.Native.Nat.{◌-◌, ◌≤◌}
 use mathlib.Core.Path.{◌≡◌, sym, ◌∙◌}
 use mathlib.Core.Logic.{⊎_elim, inl, inr}
 use native.Mathlib.Omega.{arith}
-use Rattle.plan.specs.Shaped.{shapedMessage, shapedSlots}
+use Rattle.plan.specs.Shaped.{shaped_message, shaped_slots}
 use Rattle.tables.specs.shaped_table.Table.{end_of}
 use Rattle.tables.proofs.scans.Laws.{seen}
 use Rattle.tables.proofs.shaped_table.Laws as L
@@ -12,7 +12,7 @@ use Rattle.tables.proofs.shaped_table.count_at.Statement.{statement}
 use Rattle.tables.proofs.shaped_table.count_at.Tie as tie
 
 abbrev invariant-loop : tie.invariant-loop
-invariant-loop nest sizes lens tile side steps end count₀ s₀ count s = (s ≤ end) × (count ≡ seen (shapedMessage nest) (shapedSlots nest) (end_of side) tile s)
+invariant-loop nest sizes lens tile side steps end count₀ s₀ count s = (s ≤ end) × (count ≡ seen (shaped_message nest) (shaped_slots nest) (end_of side) tile s)
 
 abbrev decreases-loop : tie.decreases-loop
 decreases-loop nest sizes lens tile side steps end count₀ s₀ count s = end - s
@@ -29,7 +29,7 @@ loop-holds : tie.Need-loop-init invariant-loop decreases-loop
 loop-holds c =
     let range-of = c.range-of in
     let start = c.before.before in
-    (range-of.ensures.first-low, L.range-start _ start.requires.0.accepted start.args.side start.args.tile _ _ range-of.ensures)
+    (range-of.ensures.first_low, L.range_start _ start.requires.0.accepted start.args.side start.args.tile _ _ range-of.ensures)
 
 sends-at-requires : tie.Need-sends-at-requires invariant-loop decreases-loop
 sends-at-requires c κs =
@@ -50,14 +50,14 @@ add-count c =
       L.seen_few _ start.requires.0.accepted start.args.side start.args.tile loop.s,
       c.before.before.loop-test.true,
       at-range-of.range-of.ensures.end_low,
-      L.slots-few _ start.requires.0.accepted,
+      L.slots_few _ start.requires.0.accepted,
     )
 
 add-s : tie.Need-overflow-add-s invariant-loop decreases-loop
 add-s c =
     let at-range-of = c.before.before.before.before in
     let start = at-range-of.before.before in
-    omega (arith, c.before.before.loop-test.true, at-range-of.range-of.ensures.end_low, L.slots-few _ start.requires.0.accepted)
+    omega (arith, c.before.before.loop-test.true, at-range-of.range-of.ensures.end_low, L.slots_few _ start.requires.0.accepted)
 
 loop-less : tie.Need-loop-smaller invariant-loop decreases-loop
 loop-less c = omega (arith, c.before.before.loop-test.true)
@@ -69,7 +69,7 @@ loop-again c =
     let start = at-range-of.before.before in
     let loop-test = c.before.before.loop-test in (
       omega (arith, loop-test.true),
-      L.seen-turn _ start.requires.0.accepted start.args.side start.args.tile _ _ _ _
+      L.seen_turn _ start.requires.0.accepted start.args.side start.args.tile _ _ _ _
           (omega (arith, loop-test.true, at-range-of.range-of.ensures.end_low)) at-loop.loop.invariant.1 c.before.sends-at.ensures
           (⊎_elim (λ w. inl (w.0.taken, w.1)) (λ w. inr (w.0.left, w.1)) c.if1.branch),
     )
@@ -78,7 +78,7 @@ returns : tie.Need-returns invariant-loop decreases-loop
 returns c =
     let start = c.before.before.before.before in
     let loop = c.before.loop in
-    L.ranged-all _ start.requires.0.accepted start.args.side start.args.tile _ _ c.before.before.range-of.ensures _ _ loop.invariant.0
+    L.ranged_all _ start.requires.0.accepted start.args.side start.args.tile _ _ c.before.before.range-of.ensures _ _ loop.invariant.0
     c.loop-test.false loop.invariant.1
 
 pub count-at-spec : {M : Type 1} → statement M

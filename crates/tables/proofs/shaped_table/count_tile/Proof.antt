@@ -41,7 +41,7 @@ slot-length-requires c κs =
             omega (
               arith,
               c.loop-test.true,
-              (L.ways-are start.args.nest start.requires.0.0.accepted start.args.sizes.ways start.args.sizes.route
+              (L.ways_are start.args.nest start.requires.0.0.accepted start.args.sizes.ways start.args.sizes.route
                   start.requires.0.0.ways start.requires.0.1.0),
             ),
           ),
@@ -51,7 +51,7 @@ slot-length-requires c κs =
     )
 
 cast-lens : tie.Need-overflow-cast-lens invariant-loop decreases-loop
-cast-lens c = omega (arith, c.slot-length.ensures.1)
+cast-lens c = omega (arith, c.slot_length.ensures.1)
 
 mul-lens : tie.Need-overflow-mul-lens invariant-loop decreases-loop
 mul-lens c =
@@ -60,12 +60,12 @@ mul-lens c =
     let loop-test = c.before.loop-test in
     omega (
       arith,
-      (L.slot-place start.args.nest start.requires.0.0.accepted start.args.tile start.args.sizes.ways loop.way
-          (L.ways-are start.args.nest start.requires.0.0.accepted start.args.sizes.ways start.args.sizes.route start.requires.0.0.ways
+      (L.slot_place start.args.nest start.requires.0.0.accepted start.args.tile start.args.sizes.ways loop.way
+          (L.ways_are start.args.nest start.requires.0.0.accepted start.args.sizes.ways start.args.sizes.route start.requires.0.0.ways
           start.requires.0.1.0)
           start.requires.1.0 loop-test.true).0,
-      (L.slot-place start.args.nest start.requires.0.0.accepted start.args.tile start.args.sizes.ways loop.way
-          (L.ways-are start.args.nest start.requires.0.0.accepted start.args.sizes.ways start.args.sizes.route start.requires.0.0.ways
+      (L.slot_place start.args.nest start.requires.0.0.accepted start.args.tile start.args.sizes.ways loop.way
+          (L.ways_are start.args.nest start.requires.0.0.accepted start.args.sizes.ways start.args.sizes.route start.requires.0.0.ways
           start.requires.0.1.0)
           start.requires.1.0 loop-test.true).1,
     )
@@ -77,12 +77,12 @@ add-lens c =
     let loop-test = c.before.loop-test in
     omega (
       arith,
-      (L.slot-place start.args.nest start.requires.0.0.accepted start.args.tile start.args.sizes.ways loop.way
-          (L.ways-are start.args.nest start.requires.0.0.accepted start.args.sizes.ways start.args.sizes.route start.requires.0.0.ways
+      (L.slot_place start.args.nest start.requires.0.0.accepted start.args.tile start.args.sizes.ways loop.way
+          (L.ways_are start.args.nest start.requires.0.0.accepted start.args.sizes.ways start.args.sizes.route start.requires.0.0.ways
           start.requires.0.1.0)
           start.requires.1.0 loop-test.true).0,
-      (L.slot-place start.args.nest start.requires.0.0.accepted start.args.tile start.args.sizes.ways loop.way
-          (L.ways-are start.args.nest start.requires.0.0.accepted start.args.sizes.ways start.args.sizes.route start.requires.0.0.ways
+      (L.slot_place start.args.nest start.requires.0.0.accepted start.args.tile start.args.sizes.ways loop.way
+          (L.ways_are start.args.nest start.requires.0.0.accepted start.args.sizes.ways start.args.sizes.route start.requires.0.0.ways
           start.requires.0.1.0)
           start.requires.1.0 loop-test.true).1,
     )
@@ -94,12 +94,12 @@ mul-lens-2 c =
     let loop-test = c.before.loop-test in
     omega (
       arith,
-      (L.slot-place start.args.nest start.requires.0.0.accepted start.args.tile start.args.sizes.ways loop.way
-          (L.ways-are start.args.nest start.requires.0.0.accepted start.args.sizes.ways start.args.sizes.route start.requires.0.0.ways
+      (L.slot_place start.args.nest start.requires.0.0.accepted start.args.tile start.args.sizes.ways loop.way
+          (L.ways_are start.args.nest start.requires.0.0.accepted start.args.sizes.ways start.args.sizes.route start.requires.0.0.ways
           start.requires.0.1.0)
           start.requires.1.0 loop-test.true).0,
-      (L.slot-place start.args.nest start.requires.0.0.accepted start.args.tile start.args.sizes.ways loop.way
-          (L.ways-are start.args.nest start.requires.0.0.accepted start.args.sizes.ways start.args.sizes.route start.requires.0.0.ways
+      (L.slot_place start.args.nest start.requires.0.0.accepted start.args.tile start.args.sizes.ways loop.way
+          (L.ways_are start.args.nest start.requires.0.0.accepted start.args.sizes.ways start.args.sizes.route start.requires.0.0.ways
           start.requires.0.1.0)
           start.requires.1.0 loop-test.true).1,
     )
@@ -110,8 +110,8 @@ element-write-lens c =
     let loop = c.before.before.loop in
     omega (
       arith,
-      (L.slot-place start.args.nest start.requires.0.0.accepted start.args.tile start.args.sizes.ways loop.way
-          (L.ways-are start.args.nest start.requires.0.0.accepted start.args.sizes.ways start.args.sizes.route start.requires.0.0.ways
+      (L.slot_place start.args.nest start.requires.0.0.accepted start.args.tile start.args.sizes.ways loop.way
+          (L.ways_are start.args.nest start.requires.0.0.accepted start.args.sizes.ways start.args.sizes.route start.requires.0.0.ways
           start.requires.0.1.0)
           start.requires.1.0 c.before.loop-test.true).1,
       loop.invariant.0.owned.tiled.numbers.long,
@@ -124,12 +124,12 @@ add-way c =
     let loop-test = c.before.loop-test in
     omega (
       arith,
-      (L.slot-place start.args.nest start.requires.0.0.accepted start.args.tile start.args.sizes.ways loop.way
-          (L.ways-are start.args.nest start.requires.0.0.accepted start.args.sizes.ways start.args.sizes.route start.requires.0.0.ways
+      (L.slot_place start.args.nest start.requires.0.0.accepted start.args.tile start.args.sizes.ways loop.way
+          (L.ways_are start.args.nest start.requires.0.0.accepted start.args.sizes.ways start.args.sizes.route start.requires.0.0.ways
           start.requires.0.1.0)
           start.requires.1.0 loop-test.true).0,
-      (L.slot-place start.args.nest start.requires.0.0.accepted start.args.tile start.args.sizes.ways loop.way
-          (L.ways-are start.args.nest start.requires.0.0.accepted start.args.sizes.ways start.args.sizes.route start.requires.0.0.ways
+      (L.slot_place start.args.nest start.requires.0.0.accepted start.args.tile start.args.sizes.ways loop.way
+          (L.ways_are start.args.nest start.requires.0.0.accepted start.args.sizes.ways start.args.sizes.route start.requires.0.0.ways
           start.requires.0.1.0)
           start.requires.1.0 loop-test.true).1,
     )
@@ -142,10 +142,10 @@ loop-again c =
     let start = c.before.before.before.before.before.before in
     let loop-test = c.before.loop-test in (
       L.fill_step _ start.requires.0.0.accepted _ _ _ _ _
-          (L.ways-are start.args.nest start.requires.0.0.accepted start.args.sizes.ways start.args.sizes.route start.requires.0.0.ways
+          (L.ways_are start.args.nest start.requires.0.0.accepted start.args.sizes.ways start.args.sizes.route start.requires.0.0.ways
           start.requires.0.1.0)
           c.before.before.loop.invariant.0 start.requires.1.0 loop-test.true
-          (c.slot-length.ensures.0 start.args.tile start.requires.1.0 (sym c.before.before.before.before.box_of.ensures.0)),
+          (c.slot_length.ensures.0 start.args.tile start.requires.1.0 (sym c.before.before.before.before.box_of.ensures.0)),
       omega (arith, loop-test.true),
     )
 
@@ -153,8 +153,8 @@ returns : tie.Need-returns invariant-loop decreases-loop
 returns c =
     let start = c.before.before.before.before.before in
     let loop = c.before.loop in
-    L.fill-next _ start.requires.0.0.accepted _ _ _ _
-    (L.ways-are start.args.nest start.requires.0.0.accepted start.args.sizes.ways start.args.sizes.route start.requires.0.0.ways
+    L.fill_next _ start.requires.0.0.accepted _ _ _ _
+    (L.ways_are start.args.nest start.requires.0.0.accepted start.args.sizes.ways start.args.sizes.route start.requires.0.0.ways
     start.requires.0.1.0)
     loop.invariant.1 c.loop-test.false loop.invariant.0
 

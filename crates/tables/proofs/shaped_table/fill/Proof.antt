@@ -19,7 +19,7 @@ abbrev decreases-loop : tie.decreases-loop
 decreases-loop nest sizes lens₀ most n by line₀ back₀ tile₀ lens line back tile = n - tile
 
 slice-aggregate-mark-tiles : tie.Need-slice-aggregate-mark-tiles invariant-loop decreases-loop
-slice-aggregate-mark-tiles c = sym (L.zeros-long _ refl)
+slice-aggregate-mark-tiles c = sym (L.zeros_long _ refl)
 
 mark-tiles-requires : tie.Need-mark-tiles-requires invariant-loop decreases-loop
 mark-tiles-requires c κs = (c.before.requires.0.accepted, refl)
@@ -56,7 +56,7 @@ loop-holds : tie.Need-loop-init invariant-loop decreases-loop
 loop-holds c =
     let start = c.before.before.before.before.before.before.before.before.before.before.before.before in
     let at-owners = c.before.before.before.before in
-    (L.filling-none _ start.requires.0.accepted _ at-owners.fill-owners.ensures, (omega arith, (R.lined-none _, omega arith)))
+    (L.filling_none _ start.requires.0.accepted _ at-owners.fill-owners.ensures, (omega arith, (R.lined_none _, omega arith)))
 
 box-of-requires : tie.Need-box-of-requires invariant-loop decreases-loop
 box-of-requires c κs =
@@ -120,7 +120,7 @@ returns : tie.Need-returns invariant-loop decreases-loop
 returns c =
     let at-tiles-of = c.before.before.before in
     let start = at-tiles-of.before.before.before.before.before.before.before.before.before.before.before in
-    L.filling-end _ start.requires.0.accepted _ _ c.before.loop.invariant.0
+    L.filling_end _ start.requires.0.accepted _ _ c.before.loop.invariant.0
     (mul-le-mul_right (directions start.args.nest) (omega (arith, at-tiles-of.tiles-of.ensures.0, c.loop-test.false)))
 
 pub fill_spec : {M : Type 1} → statement M

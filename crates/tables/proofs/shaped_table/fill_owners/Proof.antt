@@ -3,8 +3,8 @@ use Prim.Native.Nat.{ℕ, ◌-◌, ◌≤◌, ◌<◌}
 use mathlib.Core.Path.{ap, ◌∙◌}
 use native.Mathlib.Omega.{arith}
 use Rattle.nest.specs.Shape.{tiles}
-use Rattle.plan.specs.Geometry.{processorOf}
-use Rattle.plan.specs.Shaped.{boxTile}
+use Rattle.plan.specs.Geometry.{processor_of}
+use Rattle.plan.specs.Shaped.{box_tile}
 use Rattle.tables.specs.shaped_table.Table.{Owned}
 use Rattle.tables.specs.shaped_table.Lines.{OneProcessor}
 use Rattle.tables.proofs.shaped_table.Laws as L
@@ -14,7 +14,7 @@ use Rattle.tables.proofs.shaped_table.fill_owners.Tie as tie
 
 abbrev invariant-loop : tie.invariant-loop
 invariant-loop nest sizes lens₀ n owner₀ t₀ lens owner t =
-    Owned nest lens t × ((t ≤ n) × ((s : ℕ) → t ≤ s → s < tiles nest → OneProcessor nest (boxTile nest s) owner.number owner.end))
+    Owned nest lens t × ((t ≤ n) × ((s : ℕ) → t ≤ s → s < tiles nest → OneProcessor nest (box_tile nest s) owner.number owner.end))
 
 abbrev decreases-loop : tie.decreases-loop
 decreases-loop nest sizes lens₀ n owner₀ t₀ lens owner t = n - t
@@ -25,7 +25,7 @@ tiles-of-requires c κs = (c.before.requires.0.accepted, c.before.requires.1)
 loop-holds : tie.Need-loop-init invariant-loop decreases-loop
 loop-holds c =
     let start = c.before.before in (
-      L.owned-none _ start.requires.0.accepted _ start.requires.1,
+      L.owned_none _ start.requires.0.accepted _ start.requires.1,
       (omega arith, λ s h l. R.held_none start.args.nest start.requires.0.accepted _),
     )
 
@@ -52,7 +52,7 @@ owner-at-requires c κs =
       start.requires.0,
       (
         c.box_of.ensures.1,
-        R.held-later start.args.nest start.requires.0.accepted _ _ _ _
+        R.held_later start.args.nest start.requires.0.accepted _ _ _ _
             (loop.invariant.1.1 loop.t (omega arith) (omega (arith, at-tiles-of.tiles-of.ensures.0, c.before.before.loop-test.true)))
             (omega (arith, c.box_of.ensures.0)),
       ),
@@ -61,7 +61,7 @@ owner-at-requires c κs =
 cast-lens : tie.Need-overflow-cast-lens invariant-loop decreases-loop
 cast-lens c =
     let start = c.before.before.before.before.before.before.before.before in
-    omega (arith, c.before.owner_at.ensures.1.0, start.requires.0.accepted.processors-most)
+    omega (arith, c.before.owner_at.ensures.1.0, start.requires.0.accepted.processors_most)
 
 add-lens : tie.Need-overflow-add-lens invariant-loop decreases-loop
 add-lens c =
@@ -104,8 +104,8 @@ loop-again c =
     let tiles-of = at-tiles-of.tiles-of in
     let loop-test = at-loop-test.loop-test in
     let box_of = c.before.before.box_of in (
-      L.owned-more _ start.requires.0.accepted _ _ _ loop.invariant.0 (omega (arith, tiles-of.ensures.0, loop-test.true)) (c.before.owner_at.ensures.0
-          ∙ ap (processorOf _) box_of.ensures.0),
+      L.owned_more _ start.requires.0.accepted _ _ _ loop.invariant.0 (omega (arith, tiles-of.ensures.0, loop-test.true)) (c.before.owner_at.ensures.0
+          ∙ ap (processor_of _) box_of.ensures.0),
       (
         omega (arith, loop-test.true),
         R.held_next start.args.nest start.requires.0.accepted loop.t _ _ _
@@ -116,7 +116,7 @@ loop-again c =
 returns : tie.Need-returns invariant-loop decreases-loop
 returns c =
     let start = c.before.before.before.before in
-    L.owned-end _ start.requires.0.accepted _ _ c.before.loop.invariant.0 (omega (arith, c.before.before.tiles-of.ensures.0, c.loop-test.false))
+    L.owned_end _ start.requires.0.accepted _ _ c.before.loop.invariant.0 (omega (arith, c.before.before.tiles-of.ensures.0, c.loop-test.false))
 
 pub fill-owners-spec : {M : Type 1} → statement M
 fill-owners-spec =

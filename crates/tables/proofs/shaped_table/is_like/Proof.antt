@@ -28,7 +28,7 @@ box-of-requires-2 c κs =
 add-result : tie.Need-overflow-add-result
 add-result c =
     let start = c.before.before.before.before.before.before.before.before in
-    omega (arith, c.before.box-of2.ensures.1, L.box-few _ start.requires.0, start.requires.1.1.1.0.few)
+    omega (arith, c.before.box-of2.ensures.1, L.box_few _ start.requires.0, start.requires.1.1.1.0.few)
 
 returns-4 : tie.Need-returns-4
 returns-4 c =

@@ -2,7 +2,7 @@
 use Prim.Native.Nat.{◌-◌, ◌+◌}
 use mathlib.Core.Path.{sym, ◌∙◌}
 use mathlib.Core.Logic.{⊎_elim, inl, inr}
-use Rattle.nest.proofs.Shapes.{box-tiles-most}
+use Rattle.nest.proofs.Shapes.{box_tiles_most}
 use native.Mathlib.Omega.{arith}
 use borrow.Author.Rules.{rules}
 use Rattle.tables.proofs.shaped_table.Laws as L
@@ -27,7 +27,7 @@ is-marked-requires c κs = (
 cast-lens : tie.Need-overflow-cast-lens invariant-loop decreases-loop
 cast-lens c =
     let start = c.before.before.before.before.before in
-    omega (arith, c.before.before.loop-test.true, start.requires.0.tiles, box-tiles-most _ start.requires.0.accepted)
+    omega (arith, c.before.before.loop-test.true, start.requires.0.tiles, box_tiles_most _ start.requires.0.accepted)
 
 add-lens : tie.Need-overflow-add-lens invariant-loop decreases-loop
 add-lens c =
@@ -36,7 +36,7 @@ add-lens c =
     omega (
       arith,
       at-loop.loop.invariant.tiled.long,
-      L.listing-room _ start.requires.0.accepted _ _ _ at-loop.loop.invariant
+      L.listing_room _ start.requires.0.accepted _ _ _ at-loop.loop.invariant
           (omega (arith, c.before.before.loop-test.true, start.requires.0.tiles)) (sym c.before.is-marked.ensures ∙ c.if1.true),
     )
 
@@ -47,7 +47,7 @@ mul-lens c =
     omega (
       arith,
       at-loop.loop.invariant.tiled.long,
-      L.listing-room _ start.requires.0.accepted _ _ _ at-loop.loop.invariant
+      L.listing_room _ start.requires.0.accepted _ _ _ at-loop.loop.invariant
           (omega (arith, c.before.before.loop-test.true, start.requires.0.tiles)) (sym c.before.is-marked.ensures ∙ c.if1.true),
     )
 
@@ -58,7 +58,7 @@ element-write-lens c =
     omega (
       arith,
       at-loop.loop.invariant.tiled.long,
-      L.listing-room _ start.requires.0.accepted _ _ _ at-loop.loop.invariant
+      L.listing_room _ start.requires.0.accepted _ _ _ at-loop.loop.invariant
           (omega (arith, c.before.before.loop-test.true, start.requires.0.tiles)) (sym c.before.is-marked.ensures ∙ c.if1.true),
     )
 
@@ -69,14 +69,14 @@ add-count c =
     omega (
       arith,
       at-loop.loop.invariant.tiled.long,
-      L.listing-room _ start.requires.0.accepted _ _ _ at-loop.loop.invariant
+      L.listing_room _ start.requires.0.accepted _ _ _ at-loop.loop.invariant
           (omega (arith, c.before.before.loop-test.true, start.requires.0.tiles)) (sym c.before.is-marked.ensures ∙ c.if1.true),
     )
 
 add-u : tie.Need-overflow-add-u invariant-loop decreases-loop
 add-u c =
     let start = c.before.before.before.before.before in
-    omega (arith, c.before.before.loop-test.true, start.requires.0.tiles, box-tiles-most _ start.requires.0.accepted)
+    omega (arith, c.before.before.loop-test.true, start.requires.0.tiles, box_tiles_most _ start.requires.0.accepted)
 
 loop-less : tie.Need-loop-smaller invariant-loop decreases-loop
 loop-less c = omega (arith, c.before.before.loop-test.true)
@@ -85,14 +85,14 @@ loop-again : tie.Need-loop-preserved invariant-loop decreases-loop
 loop-again c =
     let at-loop = c.before.before.before in
     let start = at-loop.before.before in
-    L.listing-turn _ start.requires.0.accepted _ _ _ at-loop.loop.invariant (omega (arith, c.before.before.loop-test.true, start.requires.0.tiles)) _
+    L.listing_turn _ start.requires.0.accepted _ _ _ at-loop.loop.invariant (omega (arith, c.before.before.loop-test.true, start.requires.0.tiles)) _
     c.before.is-marked.ensures _ _ (⊎_elim (λ w. inl (w.0.taken, w.1, w.2)) (λ w. inr (w.0.left, w.1, w.2)) c.if1.branch)
 
 cast-lens-2 : tie.Need-overflow-cast-lens-2 invariant-loop decreases-loop
 cast-lens-2 c =
     omega (
       arith,
-      (L.listing-end _ c.before.before.before.requires.0.accepted _ _ _ _ c.before.loop.invariant c.before.before.before.requires.0.tiles
+      (L.listing_end _ c.before.before.before.requires.0.accepted _ _ _ _ c.before.loop.invariant c.before.before.before.requires.0.tiles
           c.loop-test.false).0,
     )
 
@@ -101,7 +101,7 @@ element-write-lens-2 c = omega (arith, c.before.loop.invariant.tiled.long)
 
 returns : tie.Need-returns invariant-loop decreases-loop
 returns c =
-    (L.listing-end _ c.before.before.before.requires.0.accepted _ _ _ _ c.before.loop.invariant c.before.before.before.requires.0.tiles
+    (L.listing_end _ c.before.before.before.requires.0.accepted _ _ _ _ c.before.loop.invariant c.before.before.before.requires.0.tiles
     c.loop-test.false).1
 
 pub list-tiles-spec : {M : Type 1} → statement M

@@ -3,7 +3,7 @@ use Prim.Native.Nat.{◌-◌, ◌≤◌}
 use mathlib.Core.Path.{◌≡◌, sym, ◌∙◌}
 use mathlib.Core.Logic.{⊎_elim, inl, inr}
 use native.Mathlib.Omega.{arith}
-use Rattle.plan.specs.Shaped.{shapedMessage, shapedSlots}
+use Rattle.plan.specs.Shaped.{shaped_message, shaped_slots}
 use Rattle.tables.specs.shaped_table.Table.{end_of}
 use Rattle.tables.proofs.scans.Laws as scan
 use Rattle.tables.proofs.scans.Laws.{not_yet}
@@ -14,7 +14,7 @@ use Rattle.tables.proofs.shaped_table.nth_at.Tie as tie
 
 abbrev invariant-loop : tie.invariant-loop
 invariant-loop nest sizes lens tile side j steps end seen₀ s₀ seen s = (s ≤ end) ×
-    ((seen ≤ j) × (seen ≡ scan.seen (shapedMessage nest) (shapedSlots nest) (end_of side) tile s))
+    ((seen ≤ j) × (seen ≡ scan.seen (shaped_message nest) (shaped_slots nest) (end_of side) tile s))
 
 abbrev decreases-loop : tie.decreases-loop
 decreases-loop nest sizes lens tile side j steps end seen₀ s₀ seen s = end - s
@@ -31,8 +31,8 @@ loop-holds : tie.Need-loop-init invariant-loop decreases-loop
 loop-holds c =
     let range-of = c.range-of in
     let start = c.before.before in (
-      range-of.ensures.first-low,
-      (omega arith, L.range-start _ start.requires.0.0.accepted start.args.side start.args.tile _ _ range-of.ensures),
+      range-of.ensures.first_low,
+      (omega arith, L.range_start _ start.requires.0.0.accepted start.args.side start.args.tile _ _ range-of.ensures),
     )
 
 sends-at-requires : tie.Need-sends-at-requires invariant-loop decreases-loop
@@ -54,7 +54,7 @@ mul-half-index c =
     let at-loop-test = c.before.before.before.before in
     let at-range-of = at-loop-test.before.before in
     let start = at-range-of.before.before in
-    omega (arith, at-loop-test.loop-test.true, at-range-of.range-of.ensures.end_low, L.slots-few _ start.requires.0.0.accepted)
+    omega (arith, at-loop-test.loop-test.true, at-range-of.range-of.ensures.end_low, L.slots_few _ start.requires.0.0.accepted)
 
 element-copy-out-half-index : tie.Need-element-copy-out-half-index invariant-loop decreases-loop
 element-copy-out-half-index c =
@@ -65,7 +65,7 @@ element-copy-out-half-index c =
       arith,
       at-loop-test.loop-test.true,
       at-range-of.range-of.ensures.end_low,
-      L.slots-few _ start.requires.0.0.accepted,
+      L.slots_few _ start.requires.0.0.accepted,
       start.requires.0.1.1.0.owned.tiled.numbers.long,
     )
 
@@ -85,9 +85,9 @@ returns c =
     let loop-test = at-loop-test.loop-test in
     let range-of = at-range-of.range-of in
     let f = at-sends-at.sends-at.ensures.0 at-if1.if1.true in
-    L.seen-found _ start.requires.0.0.accepted start.args.side start.args.tile loop.s loop.seen start.args.j _ _ _
+    L.seen_found _ start.requires.0.0.accepted start.args.side start.args.tile loop.s loop.seen start.args.j _ _ _
     (omega (arith, loop-test.true, range-of.ensures.end_low)) loop.invariant.1.1 at-if2.if2.true f.0 f.1
-    (c.before.before.sums-to.ensures.1.1 (shapedMessage start.args.nest) (L.lengths _ start.requires.0.0.accepted _ start.requires.0.1.1.0 _
+    (c.before.before.sums-to.ensures.1.1 (shaped_message start.args.nest) (L.lengths _ start.requires.0.0.accepted _ start.requires.0.1.1.0 _
     (omega (arith, loop-test.true, range-of.ensures.end_low)))) (c.half-index.ensures ∙ start.requires.0.1.1.0.each loop.s
     (omega (arith, loop-test.true, range-of.ensures.end_low)))
 
@@ -98,7 +98,7 @@ add-s : tie.Need-overflow-add-s invariant-loop decreases-loop
 add-s c =
     let at-range-of = c.before.before.before.before in
     let start = at-range-of.before.before in
-    omega (arith, c.before.before.loop-test.true, at-range-of.range-of.ensures.end_low, L.slots-few _ start.requires.0.0.accepted)
+    omega (arith, c.before.before.loop-test.true, at-range-of.range-of.ensures.end_low, L.slots_few _ start.requires.0.0.accepted)
 
 loop-less : tie.Need-loop-smaller invariant-loop decreases-loop
 loop-less c = omega (arith, c.before.before.loop-test.true)
@@ -115,7 +115,7 @@ loop-again c =
       (
         ⊎_elim (λ w. not_yet _ _ _ loop.invariant.1.0 w.1.left w.2) (λ w. omega (arith, w.1, loop.invariant.1.0))
             if1.branch,
-        L.seen-turn _ start.requires.0.0.accepted start.args.side start.args.tile _ _ _ _
+        L.seen_turn _ start.requires.0.0.accepted start.args.side start.args.tile _ _ _ _
             (omega (arith, loop-test.true, at-range-of.range-of.ensures.end_low)) loop.invariant.1.1 c.before.sends-at.ensures
             (⊎_elim (λ w. inl (w.0.taken, w.2)) (λ w. inr (w.0.left, w.1)) if1.branch),
       ),
@@ -126,7 +126,7 @@ returns-2 c =
     let start = c.before.before.before.before in
     let loop = c.before.loop in
     absurd
-    (L.ranged-nowhere _ start.requires.0.0.accepted start.args.side start.args.tile _ _ c.before.before.range-of.ensures _ _ _
+    (L.ranged_nowhere _ start.requires.0.0.accepted start.args.side start.args.tile _ _ c.before.before.range-of.ensures _ _ _
     loop.invariant.0 c.loop-test.false loop.invariant.1.1 loop.invariant.1.0 start.requires.1)
 
 pub nth-at-spec : {M : Type 1} → statement M

@@ -1,6 +1,6 @@
 -- `tables::shaped_table::owner_at` meets its contract.
 use native.Mathlib.Omega.{arith}
-use Rattle.plan.proofs.Tiles.{processorOf-low}
+use Rattle.plan.proofs.Tiles.{processor_of_low}
 use Rattle.tables.proofs.shaped_table.Lines as L
 use Rattle.tables.proofs.shaped_table.owner_at.Statement.{statement}
 use Rattle.tables.proofs.shaped_table.owner_at.Tie as tie
@@ -8,12 +8,12 @@ use Rattle.tables.proofs.shaped_table.owner_at.Tie as tie
 returns : tie.Need-returns
 returns c =
     let start = c.before.before in (
-      L.held-here start.args.nest start.requires.0.accepted _ _ _ start.requires.1.1 c.if1.true,
+      L.held_here start.args.nest start.requires.0.accepted _ _ _ start.requires.1.1 c.if1.true,
       (
         omega (
           arith,
-          L.held-here start.args.nest start.requires.0.accepted _ _ _ start.requires.1.1 c.if1.true,
-          processorOf-low start.args.nest start.requires.0.accepted start.args.tile,
+          L.held_here start.args.nest start.requires.0.accepted _ _ _ start.requires.1.1 c.if1.true,
+          processor_of_low start.args.nest start.requires.0.accepted start.args.tile,
         ),
         start.requires.1.1,
       ),
@@ -22,17 +22,17 @@ returns c =
 sub-n : tie.Need-overflow-sub-n
 sub-n c =
     let start = c.before.before.before.before in
-    omega (arith, start.requires.0.accepted.dimensions-least, start.requires.0.accepted.dimensions-most)
+    omega (arith, start.requires.0.accepted.dimensions_least, start.requires.0.accepted.dimensions_most)
 
 mul-n : tie.Need-overflow-mul-n
 mul-n c =
     let start = c.before.before.before.before in
-    omega (arith, start.requires.0.accepted.dimensions-least, start.requires.0.accepted.dimensions-most)
+    omega (arith, start.requires.0.accepted.dimensions_least, start.requires.0.accepted.dimensions_most)
 
 array-read-n : tie.Need-array-read-n
 array-read-n c =
     let start = c.before.before.before.before in
-    omega (arith, start.requires.0.accepted.dimensions-least, start.requires.0.accepted.dimensions-most)
+    omega (arith, start.requires.0.accepted.dimensions_least, start.requires.0.accepted.dimensions_most)
 
 processor-of-requires : tie.Need-processor-of-requires
 processor-of-requires c κs =
@@ -66,7 +66,7 @@ returns-2 c =
       c.processor-of.ensures.0,
       (
         c.processor-of.ensures.1,
-        L.held-row start.args.nest start.requires.0.accepted start.args.tile _ _
+        L.held_row start.args.nest start.requires.0.accepted start.args.tile _ _
             (start.requires.0.across _ (L.inner start.args.nest start.requires.0.accepted)) c.processor-of.ensures.0,
       ),
     )

@@ -11,8 +11,8 @@ mul-first c =
     let start = c.before in
     omega (
       arith,
-      (L.range-room _ start.requires.0.accepted start.args.tile _ start.requires.1.1
-          (L.ways-are start.args.nest start.requires.0.accepted start.args.sizes.ways start.args.sizes.route start.requires.0.ways
+      (L.range_room _ start.requires.0.accepted start.args.tile _ start.requires.1.1
+          (L.ways_are start.args.nest start.requires.0.accepted start.args.sizes.ways start.args.sizes.route start.requires.0.ways
           start.requires.1.0)).0,
     )
 
@@ -21,23 +21,23 @@ add-end c =
     let start = c.before.before in
     omega (
       arith,
-      (L.range-room _ start.requires.0.accepted start.args.tile _ start.requires.1.1
-          (L.ways-are start.args.nest start.requires.0.accepted start.args.sizes.ways start.args.sizes.route start.requires.0.ways
+      (L.range_room _ start.requires.0.accepted start.args.tile _ start.requires.1.1
+          (L.ways_are start.args.nest start.requires.0.accepted start.args.sizes.ways start.args.sizes.route start.requires.0.ways
           start.requires.1.0)).1,
     )
 
 returns : tie.Need-returns
 returns c =
     let start = c.before.before.before in
-    L.range-own _ start.requires.0.accepted _ _ _ _ start.requires.1.1
-    (L.ways-are start.args.nest start.requires.0.accepted start.args.sizes.ways start.args.sizes.route start.requires.0.ways start.requires.1.0)
+    L.range_own _ start.requires.0.accepted _ _ _ _ start.requires.1.1
+    (L.ways_are start.args.nest start.requires.0.accepted start.args.sizes.ways start.args.sizes.route start.requires.0.ways start.requires.1.0)
     refl refl _ c.if1.true
 
 returns-2 : tie.Need-returns-2
 returns-2 c =
     let start = c.before.before.before in
     L.range_all _ start.requires.0.accepted _ _ _ _ start.requires.1.1
-    (L.ways-are start.args.nest start.requires.0.accepted start.args.sizes.ways start.args.sizes.route start.requires.0.ways start.requires.1.0)
+    (L.ways_are start.args.nest start.requires.0.accepted start.args.sizes.ways start.args.sizes.route start.requires.0.ways start.requires.1.0)
     refl refl _ c.if1.false
 
 pub range-of-spec : {M : Type 1} → statement M

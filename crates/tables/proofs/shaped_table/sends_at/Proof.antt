@@ -11,10 +11,10 @@ use Rattle.tables.proofs.shaped_table.sends_at.Statement.{statement}
 use Rattle.tables.proofs.shaped_table.sends_at.Tie as tie
 
 mul-if1 : tie.Need-overflow-mul-if1
-mul-if1 c = omega (arith, c.requires.1.0, L.slots-few _ c.requires.0.0.accepted, c.requires.0.1.1.0.owned.tiled.numbers.long)
+mul-if1 c = omega (arith, c.requires.1.0, L.slots_few _ c.requires.0.0.accepted, c.requires.0.1.1.0.owned.tiled.numbers.long)
 
 element-copy-out-if1 : tie.Need-element-copy-out-if1
-element-copy-out-if1 c = omega (arith, c.requires.1.0, L.slots-few _ c.requires.0.0.accepted, c.requires.0.1.1.0.owned.tiled.numbers.long)
+element-copy-out-if1 c = omega (arith, c.requires.1.0, L.slots_few _ c.requires.0.0.accepted, c.requires.0.1.1.0.owned.tiled.numbers.long)
 
 returns : tie.Need-returns
 returns c = (
@@ -27,7 +27,7 @@ has-end-requires c κs = (c.before.before.requires.0, c.before.before.requires.1
 
 returns-2 : tie.Need-returns-2
 returns-2 c =
-    let full = L.not-empty _ _ (c.before.before.before.requires.0.1.1.0.each c.before.before.before.args.slot
+    let full = L.not_empty _ _ (c.before.before.before.requires.0.1.1.0.each c.before.before.before.args.slot
     c.before.before.before.requires.1.0) c.before.if1.false in
     (λ t. (full, eqb-true _ _ (sym (c.has-end.ensures full) ∙ t)), λ q k. eqb-false _ _ (sym (c.has-end.ensures k) ∙ q))
 

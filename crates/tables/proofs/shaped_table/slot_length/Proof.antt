@@ -14,12 +14,12 @@ along-of-requires c κs = (c.requires.0.0, rw c.requires.0.1.0 c.requires.0.1.1.
 leaves-requires : tie.Need-leaves-requires
 leaves-requires c κs =
     let start = c.before.before in
-    omega (arith, start.requires.0.0.accepted.spread-low, start.requires.0.0.accepted.dimensions-most)
+    omega (arith, start.requires.0.0.accepted.spread_low, start.requires.0.0.accepted.dimensions_most)
 
 returns : tie.Need-returns
 returns c =
     let start = c.before.before.before.before in (
-      λ t h e. L.stays-none _ start.requires.0.0.accepted t start.args.way start.args.tile h start.requires.0.1.1.1 e _
+      λ t h e. L.stays_none _ start.requires.0.0.accepted t start.args.way start.args.tile h start.requires.0.1.1.1 e _
           (rw start.requires.0.1.0 at c.before.before.before.along-of.ensures) (sym c.before.leaves.ensures ∙ not-true _ c.if1.true),
       omega arith,
     )
@@ -27,7 +27,7 @@ returns c =
 beyond-last-requires : tie.Need-beyond-last-requires
 beyond-last-requires c κs =
     let start = c.before.before.before.before.before in (
-      omega (arith, start.requires.0.0.accepted.spread-low, start.requires.0.0.accepted.dimensions-most),
+      omega (arith, start.requires.0.0.accepted.spread_low, start.requires.0.0.accepted.dimensions_most),
       L.steps_low _ start.requires.0.0.accepted start.args.tile start.args.way _ _ start.args.sizes.across start.requires.1.1
           (rw start.requires.0.1.0 at c.before.before.before.before.along-of.ensures) start.requires.0.0.across,
     )
@@ -40,7 +40,7 @@ returns-2 c =
     let start = at-along-of.before in
     let along-of = at-along-of.along-of in (
       λ t h e. sym (ap length (L.leaves_all _ start.requires.0.0.accepted t start.args.way start.args.tile h start.requires.0.1.1.1 e _
-          (rw start.requires.0.1.0 at along-of.ensures) (sym at-leaves.leaves.ensures ∙ not-false _ at-if1.if1.false)) ∙ L.beyond-none _
+          (rw start.requires.0.1.0 at along-of.ensures) (sym at-leaves.leaves.ensures ∙ not-false _ at-if1.if1.false)) ∙ L.beyond_none _
           start.requires.0.0.accepted start.args.tile start.args.way _ _ start.args.sizes.across start.requires.1.1
           (rw start.requires.0.1.0 at along-of.ensures) start.requires.0.0.across (sym c.before.beyond-last.ensures ∙ c.if2.true)),
       omega arith,

@@ -1,7 +1,7 @@
 -- `tables::shaped_table::taker_of` meets its contract: none of the first t tiles.
 use Prim.Native.Nat.{ℕ, ◌-◌, ◌≤◌, ◌<◌}
 use mathlib.Core.Path.{refl, sym, ◌∙◌}
-use Rattle.plan.specs.Shaped.{boxTile}
+use Rattle.plan.specs.Shaped.{box_tile}
 use native.Mathlib.Omega.{arith}
 use borrow.Author.Rules.{rules}
 use Rattle.tables.proofs.shaped_table.Laws as L
@@ -9,7 +9,7 @@ use Rattle.tables.proofs.shaped_table.taker_of.Statement.{statement}
 use Rattle.tables.proofs.shaped_table.taker_of.Tie as tie
 
 abbrev invariant-loop : tie.invariant-loop
-invariant-loop nest lens slot from number n t₀ t = (t ≤ n) × ((i : ℕ) → i < t → boxTile nest i < number)
+invariant-loop nest lens slot from number n t₀ t = (t ≤ n) × ((i : ℕ) → i < t → box_tile nest i < number)
 
 abbrev decreases-loop : tie.decreases-loop
 decreases-loop nest lens slot from number n t₀ t = n - t
@@ -19,8 +19,8 @@ steps-of-requires c κs = (c.requires.0, c.requires.1.0)
 
 div-box-of : tie.Need-nonzero-div-box-of invariant-loop decreases-loop
 div-box-of c =
-    L.some-ways c.before.before.args.nest c.before.before.requires.0.accepted c.before.before.args.slot c.before.before.args.sizes.ways
-    (L.ways-are c.before.before.args.nest c.before.before.requires.0.accepted c.before.before.args.sizes.ways
+    L.some_ways c.before.before.args.nest c.before.before.requires.0.accepted c.before.before.args.slot c.before.before.args.sizes.ways
+    (L.ways_are c.before.before.args.nest c.before.before.requires.0.accepted c.before.before.args.sizes.ways
     c.before.before.args.sizes.route c.before.before.requires.0.ways c.before.before.requires.1.0) c.before.before.requires.1.1.1
 
 box-of-requires : tie.Need-box-of-requires invariant-loop decreases-loop
@@ -28,8 +28,8 @@ box-of-requires c κs = (
   c.before.before.requires.0.accepted,
   (
     c.before.before.requires.1.1.0.owned.tiled,
-    L.sender-low c.before.before.args.nest
-        c.before.before.requires.0.accepted c.before.before.args.slot c.before.before.args.sizes.ways (L.ways-are c.before.before.args.nest
+    L.sender_low c.before.before.args.nest
+        c.before.before.requires.0.accepted c.before.before.args.slot c.before.before.args.sizes.ways (L.ways_are c.before.before.args.nest
         c.before.before.requires.0.accepted c.before.before.args.sizes.ways c.before.before.args.sizes.route c.before.before.requires.0.ways
         c.before.before.requires.1.0) c.before.before.requires.1.1.1,
   ),
@@ -38,8 +38,8 @@ box-of-requires c κs = (
 rem-number : tie.Need-nonzero-rem-number invariant-loop decreases-loop
 rem-number c =
     let start = c.before.before.before.before in
-    L.some-ways start.args.nest start.requires.0.accepted start.args.slot start.args.sizes.ways
-    (L.ways-are start.args.nest start.requires.0.accepted start.args.sizes.ways start.args.sizes.route start.requires.0.ways
+    L.some_ways start.args.nest start.requires.0.accepted start.args.slot start.args.sizes.ways
+    (L.ways_are start.args.nest start.requires.0.accepted start.args.sizes.ways start.args.sizes.route start.requires.0.ways
     start.requires.1.0) start.requires.1.1.1
 
 mul-number : tie.Need-overflow-mul-number invariant-loop decreases-loop
@@ -47,10 +47,10 @@ mul-number c =
     let start = c.before.before.before.before in
     omega (
       arith,
-      L.way-low start.args.nest start.requires.0.accepted start.args.slot start.args.sizes.ways
-          (L.ways-are start.args.nest start.requires.0.accepted start.args.sizes.ways start.args.sizes.route start.requires.0.ways
+      L.way_low start.args.nest start.requires.0.accepted start.args.slot start.args.sizes.ways
+          (L.ways_are start.args.nest start.requires.0.accepted start.args.sizes.ways start.args.sizes.route start.requires.0.ways
           start.requires.1.0) start.requires.1.1.1,
-      L.dirs-few _ start.requires.0.accepted,
+      L.dirs_few _ start.requires.0.accepted,
     )
 
 array-read-number : tie.Need-array-read-number invariant-loop decreases-loop
@@ -58,10 +58,10 @@ array-read-number c =
     let start = c.before.before.before.before in
     omega (
       arith,
-      L.way-low start.args.nest start.requires.0.accepted start.args.slot start.args.sizes.ways
-          (L.ways-are start.args.nest start.requires.0.accepted start.args.sizes.ways start.args.sizes.route start.requires.0.ways
+      L.way_low start.args.nest start.requires.0.accepted start.args.slot start.args.sizes.ways
+          (L.ways_are start.args.nest start.requires.0.accepted start.args.sizes.ways start.args.sizes.route start.requires.0.ways
           start.requires.1.0) start.requires.1.1.1,
-      L.dirs-few _ start.requires.0.accepted,
+      L.dirs_few _ start.requires.0.accepted,
     )
 
 add-number : tie.Need-overflow-add-number invariant-loop decreases-loop
@@ -71,10 +71,10 @@ add-number c =
     omega (
       arith,
       c.before.box_of.ensures.1,
-      L.box-few _ start.requires.0.accepted,
-      L.step-most _ start.requires.0.accepted _
-          at-steps-of.steps_of.ensures _ (L.way-low start.args.nest start.requires.0.accepted start.args.slot start.args.sizes.ways
-          (L.ways-are start.args.nest start.requires.0.accepted start.args.sizes.ways start.args.sizes.route start.requires.0.ways
+      L.box_few _ start.requires.0.accepted,
+      L.step_most _ start.requires.0.accepted _
+          at-steps-of.steps_of.ensures _ (L.way_low start.args.nest start.requires.0.accepted start.args.slot start.args.sizes.ways
+          (L.ways_are start.args.nest start.requires.0.accepted start.args.sizes.ways start.args.sizes.route start.requires.0.ways
           start.requires.1.0) start.requires.1.1.1),
     )
 
@@ -98,8 +98,8 @@ returns c =
     let at-box-of = at-tiles-of.before.before in
     let at-steps-of = at-box-of.before.before in
     let start = at-steps-of.before in
-    λ full. sym (L.taker-here start.args.nest start.requires.0.accepted start.args.slot start.args.sizes.ways
-    (L.ways-are start.args.nest start.requires.0.accepted start.args.sizes.ways start.args.sizes.route start.requires.0.ways
+    λ full. sym (L.taker_here start.args.nest start.requires.0.accepted start.args.slot start.args.sizes.ways
+    (L.ways_are start.args.nest start.requires.0.accepted start.args.sizes.ways start.args.sizes.route start.requires.0.ways
     start.requires.1.0) start.requires.1.1.1 at-steps-of.steps_of.result at-steps-of.steps_of.ensures at-box-of.box_of.result _
     at-box-of.box_of.ensures.0 refl full at-loop.loop.t (omega (arith, at-tiles-of.tiles-of.ensures.0, c.before.before.loop-test.true))
     (omega (arith, c.before.box-of2.ensures.0, c.if1.true)) at-loop.loop.invariant.1)
@@ -122,8 +122,8 @@ returns-2 c =
     let at-box-of = c.before.before.before.before in
     let at-steps-of = at-box-of.before.before in
     let start = at-steps-of.before in
-    λ full. L.taker-some start.args.nest start.requires.0.accepted start.args.slot start.args.sizes.ways
-    (L.ways-are start.args.nest start.requires.0.accepted start.args.sizes.ways start.args.sizes.route start.requires.0.ways
+    λ full. L.taker_some start.args.nest start.requires.0.accepted start.args.slot start.args.sizes.ways
+    (L.ways_are start.args.nest start.requires.0.accepted start.args.sizes.ways start.args.sizes.route start.requires.0.ways
     start.requires.1.0) start.requires.1.1.1 at-steps-of.steps_of.result at-steps-of.steps_of.ensures at-box-of.box_of.result _
     at-box-of.box_of.ensures.0 refl full _
     (λ i h. c.before.loop.invariant.1 i (omega (arith, h, c.before.before.tiles-of.ensures.0, c.loop-test.false)))

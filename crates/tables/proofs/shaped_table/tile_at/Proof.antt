@@ -4,8 +4,8 @@ use mathlib.Core.Path.{◌≡◌, sym, ◌∙◌}
 use mathlib.Core.Logic.{⊎_elim, inl, inr}
 use lib.ListN.{length}
 use Rattle.base.specs.Tests.{those}
-use Rattle.plan.specs.Geometry.{processorOf}
-use Rattle.plan.specs.Shaped.{boxTile}
+use Rattle.plan.specs.Geometry.{processor_of}
+use Rattle.plan.specs.Shaped.{box_tile}
 use Rattle.tables.proofs.scans.Laws.{not_yet}
 use native.Mathlib.Omega.{arith}
 use borrow.Author.Rules.{rules}
@@ -15,7 +15,7 @@ use Rattle.tables.proofs.shaped_table.tile_at.Tie as tie
 
 abbrev invariant-loop : tie.invariant-loop
 invariant-loop nest lens processor finished n count₀ t₀ count t =
-    (t ≤ n) × ((count ≤ finished) × (count ≡ length (those (λ i. processorOf nest (boxTile nest i)) processor t)))
+    (t ≤ n) × ((count ≤ finished) × (count ≡ length (those (λ i. processor_of nest (box_tile nest i)) processor t)))
 
 abbrev decreases-loop : tie.decreases-loop
 decreases-loop nest lens processor finished n count₀ t₀ count t = n - t
@@ -24,7 +24,7 @@ tiles-of-requires : tie.Need-tiles-of-requires invariant-loop decreases-loop
 tiles-of-requires c κs = (c.requires.0.0, c.requires.0.1.owned.tiled)
 
 loop-holds : tie.Need-loop-init invariant-loop decreases-loop
-loop-holds c = (omega arith, (omega arith, L.own-start _ c.before.requires.0.0 _))
+loop-holds c = (omega arith, (omega arith, L.own_start _ c.before.requires.0.0 _))
 
 owner-of-requires : tie.Need-owner-of-requires invariant-loop decreases-loop
 owner-of-requires c κs = (
@@ -45,7 +45,7 @@ returns c =
     let at-loop = at-loop-test.before in
     let at-tiles-of = at-loop.before in
     let start = at-tiles-of.before in
-    L.own-found _ start.requires.0.0 _ _ _ _ (omega (arith, at-tiles-of.tiles-of.ensures.0, at-loop-test.loop-test.true)) at-loop.loop.invariant.1.1
+    L.own_found _ start.requires.0.0 _ _ _ _ (omega (arith, at-tiles-of.tiles-of.ensures.0, at-loop-test.loop-test.true)) at-loop.loop.invariant.1.1
     c.if2.true (sym c.before.before.owner_of.ensures.0 ∙ c.before.if1.true)
 
 add-count : tie.Need-overflow-add-count invariant-loop decreases-loop
@@ -72,7 +72,7 @@ loop-again c =
 
 returns-2 : tie.Need-returns-2 invariant-loop decreases-loop
 returns-2 c =
-    absurd (L.own-nowhere _ c.before.before.before.requires.0.0 _ _ _ _ (omega (arith, c.before.loop.invariant.0, c.before.before.tiles-of.ensures.0))
+    absurd (L.own_nowhere _ c.before.before.before.requires.0.0 _ _ _ _ (omega (arith, c.before.loop.invariant.0, c.before.before.tiles-of.ensures.0))
     (omega (arith, c.loop-test.false, c.before.before.tiles-of.ensures.0)) c.before.loop.invariant.1.1 c.before.loop.invariant.1.0
     c.before.before.before.requires.1)
 

@@ -4,9 +4,9 @@ use mathlib.Core.Path.{◌≡◌}
 use mathlib.Core.Logic.{⊎_elim, inl, inr}
 use lib.ListN.{length}
 use Rattle.base.specs.Tests.{those}
-use Rattle.base.proofs.Select.{those-few}
-use Rattle.plan.specs.Geometry.{processorOf}
-use Rattle.plan.specs.Shaped.{boxTile}
+use Rattle.base.proofs.Select.{those_few}
+use Rattle.plan.specs.Geometry.{processor_of}
+use Rattle.plan.specs.Shaped.{box_tile}
 use native.Mathlib.Omega.{arith}
 use borrow.Author.Rules.{rules}
 use Rattle.tables.proofs.shaped_table.Laws as L
@@ -14,7 +14,7 @@ use Rattle.tables.proofs.shaped_table.tile_count.Statement.{statement}
 use Rattle.tables.proofs.shaped_table.tile_count.Tie as tie
 
 abbrev invariant-loop : tie.invariant-loop
-invariant-loop nest lens processor n count₀ t₀ count t = (t ≤ n) × (count ≡ length (those (λ i. processorOf nest (boxTile nest i)) processor t))
+invariant-loop nest lens processor n count₀ t₀ count t = (t ≤ n) × (count ≡ length (those (λ i. processor_of nest (box_tile nest i)) processor t))
 
 abbrev decreases-loop : tie.decreases-loop
 decreases-loop nest lens processor n count₀ t₀ count t = n - t
@@ -23,7 +23,7 @@ tiles-of-requires : tie.Need-tiles-of-requires invariant-loop decreases-loop
 tiles-of-requires c κs = (c.requires.0, c.requires.1.owned.tiled)
 
 loop-holds : tie.Need-loop-init invariant-loop decreases-loop
-loop-holds c = (omega arith, L.own-start _ c.before.requires.0 _)
+loop-holds c = (omega arith, L.own_start _ c.before.requires.0 _)
 
 owner-of-requires : tie.Need-owner-of-requires invariant-loop decreases-loop
 owner-of-requires c κs = (
@@ -46,7 +46,7 @@ add-count c =
     omega (
       arith,
       at-loop.loop.invariant.1,
-      those-few (λ i. processorOf start.args.nest (boxTile start.args.nest i)) start.args.processor
+      those_few (λ i. processor_of start.args.nest (box_tile start.args.nest i)) start.args.processor
           at-loop.loop.t,
       c.before.before.loop-test.true,
       at-tiles-of.tiles-of.ensures.1,
@@ -69,7 +69,7 @@ loop-again c =
 
 returns : tie.Need-returns invariant-loop decreases-loop
 returns c =
-    L.own-end _ c.before.before.before.requires.0 _ _ _ (omega (arith, c.before.loop.invariant.0, c.before.before.tiles-of.ensures.0))
+    L.own_end _ c.before.before.before.requires.0 _ _ _ (omega (arith, c.before.loop.invariant.0, c.before.before.tiles-of.ensures.0))
     (omega (arith, c.loop-test.false, c.before.before.tiles-of.ensures.0)) c.before.loop.invariant.1
 
 pub tile-count-spec : {M : Type 1} → statement M

@@ -26,13 +26,13 @@ line-at-requires : tie.Need-line-at-requires
 line-at-requires c κs =
     let S = c.before.before.before.before.before in
     let nth = c.nth in
-    (S.requires.0, parts.placed-self S.args.sizes.route S.args.nest S.args.m nth.result nth.ensures)
+    (S.requires.0, parts.placed_self S.args.sizes.route S.args.nest S.args.m nth.result nth.ensures)
 
 returns-2 : tie.Need-returns-2
 returns-2 c =
     let S = c.before.before.before.before.before.before.before.before in
     let line_at_lem = c.before.before.line_at_lem in
-    λ ms l. taking.not-here (plan_of S.args.sizes.route S.args.nest) (state_of ms S.args.buffer.now l S.args.status.now)
+    λ ms l. taking.not_here (plan_of S.args.sizes.route S.args.nest) (state_of ms S.args.buffer.now l S.args.status.now)
     S.args.processor S.args.m S.args.words.now line_at_lem.result
     (line_at_lem.ensures ∙ ap (line_of (plan_of S.args.sizes.route S.args.nest)) c.before.before.before.nth.ensures.number)
     c.if2.true
@@ -47,7 +47,7 @@ returns-3 c =
     let at-if1 = at-nth.before in
     let S = at-if1.before.before.before.before in
     let line_at_lem = at-line-at.line_at_lem in
-    λ ms l. taking.came-before (plan_of S.args.sizes.route S.args.nest) (state_of ms S.args.buffer.now l S.args.status.now)
+    λ ms l. taking.came_before (plan_of S.args.sizes.route S.args.nest) (state_of ms S.args.buffer.now l S.args.status.now)
     S.args.processor S.args.m S.args.words.now line_at_lem.result
     (line_at_lem.ensures ∙ ap (line_of (plan_of S.args.sizes.route S.args.nest)) at-nth.nth.ensures.number)
     (omega (arith, at-if1.if1.false, S.requires.1.status)) c.before.before.if2.false c.if3.true
@@ -88,8 +88,8 @@ copy-words-requires c κs =
     let at-if1 = at-nth.before in
     let S = at-if1.before.before.before.before in
     let nth = at-nth.nth in
-    taking.place-long S.args.sizes.route S.args.nest S.args.m nth.result nth.ensures S.args.buffer.now S.requires.1.buffer
-    ∙ sym (taking.long-here (plan_of S.args.sizes.route S.args.nest) S.args.m S.args.words.now
+    taking.place_long S.args.sizes.route S.args.nest S.args.m nth.result nth.ensures S.args.buffer.now S.requires.1.buffer
+    ∙ sym (taking.long_here (plan_of S.args.sizes.route S.args.nest) S.args.m S.args.words.now
     (omega (arith, at-if1.if1.false, S.requires.1.status)) S.requires.1.long)
 
 slice-write-status : tie.Need-slice-write-status

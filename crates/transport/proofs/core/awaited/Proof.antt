@@ -5,7 +5,7 @@ use mathlib.Core.Path.{refl, ap, ◌∙◌}
 use Rattle.plan.specs.Shaped.{plan_of}
 use Rattle.machine.specs.Machine.{state_of}
 use Rattle.engine.proofs.Reading as reading
-use Rattle.transport.specs.Given.{waitedOr13}
+use Rattle.transport.specs.Given.{waited_or13}
 use Rattle.transport.proofs.Awaiting as waiting
 use Rattle.transport.proofs.Answers as answers
 use borrow.Author.Rules.{rules}
@@ -101,11 +101,11 @@ tell-awaited-requires c κs =
     let unasked = at-unasked.unasked in
     let if2 = at-if2.if2 in (
       planned,
-      waiting.may-ask (plan_of opens.result.sizes.route opens.result.nest)
+      waiting.may_ask (plan_of opens.result.sizes.route opens.result.nest)
           (state_of [] [] (take (A.progress.count - 0) (drop 0 A.progress.words)) A.status.now)
           A.marks.now unasked.result
           (unasked.ensures.0 (take (A.progress.count - 0) (drop 0 A.progress.words)) A.marks.now
-          (reading.part-carries A.progress S.requires (reading.few_words _ _ planned.0 A.progress.count
+          (reading.part_carries A.progress S.requires (reading.few_words _ _ planned.0 A.progress.count
           (unasked.ensures.1 if2.false))) refl) if2.false A.processor (omega (arith, planned.0.processors, at-if3.if3.false)),
     )
 
@@ -132,9 +132,9 @@ returns-4 c =
     (opens.ensures.opened at-if1.if1.false)
     unasked.result (unasked.ensures.0 l A.marks.now h refl) if2.false
     (omega (arith, planned.0.processors, at-if3.if3.false)) _ (at-tell-awaited.tell-awaited.ensures
-    ∙ ap (λ (k : List ℕ). waitedOr13 (plan_of opens.result.sizes.route opens.result.nest) (state_of [] [] k A.status.now)
+    ∙ ap (λ (k : List ℕ). waited_or13 (plan_of opens.result.sizes.route opens.result.nest) (state_of [] [] k A.status.now)
     A.processor A.marks.now)
-    (reading.part-is A.progress l (reading.few_words _ _ planned.0 A.progress.count (unasked.ensures.1 if2.false)) h))
+    (reading.part_is A.progress l (reading.few_words _ _ planned.0 A.progress.count (unasked.ensures.1 if2.false)) h))
 
 pub awaited-spec : {M : Type 1} → statement M
 awaited-spec =

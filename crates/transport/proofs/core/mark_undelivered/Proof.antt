@@ -26,7 +26,7 @@ loop-holds : tie.Need-loop-init invariant-loop decreases-loop
 loop-holds c =
     let S = c.before.before.before in
     let count_at = c.count_at in
-    waiting.mark-start (plan_of S.args.sizes.route S.args.nest) S.args.status.now S.args.tile S.args.marks.now
+    waiting.mark_start (plan_of S.args.sizes.route S.args.nest) S.args.status.now S.args.tile S.args.marks.now
     count_at.result count_at.ensures.0 S.requires.1.1
 
 nth-at-requires : tie.Need-nth-at-requires invariant-loop decreases-loop
@@ -62,7 +62,7 @@ loop-again c =
     let loop = at-loop.loop in
     let nth-at = c.before.before.nth-at in
     let if1 = c.if1 in
-    waiting.mark-next (plan_of S.args.sizes.route S.args.nest) S.args.status.now S.args.tile loop.marks at-count-at.count_at.result
+    waiting.mark_next (plan_of S.args.sizes.route S.args.nest) S.args.status.now S.args.tile loop.marks at-count-at.count_at.result
     loop.j loop.invariant at-loop-test.loop-test.true nth-at.result.number nth-at.ensures.number
     (omega (arith, nth-at.ensures.number, nth-at.ensures.low)) if1.marks (⊎_elim (λ w. inl (w.0.taken, w.1)) (λ w. inr (w.0.left, w.1))
     if1.branch)
@@ -76,7 +76,7 @@ returns : tie.Need-returns invariant-loop decreases-loop
 returns c =
     let S = c.before.before.before.before.before in
     let loop = c.before.loop in
-    waiting.mark-done (plan_of S.args.sizes.route S.args.nest) S.args.status.now S.args.tile loop.marks
+    waiting.mark_done (plan_of S.args.sizes.route S.args.nest) S.args.status.now S.args.tile loop.marks
     c.before.before.count_at.result loop.j loop.invariant c.loop-test.false
 
 pub mark-undelivered-spec : {M : Type 1} → statement M

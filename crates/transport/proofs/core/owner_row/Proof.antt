@@ -18,7 +18,7 @@ decreases-loop row₀ s processor none y₀ row y = length row₀ - y
 loop-holds : tie.Need-loop-init invariant-loop decreases-loop
 loop-holds c =
     let S = c.before in
-    stored.store-start (λ y. pick (within S.args.s y) S.args.processor S.args.none) S.args.row.now
+    stored.store_start (λ y. pick (within S.args.s y) S.args.processor S.args.none) S.args.row.now
 
 owner-at-requires : tie.Need-owner-at-requires invariant-loop decreases-loop
 owner-at-requires c κs = search rules
@@ -39,7 +39,7 @@ loop-again : tie.Need-loop-preserved invariant-loop decreases-loop
 loop-again c =
     let S = c.before.before.before.before in
     let loop = c.before.before.loop in
-    stored.store-next (λ y. pick (within S.args.s y) S.args.processor S.args.none) S.args.row.now loop.row loop.y _ loop.invariant
+    stored.store_next (λ y. pick (within S.args.s y) S.args.processor S.args.none) S.args.row.now loop.row loop.y _ loop.invariant
     (omega (arith, loop.invariant.long, c.before.loop-test.true)) c.owner_at.ensures
 
 same_length : tie.Need-same-length invariant-loop decreases-loop
@@ -49,7 +49,7 @@ returns : tie.Need-returns invariant-loop decreases-loop
 returns c =
     let S = c.before.before.before in
     let loop = c.before.loop in
-    stored.stored-all (λ y. pick (within S.args.s y) S.args.processor S.args.none) S.args.row.now loop.row loop.y
+    stored.stored_all (λ y. pick (within S.args.s y) S.args.processor S.args.none) S.args.row.now loop.row loop.y
     (length S.args.row.now) loop.invariant refl (omega (arith, loop.invariant.long, c.loop-test.false))
 
 pub owner-row-spec : {M : Type 1} → statement M

@@ -8,14 +8,14 @@ use Rattle.nest.proofs.Shapes.{framed}
 use Rattle.plan.specs.declared.Route.TheVariants.{Direct}
 use Rattle.plan.specs.Shaped.{plan_of}
 use Rattle.base.proofs.Stored as stored
-use Rattle.transport.specs.Calls.{ownerOf}
+use Rattle.transport.specs.Calls.{owner_of}
 use Rattle.transport.proofs.RowOwners as owners
 use borrow.Author.Rules.{rules}
 use Rattle.transport.proofs.core.put_owners.Statement.{statement}
 use Rattle.transport.proofs.core.put_owners.Tie as tie
 
 abbrev invariant-loop : tie.invariant-loop
-invariant-loop sizes out₀ nest none width rows q₀ out q = (q ≤ rows) × stored.Stored (ownerOf (plan_of Direct nest)) out₀ out (q * width)
+invariant-loop sizes out₀ nest none width rows q₀ out q = (q ≤ rows) × stored.Stored (owner_of (plan_of Direct nest)) out₀ out (q * width)
 
 abbrev decreases-loop : tie.decreases-loop
 decreases-loop sizes out₀ nest none width rows q₀ out q = rows - q
@@ -23,18 +23,18 @@ decreases-loop sizes out₀ nest none width rows q₀ out q = rows - q
 cast-none : tie.Need-overflow-cast-none invariant-loop decreases-loop
 cast-none c =
     let S = c.before.before in
-    omega (arith, S.requires.0.processors, S.requires.0.accepted.processors-most)
+    omega (arith, S.requires.0.processors, S.requires.0.accepted.processors_most)
 
 sub-width : tie.Need-overflow-sub-width invariant-loop decreases-loop
-sub-width c = omega (arith, c.before.before.requires.0.accepted.dimensions-least)
+sub-width c = omega (arith, c.before.before.requires.0.accepted.dimensions_least)
 
 mul-width : tie.Need-overflow-mul-width invariant-loop decreases-loop
-mul-width c = omega (arith, c.before.before.requires.0.accepted.dimensions-most)
+mul-width c = omega (arith, c.before.before.requires.0.accepted.dimensions_most)
 
 element-copy-out-width : tie.Need-element-copy-out-width invariant-loop decreases-loop
 element-copy-out-width c =
     let S = c.before.before in
-    omega (arith, S.requires.0.accepted.dimensions-least, S.requires.0.accepted.dimensions-most)
+    omega (arith, S.requires.0.accepted.dimensions_least, S.requires.0.accepted.dimensions_most)
 
 row-count-requires : tie.Need-row-count-requires invariant-loop decreases-loop
 row-count-requires c κs = framed _ c.before.before.before.requires.0.accepted
@@ -51,14 +51,14 @@ mul-c c =
     omega (
       arith,
       (owners.row_ends S.args.t1 S.requires.0.accepted row_count.result c.before.loop.q _ refl row_count.ensures c.loop-test.true),
-      S.requires.0.accepted.cells-most,
+      S.requires.0.accepted.cells_most,
     )
 
 row-place-requires : tie.Need-row-place-requires invariant-loop decreases-loop
 row-place-requires c κs = framed _ c.before.before.before.before.before.before.requires.0.accepted
 
 span-requires : tie.Need-span-requires invariant-loop decreases-loop
-span-requires c κs = (framed _ c.before.before.before.before.before.before.before.requires.0.accepted, c.row-place.ensures.narrow)
+span-requires c κs = (framed _ c.before.before.before.before.before.before.before.requires.0.accepted, c.row_place.ensures.narrow)
 
 tile-of-requires : tie.Need-tile-of-requires invariant-loop decreases-loop
 tile-of-requires c κs =
@@ -71,7 +71,7 @@ tile-of-requires c κs =
         arith,
         (owners.row_ends S.args.t1 S.requires.0.accepted row_count.result at-loop.loop.q _ refl row_count.ensures
             c.before.before.loop-test.true),
-        owners.wide-some S.args.t1 S.requires.0.accepted,
+        owners.wide_some S.args.t1 S.requires.0.accepted,
       ),
     )
 
@@ -91,7 +91,7 @@ add-end c =
       arith,
       (owners.row_ends S.args.t1 S.requires.0.accepted row_count.result at-loop.loop.q _ refl row_count.ensures
           at-loop-test.loop-test.true),
-      S.requires.0.accepted.cells-most,
+      S.requires.0.accepted.cells_most,
     )
 
 mul-owner-row : tie.Need-overflow-mul-owner-row invariant-loop decreases-loop
@@ -108,7 +108,7 @@ mul-owner-row c =
           at-loop-test.loop-test.true),
       loop.invariant.1.long,
       S.requires.1,
-      S.requires.0.accepted.cells-most,
+      S.requires.0.accepted.cells_most,
     )
 
 sub-owner-row : tie.Need-overflow-sub-owner-row invariant-loop decreases-loop
@@ -131,13 +131,13 @@ part-owner-row-end c =
           at-loop-test.loop-test.true),
       loop.invariant.1.long,
       S.requires.1,
-      S.requires.0.accepted.cells-most,
+      S.requires.0.accepted.cells_most,
     )
 
 cast-owner-row : tie.Need-overflow-cast-owner-row invariant-loop decreases-loop
 cast-owner-row c =
     let start = c.before.before.before.before.before.before.before.before.before.before.before in
-    omega (arith, c.before.processor-of.ensures.1, start.requires.0.accepted.processors-most)
+    omega (arith, c.before.processor-of.ensures.1, start.requires.0.accepted.processors_most)
 
 owner-row-requires : tie.Need-owner-row-requires invariant-loop decreases-loop
 owner-row-requires c κs =
@@ -147,16 +147,16 @@ owner-row-requires c κs =
     let S = at-row-count.before.before.before.before in
     let loop = at-loop.loop in
     let row_count = at-row-count.row_count in
-    owners.mid-few loop.out (loop.q * length_of S.args.t1 (last S.args.t1)) (length_of S.args.t1 (last S.args.t1))
+    owners.mid_few loop.out (loop.q * length_of S.args.t1 (last S.args.t1)) (length_of S.args.t1 (last S.args.t1))
     (omega (
       arith,
       (owners.row_ends S.args.t1 S.requires.0.accepted row_count.result loop.q _ refl row_count.ensures
           at-loop-test.loop-test.true),
       loop.invariant.1.long,
       S.requires.1,
-      S.requires.0.accepted.cells-most,
+      S.requires.0.accepted.cells_most,
     ))
-    (omega (arith, loop.invariant.1.long, S.requires.1, S.requires.0.accepted.cells-most))
+    (omega (arith, loop.invariant.1.long, S.requires.1, S.requires.0.accepted.cells_most))
 
 add-q : tie.Need-overflow-add-q invariant-loop decreases-loop
 add-q c =
@@ -183,14 +183,14 @@ loop-again c =
     let S = at-row-count.before.before.before.before in
     let loop-test = at-loop-test.loop-test in
     let loop = at-loop.loop in
-    let row-place = at-row-place.row-place in
+    let row_place = at-row-place.row_place in
     let span = at-span.span in
     let tile-of = at-tile-of.tile-of in
     let processor-of = at-processor-of.processor-of in
     let owner-row = c.before.before.owner-row in
     let row_count = at-row-count.row_count in (
       omega (arith, loop-test.true),
-      owners.row-stored S.args.t1 S.requires.0.accepted loop.q row-place.result row-place.ensures span.result
+      owners.row_stored S.args.t1 S.requires.0.accepted loop.q row_place.result row_place.ensures span.result
           span.ensures tile-of.result processor-of.result _ tile-of.ensures.0 processor-of.ensures.0 S.requires.0.processors
           S.args.out.now
           loop.out owner-row.new.0 _ _ refl refl loop.invariant.1

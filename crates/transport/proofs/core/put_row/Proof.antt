@@ -39,7 +39,7 @@ cast-store-row c = omega (arith, c.before.before.before.before.before.requires.1
 store-row-requires : tie.Need-store-row-requires
 store-row-requires c κs =
     let S = c.before.before.before.before.before in
-    rows.mid-six S.args.out.now (6 * S.args.place.number) (omega (arith, S.requires.0.1.low, S.requires.1.0))
+    rows.mid_six S.args.out.now (6 * S.args.place.number) (omega (arith, S.requires.0.1.low, S.requires.1.0))
 
 same_length : tie.Need-same-length
 same_length c = search rules
@@ -47,11 +47,11 @@ same_length c = search rules
 returns : tie.Need-returns
 returns c =
     let S = c.before.before.before.before.before.before.before.before in
-    let store-row = c.before.before.store-row in
+    let store_row = c.before.before.store_row in
     let line_at_lem = c.before.before.before.before.before.before.line_at_lem in
     rows.row_back (plan_of S.args.sizes.route S.args.nest) S.args.place.number (6 * S.args.place.number) S.args.out.now
-    store-row.new.0 line_at_lem.result S.args.place.offset refl (omega (arith, S.requires.0.1.low, S.requires.1.0)) store-row.auto.0
-    line_at_lem.ensures S.requires.0.1.offset store-row.ensures
+    store_row.new.0 line_at_lem.result S.args.place.offset refl (omega (arith, S.requires.0.1.low, S.requires.1.0)) store_row.auto.0
+    line_at_lem.ensures S.requires.0.1.offset store_row.ensures
 
 pub put-row-spec : {M : Type 1} → statement M
 put-row-spec =

@@ -29,7 +29,7 @@ mul-slots c =
 loop-holds : tie.Need-loop-init invariant-loop decreases-loop
 loop-holds c =
     let S = c.before.before.before in
-    rows.pass-start S.args.sizes.route S.args.nest S.args.lens.now (c.before.tiles-of.result * S.args.sizes.ways)
+    rows.pass_start S.args.sizes.route S.args.nest S.args.lens.now (c.before.tiles-of.result * S.args.sizes.ways)
     S.args.out.now
 
 mul-half-index : tie.Need-overflow-mul-half-index invariant-loop decreases-loop
@@ -153,7 +153,7 @@ loop-again c =
     let tiles-of = at-tiles-of.tiles-of in
     let half-index = c.before.half-index in
     let if1 = c.if1 in
-    rows.pass-next S.args.sizes.route S.args.nest S.args.lens.now _ S.args.out.now loop.out loop.slot loop.number loop.offset
+    rows.pass_next S.args.sizes.route S.args.nest S.args.lens.now _ S.args.out.now loop.out loop.slot loop.number loop.offset
     loop.invariant (rows.slotted S.args.nest S.args.sizes S.requires.0.0 S.args.lens.now S.requires.0.1 tiles-of.result tiles-of.ensures.0)
     at-loop-test.loop-test.true half-index.result half-index.ensures if1.out if1.number S.requires.1
     (⊎_elim (λ w. inl (w.0.taken, (w.5 ∙ w.2.ensures, w.6))) (λ w. inr (w.0.left, (w.1, w.2))) if1.branch)
@@ -166,7 +166,7 @@ returns c =
     let S = c.before.before.before.before.before in
     let loop = c.before.loop in
     let tiles-of = c.before.before.before.tiles-of in
-    rows.pass-done S.args.sizes.route S.args.nest S.args.lens.now _ S.args.out.now loop.out loop.slot loop.number
+    rows.pass_done S.args.sizes.route S.args.nest S.args.lens.now _ S.args.out.now loop.out loop.slot loop.number
     loop.offset loop.invariant
     (rows.slotted S.args.nest S.args.sizes S.requires.0.0 S.args.lens.now S.requires.0.1 tiles-of.result tiles-of.ensures.0)
     S.requires.1 c.loop-test.false

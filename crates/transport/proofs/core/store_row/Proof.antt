@@ -29,7 +29,7 @@ same_length c = search rules
 
 returns : tie.Need-returns
 returns c =
-    rows.six-set c.args.row.now c.args.line.sender c.args.line.taker c.args.line.from c.args.line.to c.args.line.words
+    rows.six_set c.args.row.now c.args.line.sender c.args.line.taker c.args.line.from c.args.line.to c.args.line.words
     c.args.offset c.requires
 
 pub store-row-spec : {M : Type 1} → statement M

@@ -41,7 +41,7 @@ returns-2 c =
     λ l h. answers.take-in-length A.encoded.now A.route A.source.now (state_of A.memories.now A.buffer.now l
     A.status.now) A.processor A.message A.words.now (plan_of opens.result.sizes.route opens.result.nest)
     (opens.ensures.opened at-if1.if1.false)
-    (sym (at-as-long.as_long.ensures A.words.now refl) ∙ not-true _ c.if2.true)
+    (sym (at-as-long.as_long_lem.ensures A.words.now refl) ∙ not-true _ c.if2.true)
 
 refusal-of-areas-requires : tie.Need-refusal-of-areas-requires
 refusal-of-areas-requires c κs =
@@ -72,7 +72,7 @@ returns-3 c =
     λ l h. answers.take-in-unfit A.encoded.now A.route A.source.now (state_of A.memories.now A.buffer.now l
     A.status.now) A.processor A.message A.words.now (plan_of opens.result.sizes.route opens.result.nest)
     (opens.ensures.opened at-if1.if1.false)
-    (sym (at-as-long.as_long.ensures A.words.now refl) ∙ not-false _ at-if2.if2.false) refusal-of-areas.result (refusal-of-areas.ensures.0 l h)
+    (sym (at-as-long.as_long_lem.ensures A.words.now refl) ∙ not-false _ at-if2.if2.false) refusal-of-areas.result (refusal-of-areas.ensures.0 l h)
     c.if3.true
 
 receive-requires : tie.Need-receive-requires
@@ -91,12 +91,12 @@ receive-requires c κs =
     let refusal-of-areas = at-refusal-of-areas.refusal-of-areas in
     let if3 = at-if3.if3 in (
       planned,
-      taking.may-take (plan_of opens.result.sizes.route opens.result.nest)
+      taking.may_take (plan_of opens.result.sizes.route opens.result.nest)
           A.source.now (state_of A.memories.now A.buffer.now
           (take (A.progress.count - 0) (drop 0 A.progress.words))
           A.status.now) refusal-of-areas.result (refusal-of-areas.ensures.0 (take (A.progress.count - 0) (drop 0 A.progress.words))
-          (reading.part-carries A.progress S.requires (reading.few_words _ _ planned.0 A.progress.count
-          (refusal-of-areas.ensures.1 if3.false)))) if3.false A.message A.words.now (sym (at-as-long.as_long.ensures A.words.now refl)
+          (reading.part_carries A.progress S.requires (reading.few_words _ _ planned.0 A.progress.count
+          (refusal-of-areas.ensures.1 if3.false)))) if3.false A.message A.words.now (sym (at-as-long.as_long_lem.ensures A.words.now refl)
           ∙ not-false _ at-if2.if2.false),
     )
 
@@ -122,7 +122,7 @@ returns-4 c =
     λ l h. answers.take-in-received A.encoded.now A.route A.source.now (state_of A.memories.now A.buffer.now
     l A.status.now) A.processor A.message A.words.now (plan_of opens.result.sizes.route opens.result.nest)
     (opens.ensures.opened at-if1.if1.false)
-    (sym (at-as-long.as_long.ensures A.words.now refl) ∙ not-false _ at-if2.if2.false) refusal-of-areas.result (refusal-of-areas.ensures.0 l h)
+    (sym (at-as-long.as_long_lem.ensures A.words.now refl) ∙ not-false _ at-if2.if2.false) refusal-of-areas.result (refusal-of-areas.ensures.0 l h)
     at-if3.if3.false _ (at-receive.receive.ensures A.memories.now l)
 
 pub take-in-spec : {M : Type 1} → statement M

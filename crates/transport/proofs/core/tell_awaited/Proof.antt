@@ -2,7 +2,7 @@
 use native.Mathlib.Omega.{arith}
 use Rattle.core.specs.Prelude.{ℕ, [], length, get_or, replicate}
 use mathlib.Core.Path.{◌∙◌, ap}
-use Rattle.machine.specs.Plan.{tilesOf}
+use Rattle.machine.specs.Plan.{tiles_of}
 use mathlib.Core.Logic.{⊎_elim, inl, inr}
 use Rattle.plan.specs.Shaped.{plan_of}
 use Rattle.machine.specs.Machine.{state_of}
@@ -14,12 +14,12 @@ use Rattle.transport.proofs.core.tell_awaited.Tie as tie
 mul-word-index : tie.Need-overflow-mul-word-index
 mul-word-index c =
     let S = c.before.before.before in
-    omega (arith, waiting.few-processors S.args.nest S.args.sizes S.requires.0.0 S.args.b S.requires.1.processor)
+    omega (arith, waiting.few_processors S.args.nest S.args.sizes S.requires.0.0 S.args.b S.requires.1.processor)
 
 mul-word-index-2 : tie.Need-overflow-mul-word-index-2
 mul-word-index-2 c =
     let S = c.before.before.before in
-    omega (arith, waiting.few-processors S.args.nest S.args.sizes S.requires.0.0 S.args.b S.requires.1.processor)
+    omega (arith, waiting.few_processors S.args.nest S.args.sizes S.requires.0.0 S.args.b S.requires.1.processor)
 
 shared-slice-read-word-index : tie.Need-shared-slice-read-word-index
 shared-slice-read-word-index c =
@@ -32,17 +32,17 @@ word-index-requires c κs = search rules
 mul-stage : tie.Need-overflow-mul-stage
 mul-stage c =
     let S = c.before.before.before.before.before in
-    omega (arith, waiting.few-processors S.args.nest S.args.sizes S.requires.0.0 S.args.b S.requires.1.processor)
+    omega (arith, waiting.few_processors S.args.nest S.args.sizes S.requires.0.0 S.args.b S.requires.1.processor)
 
 add-stage : tie.Need-overflow-add-stage
 add-stage c =
     let S = c.before.before.before.before.before in
-    omega (arith, waiting.few-processors S.args.nest S.args.sizes S.requires.0.0 S.args.b S.requires.1.processor)
+    omega (arith, waiting.few_processors S.args.nest S.args.sizes S.requires.0.0 S.args.b S.requires.1.processor)
 
 mul-stage-2 : tie.Need-overflow-mul-stage-2
 mul-stage-2 c =
     let S = c.before.before.before.before.before in
-    omega (arith, waiting.few-processors S.args.nest S.args.sizes S.requires.0.0 S.args.b S.requires.1.processor)
+    omega (arith, waiting.few_processors S.args.nest S.args.sizes S.requires.0.0 S.args.b S.requires.1.processor)
 
 shared-slice-read-stage : tie.Need-shared-slice-read-stage
 shared-slice-read-stage c =
@@ -80,7 +80,7 @@ cast-t15 c =
     omega (
       arith,
       c.before.before.before.before.before.tile-at.ensures.1,
-      waiting.few-tiles S.args.sizes.route S.args.nest S.requires.0.0.accepted,
+      waiting.few_tiles S.args.sizes.route S.args.nest S.requires.0.0.accepted,
     )
 
 same_length : tie.Need-same-length
@@ -102,7 +102,7 @@ returns-2 c =
     waiting.told (plan_of S.args.sizes.route S.args.nest) (state_of [] [] S.args.progress.now S.args.status.now) S.args.b
     S.args.marks.now tile-at.result if2.marks
     (omega (arith, at-if1.if1.false, at-tile-count.tile-count.ensures.0, word-index.ensures))
-    (tile-at.ensures.0 ∙ ap (λ (i : ℕ). get_or (tilesOf (plan_of S.args.sizes.route S.args.nest) S.args.b) i 0) word-index.ensures)
+    (tile-at.ensures.0 ∙ ap (λ (i : ℕ). get_or (tiles_of (plan_of S.args.sizes.route S.args.nest) S.args.b) i 0) word-index.ensures)
     (⊎_elim (λ w. inl (w.0.taken, w.5 ∙ w.2.ensures)) (λ w. inr (
       w.0.left,
       w.1 ∙ at-zero-bytes.zero-bytes.ensures ∙ ap (λ (n : ℕ). replicate n 0)

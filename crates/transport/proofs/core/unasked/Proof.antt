@@ -18,20 +18,20 @@ totals-requires c κs = c.before.requires.0
 mul-if1 : tie.Need-overflow-mul-if1
 mul-if1 c =
     let S = c.before.before.before.before in
-    omega (arith, S.requires.0.0.processors, S.requires.0.0.accepted.processors-most)
+    omega (arith, S.requires.0.0.processors, S.requires.0.0.accepted.processors_most)
 
 returns : tie.Need-returns
 returns c =
     let S = c.before.before.before.before.before in (
-      λ l ms h a. waiting.no-records (plan_of S.args.sizes.route S.args.nest) (state_of [] [] l S.args.status.now) ms
-          (λ q. c.if1.true (h.counted ∙ q ∙ sym (lines.records-are S.args.nest S.args.sizes S.requires.0.0))),
+      λ l ms h a. waiting.no_records (plan_of S.args.sizes.route S.args.nest) (state_of [] [] l S.args.status.now) ms
+          (λ q. c.if1.true (h.counted ∙ q ∙ sym (lines.records_are S.args.nest S.args.sizes S.requires.0.0))),
       λ q. absurd (omega arith),
     )
 
 returns-2 : tie.Need-returns-2
 returns-2 c =
     let S = c.before.before.before.before.before.before.before in (
-      λ l ms h a. waiting.no-status (plan_of S.args.sizes.route S.args.nest) (state_of [] [] l S.args.status.now) ms
+      λ l ms h a. waiting.no_status (plan_of S.args.sizes.route S.args.nest) (state_of [] [] l S.args.status.now) ms
           (λ q. c.if2.true (q ∙ sym c.before.before.before.before.before.totals.ensures.0)),
       λ q. absurd (omega arith),
     )
@@ -39,7 +39,7 @@ returns-2 c =
 returns-3 : tie.Need-returns-3
 returns-3 c =
     let S = c.before.before.before.before.before.before.before.before.before in (
-      λ l ms h a. waiting.no-marks (plan_of S.args.sizes.route S.args.nest) (state_of [] [] l S.args.status.now) ms
+      λ l ms h a. waiting.no_marks (plan_of S.args.sizes.route S.args.nest) (state_of [] [] l S.args.status.now) ms
           (λ q. c.if3.true (a ∙ q ∙ sym c.before.before.before.before.before.before.before.totals.ensures.0)),
       λ q. absurd (omega arith),
     )
@@ -57,7 +57,7 @@ part-fit-records-end c =
       arith,
       S.requires.1,
       (reading.few_words S.args.nest S.args.sizes S.requires.0.0 S.args.progress.count
-          (c.before.before.before.before.before.if1.false ∙ lines.records-are S.args.nest S.args.sizes S.requires.0.0)),
+          (c.before.before.before.before.before.if1.false ∙ lines.records_are S.args.nest S.args.sizes S.requires.0.0)),
     )
 
 fit-records-requires : tie.Need-fit-records-requires
@@ -67,11 +67,11 @@ fit-records-requires c κs =
       S.requires.0.0,
       (
         S.requires.0.1,
-        waiting.part-long S.args.progress S.requires.1
+        waiting.part_long S.args.progress S.requires.1
             (reading.few_words S.args.nest S.args.sizes S.requires.0.0 S.args.progress.count
-            (if1.false ∙ lines.records-are S.args.nest S.args.sizes S.requires.0.0))
+            (if1.false ∙ lines.records_are S.args.nest S.args.sizes S.requires.0.0))
             ∙ if1.false
-            ∙ lines.records-are S.args.nest S.args.sizes S.requires.0.0,
+            ∙ lines.records_are S.args.nest S.args.sizes S.requires.0.0,
       ),
     )
 
@@ -84,12 +84,12 @@ returns-4 c =
     let S = at_totals.before.before in
     let if1 = at-if1.if1 in
     let totals = at_totals.totals in (
-      λ l ms h a. waiting.unasked-10 (plan_of S.args.sizes.route S.args.nest) (state_of [] [] l S.args.status.now) ms
-          (sym h.counted ∙ if1.false ∙ lines.records-are S.args.nest S.args.sizes S.requires.0.0) (at-if2.if2.false ∙ totals.ensures.0)
-          (sym a ∙ at-if3.if3.false ∙ totals.ensures.0) (lines.unfit-record (plan_of S.args.sizes.route S.args.nest)
-          (state_of [] [] l S.args.status.now) (reading.fits-as (plan_of S.args.sizes.route S.args.nest) _ l
-          (reading.part-is S.args.progress l (reading.few_words S.args.nest S.args.sizes S.requires.0.0 S.args.progress.count
-          (if1.false ∙ lines.records-are S.args.nest S.args.sizes S.requires.0.0)) h) ∙ sym c.before.fit-records.ensures
+      λ l ms h a. waiting.unasked_10 (plan_of S.args.sizes.route S.args.nest) (state_of [] [] l S.args.status.now) ms
+          (sym h.counted ∙ if1.false ∙ lines.records_are S.args.nest S.args.sizes S.requires.0.0) (at-if2.if2.false ∙ totals.ensures.0)
+          (sym a ∙ at-if3.if3.false ∙ totals.ensures.0) (lines.unfit_record (plan_of S.args.sizes.route S.args.nest)
+          (state_of [] [] l S.args.status.now) (reading.fits_as (plan_of S.args.sizes.route S.args.nest) _ l
+          (reading.part_is S.args.progress l (reading.few_words S.args.nest S.args.sizes S.requires.0.0 S.args.progress.count
+          (if1.false ∙ lines.records_are S.args.nest S.args.sizes S.requires.0.0)) h) ∙ sym c.before.fit_records.ensures
           ∙ not-true _ c.if4.true)),
       λ q. absurd (omega arith),
     )
@@ -106,9 +106,9 @@ returns-5 c =
     let S = at_totals.before.before in
     let if2 = at-if2.if2 in
     let totals = at_totals.totals in (
-      λ l ms h a. waiting.unasked-10 (plan_of S.args.sizes.route S.args.nest) (state_of [] [] l S.args.status.now) ms
-          (sym h.counted ∙ at-if1.if1.false ∙ lines.records-are S.args.nest S.args.sizes S.requires.0.0) (if2.false ∙ totals.ensures.0)
-          (sym a ∙ at-if3.if3.false ∙ totals.ensures.0) (lines.unfit-status (plan_of S.args.sizes.route S.args.nest)
+      λ l ms h a. waiting.unasked_10 (plan_of S.args.sizes.route S.args.nest) (state_of [] [] l S.args.status.now) ms
+          (sym h.counted ∙ at-if1.if1.false ∙ lines.records_are S.args.nest S.args.sizes S.requires.0.0) (if2.false ∙ totals.ensures.0)
+          (sym a ∙ at-if3.if3.false ∙ totals.ensures.0) (lines.unfit_status (plan_of S.args.sizes.route S.args.nest)
           (state_of [] [] l S.args.status.now) (if2.false ∙ totals.ensures.0) (sym c.before.fit-status.ensures ∙ not-true _ c.if5.true)),
       λ q. absurd (omega arith),
     )
@@ -124,14 +124,14 @@ returns-6 c =
     let if1 = at-if1.if1 in
     let if2 = at-if2.if2 in
     let totals = at_totals.totals in (
-      λ l ms h a. waiting.unasked-0 (plan_of S.args.sizes.route S.args.nest) (state_of [] [] l S.args.status.now) ms
-          (sym h.counted ∙ if1.false ∙ lines.records-are S.args.nest S.args.sizes S.requires.0.0) (if2.false ∙ totals.ensures.0)
-          (sym a ∙ at-if3.if3.false ∙ totals.ensures.0) (lines.fit-both (plan_of S.args.sizes.route S.args.nest)
-          (state_of [] [] l S.args.status.now) (if2.false ∙ totals.ensures.0) (reading.fits-as (plan_of S.args.sizes.route S.args.nest) _ l
-          (reading.part-is S.args.progress l (reading.few_words S.args.nest S.args.sizes S.requires.0.0 S.args.progress.count
-          (if1.false ∙ lines.records-are S.args.nest S.args.sizes S.requires.0.0)) h) ∙ sym at-fit-records.fit-records.ensures
+      λ l ms h a. waiting.unasked_0 (plan_of S.args.sizes.route S.args.nest) (state_of [] [] l S.args.status.now) ms
+          (sym h.counted ∙ if1.false ∙ lines.records_are S.args.nest S.args.sizes S.requires.0.0) (if2.false ∙ totals.ensures.0)
+          (sym a ∙ at-if3.if3.false ∙ totals.ensures.0) (lines.fit_both (plan_of S.args.sizes.route S.args.nest)
+          (state_of [] [] l S.args.status.now) (if2.false ∙ totals.ensures.0) (reading.fits_as (plan_of S.args.sizes.route S.args.nest) _ l
+          (reading.part_is S.args.progress l (reading.few_words S.args.nest S.args.sizes S.requires.0.0 S.args.progress.count
+          (if1.false ∙ lines.records_are S.args.nest S.args.sizes S.requires.0.0)) h) ∙ sym at-fit-records.fit_records.ensures
           ∙ not-false _ c.before.before.if4.false) (sym c.before.fit-status.ensures ∙ not-false _ c.if5.false)),
-      λ _. if1.false ∙ lines.records-are
+      λ _. if1.false ∙ lines.records_are
           S.args.nest S.args.sizes S.requires.0.0,
     )
 

@@ -1,12 +1,12 @@
 -- `values::intervals::has` meets its contract: both tests, one after the other.
 use mathlib.Core.Path.{sym}
 use borrow.Author.Tests.{lt-leb, le-leb}
-use Rattle.base.proofs.Tests.{and-false, and_left}
+use Rattle.base.proofs.Tests.{and_false, and_left}
 use Rattle.values.proofs.intervals.has.Statement.{statement}
 use Rattle.values.proofs.intervals.has.Tie as tie
 
 returns : tie.Need-returns
-returns c = sym (and-false _ _ (lt-leb _ _ c.if1.true))
+returns c = sym (and_false _ _ (lt-leb _ _ c.if1.true))
 
 returns-2 : tie.Need-returns-2
 returns-2 c = sym (and_left _ _ (le-leb _ _ c.if1.false))

@@ -3,7 +3,7 @@ use borrow.Author.Rules.{rules}
 use native.Mathlib.Omega.{arith}
 use mathlib.Core.Path.{◌∙◌}
 use lib.ListN.{length-set}
-use Rattle.layout.proofs.Advance.{follows-none, follows-step, follows-carry, places-fewer, inside-fits, inside-fewer}
+use Rattle.layout.proofs.Advance.{follows_none, follows_step, follows_carry, places_fewer, inside_fits, inside_fewer}
 use Prim.Native.Nat.{ℕ, ◌-◌, ◌<◌}
 use borrow.Fn.Kinds.{In}
 use borrow.Fn.PlainCycle.{Measures, is, falls, and}
@@ -24,7 +24,7 @@ advance-below t = and 3 advance-kinds.ps (falls 3 advance-kinds.ps ◌<◌ μ-ad
 
 advance-returns : (t : ℕ) → advance-lts.Need-returns (advance-below t, advance.Post) (advance-at t) advance.Post
 advance-returns t c =
-    (c.before.requires.1.0, follows-none _ _ _ _ c.if1.true)
+    (c.before.requires.1.0, follows_none _ _ _ _ c.if1.true)
 
 advance-sub-j : (t : ℕ) → advance-lts.Need-overflow-sub-j (advance-below t, advance.Post) (advance-at t) advance.Post
 advance-sub-j t c =
@@ -44,7 +44,7 @@ advance-add-component t c =
     record {
       fits = omega (
         arith,
-        inside-fits start.args.lengths.now start.args.from.now start.args.at.now start.args.left
+        inside_fits start.args.lengths.now start.args.from.now start.args.at.now start.args.left
             c.before.if1.false (omega (arith, start.requires.1.0, start.requires.1.1.0.low)) start.requires.1.1.0 start.requires.1.1.1,
       );
     }
@@ -82,7 +82,7 @@ advance-returns-2 : (t : ℕ) → advance-lts.Need-returns-2 (advance-below t, a
 advance-returns-2 t c =
     let start = c.before.before.before.before.before in (
       length-set start.args.at.now _ _ ∙ start.requires.1.0,
-      follows-step _ _ _ _ c.before.before.before.before.if1.false
+      follows_step _ _ _ _ c.before.before.before.before.if1.false
           (omega (arith, start.requires.1.0, start.requires.1.1.0.low)) c.if2.true,
     )
 
@@ -109,9 +109,9 @@ advance-advance-requires t c κs =
       (
         length-set start.args.at.now _ _ ∙ start.requires.1.0,
         (
-          places-fewer _ _ start.args.at.now _ c.before.before.before.before.before.before.if1.false
+          places_fewer _ _ start.args.at.now _ c.before.before.before.before.before.before.if1.false
               (omega (arith, start.requires.1.0, start.requires.1.1.0.low)) start.requires.1.1.0,
-          inside-fewer _ _ _ _ c.before.before.before.before.before.before.if1.false (omega (arith, start.requires.1.0, start.requires.1.1.0.low)) _
+          inside_fewer _ _ _ _ c.before.before.before.before.before.before.if1.false (omega (arith, start.requires.1.0, start.requires.1.1.0.low)) _
               start.requires.1.1.1,
         ),
       ),
@@ -121,7 +121,7 @@ advance-returns-3 : (t : ℕ) → advance-lts.Need-returns-3 (advance-below t, a
 advance-returns-3 t c =
     let start = c.before.before.before.before.before.before.before.before in (
       c.advance.ensures.0,
-      follows-carry _ _ _ _ _ c.before.before.before.before.before.before.before.if1.false
+      follows_carry _ _ _ _ _ c.before.before.before.before.before.before.before.if1.false
           (omega (arith, start.requires.1.0, start.requires.1.1.0.low)) start.requires.1.1.0 c.before.before.before.if2.false c.advance.ensures.1,
     )
 

@@ -2,18 +2,18 @@
 use Prim.Native.Nat.{◌-◌, ◌≤◌}
 use native.Mathlib.Omega.{arith}
 use Rattle.nest.specs.declared.Nest.{Nest}
-use Rattle.values.specs.row_values.Given.{withBody}
+use Rattle.values.specs.row_values.Given.{with_body}
 use Rattle.values.specs.row_values.Boxes.{RowsGiven, Stored}
-use Rattle.values.proofs.row_values.Boxes.{stored-long}
-use Rattle.values.proofs.row_values.Rows.{given-ranked, given_inside, given-row, given-one, given-next, given-more, given-start, stored-rows}
+use Rattle.values.proofs.row_values.Boxes.{stored_long}
+use Rattle.values.proofs.row_values.Rows.{given_ranked, given_inside, given_row, given_one, given_next, given_more, given_start, stored_rows}
 use borrow.Author.Rules.{rules}
 use Rattle.values.proofs.row_values.box_rows.Statement.{statement}
 use Rattle.values.proofs.row_values.box_rows.Tie as tie
 
 abbrev invariant-loop : tie.invariant-loop
 invariant-loop body source memory₀ components lasts back weights margin grid lengths corner at₀ first end n last width r₀ memory at r =
-    (first ≤ r) × ((r ≤ end) × ((x : Nest) → RowsGiven (withBody x body) components lasts back weights margin source memory₀ grid lengths corner at₀ first
-    → Stored (withBody x body) source lengths corner memory₀ memory at first (r - first)))
+    (first ≤ r) × ((r ≤ end) × ((x : Nest) → RowsGiven (with_body x body) components lasts back weights margin source memory₀ grid lengths corner at₀ first
+    → Stored (with_body x body) source lengths corner memory₀ memory at first (r - first)))
 
 abbrev decreases-loop : tie.decreases-loop
 decreases-loop body source memory₀ components lasts back weights margin grid lengths corner at₀ first end n last width r₀ memory at r = end - r
@@ -32,7 +32,7 @@ loop-holds c = (
   omega arith,
   (
     c.before.before.before.requires.1.1.0,
-    λ x g. given-start _ _ _ _ _ _ c.before.before.before.args.source.now
+    λ x g. given_start _ _ _ _ _ _ c.before.before.before.args.source.now
         c.before.before.before.args.memory.now _ _ _ _ _ g _ (omega arith),
   ),
 )
@@ -42,25 +42,25 @@ rank-of-requires c κs =
     let at-loop = c.before.before in
     let start = at-loop.before.before.before.before in
     let p = start.requires in
-    let g = given-next _ _ _ _ _ _ start.args.source.now start.args.memory.now _ _ _ _ _ p.1.0 _ _ _
+    let g = given_next _ _ _ _ _ _ start.args.source.now start.args.memory.now _ _ _ _ _ p.1.0 _ _ _
     (at-loop.loop.invariant.1.1 p.0 p.1.0) at-loop.loop.r (omega (arith, at-loop.loop.invariant.0)) in
-    given-ranked _ _ _ _ _ _ start.args.source.now at-loop.loop.memory _ _ _ _ _ g
+    given_ranked _ _ _ _ _ _ start.args.source.now at-loop.loop.memory _ _ _ _ _ g
 
 row-requires : tie.Need-row-requires invariant-loop decreases-loop
 row-requires c κs =
     let at-loop = c.before.before.before.before.before in
     let start = at-loop.before.before.before.before in
     let p = start.requires in
-    let g = given-next _ _ _ _ _ _ start.args.source.now start.args.memory.now _ _ _ _ _ p.1.0 _ _ _
+    let g = given_next _ _ _ _ _ _ start.args.source.now start.args.memory.now _ _ _ _ _ p.1.0 _ _ _
     (at-loop.loop.invariant.1.1 p.0 p.1.0) at-loop.loop.r (omega (arith, at-loop.loop.invariant.0)) in
-    (p.0, given-row _ _ _ _ _ _ start.args.source.now at-loop.loop.memory _ _ _ _ _ g _ c.before.before.rank-of.ensures)
+    (p.0, given_row _ _ _ _ _ _ start.args.source.now at-loop.loop.memory _ _ _ _ _ g _ c.before.before.rank-of.ensures)
 
 advance-requires : tie.Need-advance-requires invariant-loop decreases-loop
 advance-requires c κs =
     let at-loop = c.before.before.before.before.before.before.before.before.before in
     let start = at-loop.before.before.before.before in
     let p = start.requires in
-    let g = given-next _ _ _ _ _ _ start.args.source.now start.args.memory.now _ _ _ _ _ p.1.0 _ _ _
+    let g = given_next _ _ _ _ _ _ start.args.source.now start.args.memory.now _ _ _ _ _ p.1.0 _ _ _
     (at-loop.loop.invariant.1.1 p.0 p.1.0) at-loop.loop.r (omega (arith, at-loop.loop.invariant.0)) in
     given_inside _ _ _ _ _ _ start.args.source.now at-loop.loop.memory _ _ _ _ _ g
 
@@ -86,11 +86,11 @@ loop-again c =
       (
         omega (arith, at-loop-test.loop-test.true),
         λ x p. let s = at-loop.loop.invariant.1.1 x p in
-            let g = given-next _ _ _ _ _ _ start.args.source.now start.args.memory.now _ _ _ _ _ p _ _ _ s at-loop.loop.r
-            (omega (arith, at-loop.loop.invariant.0)) in let h = given-row _ _ _ _ _ _ start.args.source.now at-loop.loop.memory _ _ _ _ _ g _
-            at-rank-of.rank-of.ensures in given-more _ _ _ _ _ _ start.args.source.now start.args.memory.now _ _ _ _ _ p _ _ _ s
+            let g = given_next _ _ _ _ _ _ start.args.source.now start.args.memory.now _ _ _ _ _ p _ _ _ s at-loop.loop.r
+            (omega (arith, at-loop.loop.invariant.0)) in let h = given_row _ _ _ _ _ _ start.args.source.now at-loop.loop.memory _ _ _ _ _ g _
+            at-rank-of.rank-of.ensures in given_more _ _ _ _ _ _ start.args.source.now start.args.memory.now _ _ _ _ _ p _ _ _ s
             at-loop.loop.r 1 _
-            (omega (arith, at-loop.loop.invariant.0)) (omega (arith, at-loop.loop.invariant.0)) _ _ (given-one _ _ _ _ _ _ start.args.source.now
+            (omega (arith, at-loop.loop.invariant.0)) (omega (arith, at-loop.loop.invariant.0)) _ _ (given_one _ _ _ _ _ _ start.args.source.now
             at-loop.loop.memory _ _ _ _ _ g _ at-rank-of.rank-of.ensures _ _ (at_row.row.ensures x h) c.advance.ensures),
       ),
     )
@@ -98,11 +98,11 @@ loop-again c =
 same_length : tie.Need-same-length invariant-loop decreases-loop
 same_length c =
     let p = c.before.before.before.before.before.requires in
-    stored-long _ _ _ _ _ _ _ _ _ (c.before.loop.invariant.1.1 p.0 p.1.0)
+    stored_long _ _ _ _ _ _ _ _ _ (c.before.loop.invariant.1.1 p.0 p.1.0)
 
 returns : tie.Need-returns invariant-loop decreases-loop
 returns c =
-    λ x p. stored-rows _ _ _ _ _ _ _ _ _ _ (omega (arith, c.before.loop.invariant.1.0, c.loop-test.false)) (c.before.loop.invariant.1.1 x p)
+    λ x p. stored_rows _ _ _ _ _ _ _ _ _ _ (omega (arith, c.before.loop.invariant.1.0, c.loop-test.false)) (c.before.loop.invariant.1.1 x p)
 
 pub box-rows-spec : {M : Type 1} → statement M
 box-rows-spec =

@@ -3,9 +3,9 @@ use Prim.Native.Nat.{◌-◌}
 use native.Mathlib.Omega.{arith}
 use mathlib.Core.Path.{refl}
 use borrow.Author.Tests.{not-false}
-use Rattle.values.proofs.row_values.Rows.{given-ranked, given_inside, given-margin, given-small, given-band, given-moved, given-four, stored-rows}
+use Rattle.values.proofs.row_values.Rows.{given_ranked, given_inside, given_margin, given_small, given_band, given_moved, given_four, stored_rows}
 use borrow.Author.Rules.{rules}
-use Rattle.values.specs.row_values.Given.{withBody}
+use Rattle.values.specs.row_values.Given.{with_body}
 use Rattle.values.proofs.row_values.four_rows.Statement.{statement}
 use Rattle.values.proofs.row_values.four_rows.Tie as tie
 
@@ -33,14 +33,14 @@ element-copy-out-start-of c = search rules
 start-of-requires : tie.Need-start-of-requires
 start-of-requires c κs =
     let start = c.before.before.before.before.before in
-    given-margin _ _ _ _ _ _ start.args.source.now start.args.memory.now _ _ _ _ _ start.requires.1.0
+    given_margin _ _ _ _ _ _ start.args.source.now start.args.memory.now _ _ _ _ _ start.requires.1.0
 
 together-requires : tie.Need-together-requires
 together-requires c κs =
     let start = c.before.before.before.before.before.before.before in
     let g = start.requires.1.0 in
     let i = given_inside _ _ _ _ _ _ start.args.source.now start.args.memory.now _ _ _ _ _ g in
-    (omega (arith, g.0.0.dimensions-most), (c.before.start_of_lem.ensures.1.1, i.1))
+    (omega (arith, g.0.0.dimensions_most), (c.before.start_of_lem.ensures.1.1, i.1))
 
 add-box-rows : tie.Need-overflow-add-box-rows
 add-box-rows c =
@@ -58,7 +58,7 @@ same_length c = search rules
 
 returns : tie.Need-returns
 returns c =
-    λ x g. stored-rows _ _ _ _ _ _ _ _ _ _ (omega arith) (c.before.before.box-rows.ensures x g)
+    λ x g. stored_rows _ _ _ _ _ _ _ _ _ _ (omega arith) (c.before.before.box_rows.ensures x g)
 
 mul-stride : tie.Need-overflow-mul-stride
 mul-stride c = search rules
@@ -69,24 +69,24 @@ element-copy-out-stride c = search rules
 rank-of-requires : tie.Need-rank-of-requires
 rank-of-requires c κs =
     let start = c.before.before.before.before.before.before.before.before.before.before.before in
-    given-ranked _ _ _ _ _ _ start.args.source.now start.args.memory.now _ _ _ _ _ start.requires.1.0
+    given_ranked _ _ _ _ _ _ start.args.source.now start.args.memory.now _ _ _ _ _ start.requires.1.0
 
 add-b : tie.Need-overflow-add-b
 add-b c =
     let start = c.before.before.before.before.before.before.before.before.before.before.before.before in
-    let q = given-small _ _ _ _ _ _ start.args.source.now start.args.memory.now _ _ _ _ _ start.requires.1.0 _ c.rank-of.ensures in
+    let q = given_small _ _ _ _ _ _ start.args.source.now start.args.memory.now _ _ _ _ _ start.requires.1.0 _ c.rank-of.ensures in
     omega (arith, q.0, q.1)
 
 add-c : tie.Need-overflow-add-c
 add-c c =
     let start = c.before.before.before.before.before.before.before.before.before.before.before.before in
-    let q = given-small _ _ _ _ _ _ start.args.source.now start.args.memory.now _ _ _ _ _ start.requires.1.0 _ c.rank-of.ensures in
+    let q = given_small _ _ _ _ _ _ start.args.source.now start.args.memory.now _ _ _ _ _ start.requires.1.0 _ c.rank-of.ensures in
     omega (arith, q.0, q.1)
 
 add-side-by-side : tie.Need-overflow-add-side-by-side
 add-side-by-side c =
     let start = c.before.before.before.before.before.before.before.before.before.before.before.before.before in
-    let q = given-small _ _ _ _ _ _ start.args.source.now start.args.memory.now _ _ _ _ _ start.requires.1.0 _ c.before.rank-of.ensures in
+    let q = given_small _ _ _ _ _ _ start.args.source.now start.args.memory.now _ _ _ _ _ start.requires.1.0 _ c.before.rank-of.ensures in
     omega (arith, q.0, q.1)
 
 side-by-side-requires : tie.Need-side-by-side-requires
@@ -97,8 +97,8 @@ side-by-side-requires c κs =
     let start = at-start-of.before.before.before.before.before.before in
     let p = start.requires in
     let t = at-together.together.ensures (not-false _ at-if1.if1.false) in (
-      withBody p.0 start.args.body,
-      given-band _ _ _ _ _ _ start.args.source.now start.args.memory.now _ _ _ _ _ p.1.0 _ c.before.rank-of.ensures t.1 _ _ _ refl
+      with_body p.0 start.args.body,
+      given_band _ _ _ _ _ _ start.args.source.now start.args.memory.now _ _ _ _ _ p.1.0 _ c.before.rank-of.ensures t.1 _ _ _ refl
           refl refl _ at-start-of.start_of_lem.ensures t.0,
     )
 
@@ -113,13 +113,13 @@ mul_at : tie.Need-overflow-mul-at
 mul_at c =
     let start = c.before.before.before.before.before.before.before.before.before.before.before.before.before.before.before.before in
     let g = start.requires.1.0 in
-    omega (arith, g.0.0.dimensions-most)
+    omega (arith, g.0.0.dimensions_most)
 
 element-copy-out-at : tie.Need-element-copy-out-at
 element-copy-out-at c =
     let start = c.before.before.before.before.before.before.before.before.before.before.before.before.before.before.before.before in
     let g = start.requires.1.0 in
-    omega (arith, g.1.1.1.long, g.0.0.dimensions-most)
+    omega (arith, g.1.1.1.long, g.0.0.dimensions_most)
 
 add_at : tie.Need-overflow-add-at
 add_at c =
@@ -135,7 +135,7 @@ element-write-at : tie.Need-element-write-at
 element-write-at c =
     let start = c.before.before.before.before.before.before.before.before.before.before.before.before.before.before.before.before.before in
     let g = start.requires.1.0 in
-    omega (arith, g.1.1.1.long, g.0.0.dimensions-most)
+    omega (arith, g.1.1.1.long, g.0.0.dimensions_most)
 
 advance-requires : tie.Need-advance-requires
 advance-requires c κs =
@@ -144,7 +144,7 @@ advance-requires c κs =
     let at-together = at-if1.before in
     let start = at-together.before.before.before.before.before.before.before.before in
     let t = at-together.together.ensures (not-false _ at-if1.if1.false) in
-    given-moved _ _ _ _ _ _ start.args.source.now start.args.memory.now _ _ _ _ _ start.requires.1.0 _ at-rank-of.rank-of.ensures t.1 _ _ _
+    given_moved _ _ _ _ _ _ start.args.source.now start.args.memory.now _ _ _ _ _ start.requires.1.0 _ at-rank-of.rank-of.ensures t.1 _ _ _
     refl refl refl
 
 same-length-2 : tie.Need-same-length-2
@@ -158,9 +158,9 @@ returns-2 c =
     let at-together = at-if1.before in
     let at-start-of = at-together.before.before in
     let start = at-start-of.before.before.before.before.before.before in
-    λ x g. let t = at-together.together.ensures (not-false _ at-if1.if1.false) in given-four _ _ _ _ _ _ start.args.source.now
+    λ x g. let t = at-together.together.ensures (not-false _ at-if1.if1.false) in given_four _ _ _ _ _ _ start.args.source.now
     start.args.memory.now _ _ _ _ _ g _ at-rank-of.rank-of.ensures t.1 _ _ _ refl refl refl _ _
-    (at-side-by-side.side_by_side.ensures (withBody x start.args.body) (given-band _ _ _ _ _ _ start.args.source.now
+    (at-side-by-side.side_by_side.ensures (with_body x start.args.body) (given_band _ _ _ _ _ _ start.args.source.now
     start.args.memory.now _ _ _ _ _ g _ at-rank-of.rank-of.ensures t.1 _ _ _ refl refl refl _ at-start-of.start_of_lem.ensures t.0))
     c.advance.ensures
 

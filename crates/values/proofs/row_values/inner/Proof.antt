@@ -6,8 +6,8 @@ use mathlib.Core.Path.{sym}
 use lib.ListN.{get_or}
 use lib.Dec.{leb}
 use borrow.Author.Tests.{le-leb, lt-leb}
-use Rattle.base.proofs.Tests.{every-not}
-use Rattle.layout.proofs.Loops.{Sofar, sofar-none, sofar-more, sofar-end}
+use Rattle.base.proofs.Tests.{every_not}
+use Rattle.layout.proofs.Loops.{Sofar, sofar_none, sofar_more, sofar_end}
 use Rattle.values.proofs.row_values.inner.Statement.{statement}
 use Rattle.values.proofs.row_values.inner.Tie as tie
 
@@ -19,7 +19,7 @@ decreases-loop margin at last j₀ j = last - j
 
 loop-holds : tie.Need-loop-init invariant-loop decreases-loop
 loop-holds c =
-    sofar-none _ _
+    sofar_none _ _
 
 mul-if1 : tie.Need-overflow-mul-if1 invariant-loop decreases-loop
 mul-if1 c =
@@ -41,7 +41,7 @@ returns : tie.Need-returns invariant-loop decreases-loop
 returns c =
     let at-loop-test = c.before.before.before in
     let at-loop = at-loop-test.before in
-    sym (every-not _ _ at-loop.loop.j at-loop-test.loop-test.true (lt-leb _ _ c.if1.true))
+    sym (every_not _ _ at-loop.loop.j at-loop-test.loop-test.true (lt-leb _ _ c.if1.true))
 
 add-j : tie.Need-overflow-add-j invariant-loop decreases-loop
 add-j c =
@@ -56,11 +56,11 @@ loop-again : tie.Need-loop-preserved invariant-loop decreases-loop
 loop-again c =
     let at-loop-test = c.before.before.before in
     let at-loop = at-loop-test.before in
-    sofar-more _ _ _ at-loop.loop.invariant at-loop-test.loop-test.true (le-leb _ _ c.if1.false)
+    sofar_more _ _ _ at-loop.loop.invariant at-loop-test.loop-test.true (le-leb _ _ c.if1.false)
 
 returns-2 : tie.Need-returns-2 invariant-loop decreases-loop
 returns-2 c =
-    sym (sofar-end _ _ _ c.before.loop.invariant c.loop-test.false)
+    sym (sofar_end _ _ _ c.before.loop.invariant c.loop-test.false)
 
 pub inner-spec : {M : Type 1} → statement M
 inner-spec =

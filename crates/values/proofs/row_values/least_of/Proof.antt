@@ -15,10 +15,10 @@ loop-holds : tie.Need-loop-init invariant-loop decreases-loop
 loop-holds c = omega arith
 
 mul-least : tie.Need-overflow-mul-least invariant-loop decreases-loop
-mul-least c = omega (arith, c.before.before.requires.distances-most, c.loop-test.true)
+mul-least c = omega (arith, c.before.before.requires.distances_most, c.loop-test.true)
 
 element-copy-out-least : tie.Need-element-copy-out-least invariant-loop decreases-loop
-element-copy-out-least c = omega (arith, c.before.before.requires.distances-most, c.loop-test.true)
+element-copy-out-least c = omega (arith, c.before.before.requires.distances_most, c.loop-test.true)
 
 least-requires : tie.Need-least-requires invariant-loop decreases-loop
 least-requires c κs = search rules

@@ -4,7 +4,7 @@ use native.Mathlib.Omega.{arith}
 use Prim.Native.Nat.{◌-◌}
 use mathlib.Core.Path.{refl}
 use Rattle.values.specs.row_values.Waves.{most_of}
-use Rattle.layout.proofs.Loops.{Filled, filled_none, filled_more, filled-end}
+use Rattle.layout.proofs.Loops.{Filled, filled_none, filled_more, filled_end}
 use Rattle.values.proofs.row_values.margins_of.Statement.{statement}
 use Rattle.values.proofs.row_values.margins_of.Tie as tie
 
@@ -21,24 +21,24 @@ margin-of-requires : tie.Need-margin-of-requires invariant-loop decreases-loop
 margin-of-requires c κs = (c.before.before.requires.0, (c.loop-test.true, c.before.before.requires.1))
 
 mul-margin : tie.Need-overflow-mul-margin invariant-loop decreases-loop
-mul-margin c = omega (arith, c.before.loop-test.true, c.before.before.before.requires.0.dimensions-most)
+mul-margin c = omega (arith, c.before.loop-test.true, c.before.before.before.requires.0.dimensions_most)
 
 array-write-margin : tie.Need-array-write-margin invariant-loop decreases-loop
-array-write-margin c = omega (arith, c.before.loop-test.true, c.before.before.before.requires.0.dimensions-most)
+array-write-margin c = omega (arith, c.before.loop-test.true, c.before.before.before.requires.0.dimensions_most)
 
 add-j : tie.Need-overflow-add-j invariant-loop decreases-loop
-add-j c = omega (arith, c.before.loop-test.true, c.before.before.before.requires.0.dimensions-most)
+add-j c = omega (arith, c.before.loop-test.true, c.before.before.before.requires.0.dimensions_most)
 
 loop-less : tie.Need-loop-smaller invariant-loop decreases-loop
 loop-less c = search rules
 
 loop-again : tie.Need-loop-preserved invariant-loop decreases-loop
 loop-again c =
-    filled_more _ _ _ _ _ c.before.before.loop.invariant c.before.loop-test.true c.before.before.before.requires.0.dimensions-most
+    filled_more _ _ _ _ _ c.before.before.loop.invariant c.before.loop-test.true c.before.before.before.requires.0.dimensions_most
     c.margin-of.ensures
 
 returns : tie.Need-returns invariant-loop decreases-loop
-returns c = filled-end _ _ _ _ c.before.loop.invariant c.loop-test.false
+returns c = filled_end _ _ _ _ c.before.loop.invariant c.loop-test.false
 
 pub margins-of-spec : {M : Type 1} → statement M
 margins-of-spec =

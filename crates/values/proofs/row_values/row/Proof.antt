@@ -1,8 +1,8 @@
 -- `values::row_values::row` meets its contract: the distances read in the row as its first cell's place says.
 use mathlib.Core.Path.{◌∙◌, sym}
 use native.Mathlib.Omega.{arith}
-use Rattle.bands.proofs.lagged.Words.{row-mixes, row-values}
-use Rattle.values.proofs.row_values.Margins.{inner-row, any-row, first-most, firsts-all, firsts-copied}
+use Rattle.bands.proofs.lagged.Words.{row_mixes, row_values_lem}
+use Rattle.values.proofs.row_values.Margins.{inner_row, any_row, first_most, firsts_all, firsts_copied}
 use borrow.Author.Rules.{rules}
 use Rattle.values.proofs.row_values.row.Statement.{statement}
 use Rattle.values.proofs.row_values.row.Tie as tie
@@ -31,8 +31,8 @@ edge-row-requires c κs =
     let p = start.requires.1 in
     let q = p.0.1.0 in
     let i = sym c.before.before.inner.ensures ∙ c.before.if1.true in
-    let r = inner-row _ p.0.0 _ p.1.0 _ p.1.1 _ _ _ _ _ q i in
-    (row-mixes _ p.0.0 _ _ _ _ _ _ r _ _ q.weights-are p.0.1.1.0 p.0.1.1.1, first-most _ p.0.0 _ q.margins _ q.firsts)
+    let r = inner_row _ p.0.0 _ p.1.0 _ p.1.1 _ _ _ _ _ q i in
+    (row_mixes _ p.0.0 _ _ _ _ _ _ r _ _ q.weights_are p.0.1.1.0 p.0.1.1.1, first_most _ p.0.0 _ q.margins _ q.firsts)
 
 same_length : tie.Need-same-length
 same_length c = search rules
@@ -42,7 +42,7 @@ returns c =
     let at-if1 = c.before.before.before.before in
     let at_inner = at-if1.before in
     let i = sym at_inner.inner.ensures ∙ at-if1.if1.true in
-    λ x p. row-values _ p.0.0 _ _ _ _ _ _ (inner-row _ p.0.0 _ p.1.0 _ p.1.1 _ _ _ _ _ p.0.1.0 i) _ _ _
+    λ x p. row_values_lem _ p.0.0 _ _ _ _ _ _ (inner_row _ p.0.0 _ p.1.0 _ p.1.1 _ _ _ _ _ p.0.1.0 i) _ _ _
     c.before.before.edge_row.ensures
 
 element-copy-out-t20 : tie.Need-element-copy-out-t20
@@ -69,9 +69,9 @@ short-row-requires c κs =
     let s = start.requires in
     let p = s.1 in
     let q = p.0.1.0 in
-    let f = firsts-copied _ p.0.0 _ _ (c.before.before.firsts-of.ensures s.0 p.0.0 q.given) in
-    let r = any-row _ p.0.0 _ p.1.0 _ p.1.1 _ _ _ _ _ q _ f in
-    (row-mixes _ p.0.0 _ _ _ _ _ _ r _ _ q.weights-are p.0.1.1.0 p.0.1.1.1, firsts-all _ p.0.0 _ q.margins _ _ f)
+    let f = firsts_copied _ p.0.0 _ _ (c.before.before.firsts-of.ensures s.0 p.0.0 q.given) in
+    let r = any_row _ p.0.0 _ p.1.0 _ p.1.1 _ _ _ _ _ q _ f in
+    (row_mixes _ p.0.0 _ _ _ _ _ _ r _ _ q.weights_are p.0.1.1.0 p.0.1.1.1, firsts_all _ p.0.0 _ q.margins _ _ f)
 
 same-length-2 : tie.Need-same-length-2
 same-length-2 c = search rules
@@ -79,8 +79,8 @@ same-length-2 c = search rules
 returns-2 : tie.Need-returns-2
 returns-2 c =
     λ x p.
-    let f = firsts-copied _ p.0.0 _ _ (c.before.before.before.before.before.firsts-of.ensures x p.0.0 p.0.1.0.given) in
-    row-values _ p.0.0 _ _ _ _ _ _ (any-row _ p.0.0 _ p.1.0 _ p.1.1 _ _ _ _ _ p.0.1.0 _ f) _ _ _ c.before.before.Short-row.ensures
+    let f = firsts_copied _ p.0.0 _ _ (c.before.before.before.before.before.firsts-of.ensures x p.0.0 p.0.1.0.given) in
+    row_values_lem _ p.0.0 _ _ _ _ _ _ (any_row _ p.0.0 _ p.1.0 _ p.1.1 _ _ _ _ _ p.0.1.0 _ f) _ _ _ c.before.before.Short-row.ensures
 
 pub row-spec : {M : Type 1} → statement M
 row-spec =

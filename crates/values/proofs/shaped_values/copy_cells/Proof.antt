@@ -4,20 +4,20 @@ use native.Mathlib.Omega.{arith}
 use mathlib.Core.Path.{refl, ◌∙◌, ap}
 use Rattle.nest.proofs.Shapes.{framed}
 use Rattle.layout.proofs.Cells.{relocated}
-use Rattle.values.specs.shaped_values.Rows.{insideOnly, heldWord}
-use Rattle.values.proofs.shaped_values.Stores.{filled-long, filled_at, Storing, storing-start, storing-long, storing-turn, gathered}
-use Rattle.values.proofs.shaped_values.Words.{row-begins, rows_few, rows-done}
+use Rattle.values.specs.shaped_values.Rows.{inside_only, held_word}
+use Rattle.values.proofs.shaped_values.Stores.{filled_long, filled_at, Storing, storing_start, storing_long, storing_turn, gathered}
+use Rattle.values.proofs.shaped_values.Words.{row_begins, rows_few, rows_done}
 use Rattle.values.proofs.shaped_values.copy_cells.Statement.{statement}
 use Rattle.values.proofs.shaped_values.copy_cells.Tie as tie
 
 abbrev invariant-loop : tie.invariant-loop
-invariant-loop nest sizes memories grid₀ width rows q₀ grid q = (q ≤ rows) × Storing (insideOnly nest (heldWord nest memories)) (λ y. y) grid₀ grid (q * width)
+invariant-loop nest sizes memories grid₀ width rows q₀ grid q = (q ≤ rows) × Storing (inside_only nest (held_word nest memories)) (λ y. y) grid₀ grid (q * width)
 
 abbrev decreases-loop : tie.decreases-loop
 decreases-loop nest sizes memories grid₀ width rows q₀ grid q = rows - q
 
 boundary-of-requires : tie.Need-boundary-of-requires invariant-loop decreases-loop
-boundary-of-requires c κs = c.before.before.before.requires.0.accepted.boundary-most
+boundary-of-requires c κs = c.before.before.before.requires.0.accepted.boundary_most
 
 fill-words-requires : tie.Need-fill-words-requires invariant-loop decreases-loop
 fill-words-requires c κs = tt
@@ -25,17 +25,17 @@ fill-words-requires c κs = tt
 sub-width : tie.Need-overflow-sub-width invariant-loop decreases-loop
 sub-width c =
     let start = c.before.before.before.before.before.before.before.before.before in
-    omega (arith, start.requires.0.accepted.dimensions-least)
+    omega (arith, start.requires.0.accepted.dimensions_least)
 
 mul-width : tie.Need-overflow-mul-width invariant-loop decreases-loop
 mul-width c =
     let start = c.before.before.before.before.before.before.before.before.before in
-    omega (arith, start.requires.0.accepted.dimensions-most)
+    omega (arith, start.requires.0.accepted.dimensions_most)
 
 array-read-width : tie.Need-array-read-width invariant-loop decreases-loop
 array-read-width c =
     let start = c.before.before.before.before.before.before.before.before.before in
-    omega (arith, start.requires.0.accepted.dimensions-most)
+    omega (arith, start.requires.0.accepted.dimensions_most)
 
 row-count-requires : tie.Need-row-count-requires invariant-loop decreases-loop
 row-count-requires c κs =
@@ -43,20 +43,20 @@ row-count-requires c κs =
     framed _ start.requires.0.accepted
 
 loop-holds : tie.Need-loop-init invariant-loop decreases-loop
-loop-holds c = (omega arith, storing-start _ _ _ _)
+loop-holds c = (omega arith, storing_start _ _ _ _)
 
 row-cell-requires : tie.Need-row-cell-requires invariant-loop decreases-loop
 row-cell-requires c κs =
     let s = c.before.before.before.before.before.before.before.before.before.before.before.before in
-    (s.requires.0.accepted, (refl, row-begins _ s.requires.0.accepted _ _ refl c.before.before.row_count.ensures _ c.loop-test.true))
+    (s.requires.0.accepted, (refl, row_begins _ s.requires.0.accepted _ _ refl c.before.before.row_count.ensures _ c.loop-test.true))
 
 copy-row-requires : tie.Need-copy-row-requires invariant-loop decreases-loop
 copy-row-requires c κs =
     let at-loop = c.before.before.before in
     let at_fill_lem = at-loop.before.before.before.before.before.before in
     let s = at_fill_lem.before.before.before.before.before in (
-      (s.requires.0, (s.requires.1.0, storing-long _ _ _ _ _ at-loop.loop.invariant.1 ∙ filled-long _ _ _ at_fill_lem.fill-words.ensures ∙ s.requires.1.1)),
-      (relocated _ _ _ c.before.row-cell.ensures.0, (c.before.row-cell.ensures.1, refl)),
+      (s.requires.0, (s.requires.1.0, storing_long _ _ _ _ _ at-loop.loop.invariant.1 ∙ filled_long _ _ _ at_fill_lem.fill-words.ensures ∙ s.requires.1.1)),
+      (relocated _ _ _ c.before.row_cell.ensures.0, (c.before.row_cell.ensures.1, refl)),
     )
 
 add-q : tie.Need-overflow-add-q invariant-loop decreases-loop
@@ -75,20 +75,20 @@ loop-again c =
     let at-loop-test = at-row-cell.before in
     let at-loop = at-loop-test.before in (
       omega (arith, at-loop-test.loop-test.true),
-      storing-turn _ _ _ _ at-loop.loop.q _ _ _ at-loop.loop.invariant.1
-          (λ y h. ap (λ (a : ℕ). a + y) at-row-cell.row-cell.ensures.0.number) c.before.before.copy-row.ensures,
+      storing_turn _ _ _ _ at-loop.loop.q _ _ _ at-loop.loop.invariant.1
+          (λ y h. ap (λ (a : ℕ). a + y) at-row-cell.row_cell.ensures.0.number) c.before.before.copy-row.ensures,
     )
 
 same_length : tie.Need-same-length invariant-loop decreases-loop
-same_length c = storing-long _ _ _ _ _ c.before.loop.invariant.1 ∙ filled-long _ _ _ c.before.before.before.before.before.before.before.fill-words.ensures
+same_length c = storing_long _ _ _ _ _ c.before.loop.invariant.1 ∙ filled_long _ _ _ c.before.before.before.before.before.before.before.fill-words.ensures
 
 returns : tie.Need-returns invariant-loop decreases-loop
 returns c =
     let at_fill_lem = c.before.before.before.before.before.before.before in
     let at-boundary-of = at_fill_lem.before in
     let s = at-boundary-of.before.before.before.before in
-    gathered _ s.requires.0.accepted _ (filled-long _ _ _ at_fill_lem.fill-words.ensures ∙ s.requires.1.1) (λ i h. filled_at _ _ _ _ at_fill_lem.fill-words.ensures s.requires.1.1 i h
-    ∙ at-boundary-of.boundary-of.ensures) _ _ _ (rows-done _ s.requires.0.accepted _ _ refl c.before.before.row_count.ensures _
+    gathered _ s.requires.0.accepted _ (filled_long _ _ _ at_fill_lem.fill-words.ensures ∙ s.requires.1.1) (λ i h. filled_at _ _ _ _ at_fill_lem.fill-words.ensures s.requires.1.1 i h
+    ∙ at-boundary-of.boundary-of.ensures) _ _ _ (rows_done _ s.requires.0.accepted _ _ refl c.before.before.row_count.ensures _
     c.before.loop.invariant.0 c.loop-test.false) c.before.loop.invariant.1
 
 pub copy-cells-spec : {M : Type 1} → statement M

@@ -3,7 +3,7 @@ use Prim.Native.Nat.{◌-◌}
 use native.Mathlib.Omega.{arith}
 use mathlib.Core.Path.{sym, ◌∙◌}
 use Rattle.nest.proofs.Shapes.{framed}
-use Rattle.values.proofs.shaped_values.Runs.{read_none, read_some, read-empty, read_made, first-most}
+use Rattle.values.proofs.shaped_values.Runs.{read_none, read_some, read_empty, read_made, first_most}
 use borrow.Author.Rules.{rules}
 use Rattle.values.proofs.shaped_values.read_of.Statement.{statement}
 use Rattle.values.proofs.shaped_values.read_of.Tie as tie
@@ -40,7 +40,7 @@ returns-2 c =
     let c5 = c4.before in
     let c6 = c5.before in
     let s = c6 in
-    read-empty _ s.requires.0 _ _ _ _ (read_some _ s.requires.0 _ _ (λ z. c4.if1.false
+    read_empty _ s.requires.0 _ _ _ _ (read_some _ s.requires.0 _ _ (λ z. c4.if1.false
     ((c5.first_of.ensures c6.args.nest (c6.requires.0, (c6.requires.1.0, c6.requires.1.1.0))) ∙ z))).0 c3.behind-of.ensures.0
     c2.span.ensures c.if2.true
 
@@ -56,7 +56,7 @@ add-t10 c =
       c1.if2.false,
       c3.span.ensures.most,
       s.requires.0.length_most (s.args.nest.dimensions - 1),
-      first-most _ s.requires.0 _ _ _
+      first_most _ s.requires.0 _ _ _
           (c6.first_of.ensures c7.args.nest (c7.requires.0, (c7.requires.1.0, c7.requires.1.1.0))),
     )
 
@@ -70,7 +70,7 @@ add-t11 c =
       arith,
       c4.span.ensures.most,
       s.requires.0.length_most (s.args.nest.dimensions - 1),
-      first-most _ s.requires.0 _ _ _
+      first_most _ s.requires.0 _ _ _
           (c7.first_of.ensures c8.args.nest (c8.requires.0, (c8.requires.1.0, c8.requires.1.1.0))),
     )
 

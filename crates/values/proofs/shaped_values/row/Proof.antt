@@ -2,7 +2,7 @@
 use Prim.Native.Nat.{◌-◌}
 use native.Mathlib.Omega.{arith}
 use Rattle.nest.proofs.Shapes.{framed}
-use Rattle.values.proofs.shaped_values.Words.{place-narrow, cut_low, row-readable, row-values, row-none}
+use Rattle.values.proofs.shaped_values.Words.{place_narrow, cut_low, row_readable, row_values_lem, row_none}
 use borrow.Author.Rules.{rules}
 use Rattle.values.proofs.shaped_values.row.Statement.{statement}
 use Rattle.values.proofs.shaped_values.row.Tie as tie
@@ -19,7 +19,7 @@ array-read-component c = search rules
 span-requires : tie.Need-span-requires
 span-requires c κs =
     let s = c.before.before.before.before in
-    (framed _ s.requires.0.0, place-narrow _ s.requires.0.0 _ s.requires.1.0)
+    (framed _ s.requires.0.0, place_narrow _ s.requires.0.0 _ s.requires.1.0)
 
 overlap-requires : tie.Need-overlap-requires
 overlap-requires c κs =
@@ -32,13 +32,13 @@ sub-few c = search rules
 returns : tie.Need-returns
 returns c =
     let s = c.before.before.before.before.before.before.before.before in
-    row-none _ s.requires.0.0 _ s.requires.1.0 _ s.requires.1.1 _ _ c.before.before.before.span.ensures c.before.before.overlap.ensures _ _
+    row_none _ s.requires.0.0 _ s.requires.1.0 _ s.requires.1.1 _ _ c.before.before.before.span.ensures c.before.before.overlap.ensures _ _
     c.if1.true
 
 reads-of-requires : tie.Need-reads-of-requires
 reads-of-requires c κs =
     let s = c.before.before.before.before.before.before.before.before in
-    (s.requires.0.0, (s.requires.0.1.0.0, place-narrow _ s.requires.0.0 _ s.requires.1.0))
+    (s.requires.0.0, (s.requires.0.1.0.0, place_narrow _ s.requires.0.0 _ s.requires.1.0))
 
 sub-first : tie.Need-overflow-sub-first
 sub-first c = search rules
@@ -51,7 +51,7 @@ add-first c =
     omega (
       arith,
       cut_low _ s.requires.0.0 _ s.requires.1.0 _ s.requires.1.1 _ _ at-span.span.ensures at-overlap.overlap.ensures,
-      s.requires.0.0.cells-most,
+      s.requires.0.0.cells_most,
     )
 
 store-row-requires : tie.Need-store-row-requires
@@ -60,7 +60,7 @@ store-row-requires c κs =
     let at-overlap = at-reads-of.before.before.before in
     let at-span = at-overlap.before in
     let s = at-span.before.before.before.before.before in
-    row-readable _ s.requires.0.0 _ s.requires.1.0 _ s.requires.1.1 _ _ at-span.span.ensures at-overlap.overlap.ensures _ _ _ _
+    row_readable _ s.requires.0.0 _ s.requires.1.0 _ s.requires.1.1 _ _ at-span.span.ensures at-overlap.overlap.ensures _ _ _ _
     at-reads-of.Reads-of.ensures s.requires.0.1.0.1.0 s.requires.0.1.0.1.1 _ _ s.requires.0.1.1.0 s.requires.0.1.1.1
 
 same_length : tie.Need-same-length
@@ -72,8 +72,8 @@ returns-2 c =
     let at-overlap = at-reads-of.before.before.before in
     let at-span = at-overlap.before in
     let s = at-span.before.before.before.before.before in
-    row-values _ s.requires.0.0 _ s.requires.1.0 _ s.requires.1.1 _ _ at-span.span.ensures at-overlap.overlap.ensures _ _ _ _
-    at-reads-of.Reads-of.ensures s.requires.0.1.0.1.0 s.requires.0.1.0.1.1 _ _ _ c.before.before.store-row.ensures
+    row_values_lem _ s.requires.0.0 _ s.requires.1.0 _ s.requires.1.1 _ _ at-span.span.ensures at-overlap.overlap.ensures _ _ _ _
+    at-reads-of.Reads-of.ensures s.requires.0.1.0.1.0 s.requires.0.1.0.1.1 _ _ _ c.before.before.store_row.ensures
 
 pub row-spec : {M : Type 1} → statement M
 row-spec =

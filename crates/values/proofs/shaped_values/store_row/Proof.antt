@@ -1,26 +1,26 @@
 -- `values::shaped_values::store_row` meets its contract: the first y cells are stored.
 use Prim.Native.Nat.{◌-◌}
 use native.Mathlib.Omega.{arith}
-use Rattle.kernels.proofs.Sums.{Rowing, rowing-none, rowing-long, rowing_more, rowing-end}
-use Rattle.values.specs.shaped_values.Rows.{mixedAlong}
-use Rattle.values.proofs.shaped_values.Words.{readable-at, along-at}
+use Rattle.kernels.proofs.Sums.{Rowing, rowing_none, rowing_long, rowing_more, rowing_end}
+use Rattle.values.specs.shaped_values.Rows.{mixed_along}
+use Rattle.values.proofs.shaped_values.Words.{readable_at, along_at}
 use Rattle.values.proofs.shaped_values.store_row.Statement.{statement}
 use Rattle.values.proofs.shaped_values.store_row.Tie as tie
 
 abbrev invariant-loop : tie.invariant-loop
 invariant-loop source memory₀ shift boundary n firsts ends backs weights from cell component width y₀ memory y =
-    Rowing (mixedAlong n firsts ends backs weights boundary shift source from cell component) memory₀ memory cell width y
+    Rowing (mixed_along n firsts ends backs weights boundary shift source from cell component) memory₀ memory cell width y
 
 abbrev decreases-loop : tie.decreases-loop
 decreases-loop source memory₀ shift boundary n firsts ends backs weights from cell component width y₀ memory y = width - y
 
 loop-holds : tie.Need-loop-init invariant-loop decreases-loop
-loop-holds c = rowing-none _ _ _ _
+loop-holds c = rowing_none _ _ _ _
 
 add-value-at : tie.Need-overflow-add-value-at invariant-loop decreases-loop
 add-value-at c =
     let s = c.before.before.before.before.before in
-    omega (arith, s.requires.given, s.requires.few-given, c.before.loop-test.true)
+    omega (arith, s.requires.given, s.requires.few_given, c.before.loop-test.true)
 
 add-value-at-2 : tie.Need-overflow-add-value-at-2 invariant-loop decreases-loop
 add-value-at-2 c =
@@ -32,7 +32,7 @@ add-value-at-3 c = omega (arith, c.before.before.before.before.before.requires.n
 
 value-at-requires : tie.Need-value-at-requires invariant-loop decreases-loop
 value-at-requires c κs =
-    readable-at c.before.before.before.before.before.requires _ _ c.before.loop-test.true (rowing-long c.before.before.loop.invariant)
+    readable_at c.before.before.before.before.before.requires _ _ c.before.loop-test.true (rowing_long c.before.before.loop.invariant)
 
 add-memory : tie.Need-overflow-add-memory invariant-loop decreases-loop
 add-memory c =
@@ -48,7 +48,7 @@ slice-write-memory : tie.Need-slice-write-memory invariant-loop decreases-loop
 slice-write-memory c =
     let at-loop = c.before.before.before in
     let start = at-loop.before.before.before in
-    omega (arith, start.requires.inner, c.before.before.loop-test.true, rowing-long at-loop.loop.invariant)
+    omega (arith, start.requires.inner, c.before.before.loop-test.true, rowing_long at-loop.loop.invariant)
 
 add-y : tie.Need-overflow-add-y invariant-loop decreases-loop
 add-y c = omega (arith, c.before.before.before.before.before.before.requires.narrow, c.before.before.loop-test.true)
@@ -58,13 +58,13 @@ loop-less c = omega (arith, c.before.before.loop-test.true)
 
 loop-again : tie.Need-loop-preserved invariant-loop decreases-loop
 loop-again c =
-    rowing_more c.before.before.before.loop.invariant _ c.before.before.loop-test.true (along-at _ _ _ _ _ _ _ _ _ _ _ _ _ _ c.value-at.ensures)
+    rowing_more c.before.before.before.loop.invariant _ c.before.before.loop-test.true (along_at _ _ _ _ _ _ _ _ _ _ _ _ _ _ c.value-at.ensures)
 
 same_length : tie.Need-same-length invariant-loop decreases-loop
-same_length c = rowing-long c.before.loop.invariant
+same_length c = rowing_long c.before.loop.invariant
 
 returns : tie.Need-returns invariant-loop decreases-loop
-returns c = rowing-end c.before.loop.invariant c.loop-test.false
+returns c = rowing_end c.before.loop.invariant c.loop-test.false
 
 pub store-row-spec : {M : Type 1} → statement M
 store-row-spec =

@@ -3,9 +3,9 @@ use Prim.Native.Nat.{◌-◌}
 use native.Mathlib.Omega.{arith}
 use lib.ListN.{get_or}
 use Rattle.base.specs.Tests.{pick}
-use Rattle.kernels.proofs.Sums.{Mixing, mixing-none, mixing-fits, mixing-more}
+use Rattle.kernels.proofs.Sums.{Mixing, mixing_none, mixing_fits, mixing_more}
 use Rattle.values.specs.shaped_values.Rows.{between}
-use Rattle.values.proofs.shaped_values.Words.{mixing-end, first_back}
+use Rattle.values.proofs.shaped_values.Words.{mixing_end, first_back}
 use Rattle.values.proofs.shaped_values.value_at.Statement.{statement}
 use Rattle.values.proofs.shaped_values.value_at.Tie as tie
 
@@ -20,10 +20,10 @@ decreases-loop source memory shift boundary n firsts ends backs weights from cel
 word-of-requires : tie.Need-word-of-requires invariant-loop decreases-loop
 word-of-requires c κs =
     let s = c.before.before in
-    (omega (arith, s.requires.given), s.requires.few-given)
+    (omega (arith, s.requires.given), s.requires.few_given)
 
 loop-holds : tie.Need-loop-init invariant-loop decreases-loop
-loop-holds c = mixing-none _ _ _ _ _ c.word_of.ensures
+loop-holds c = mixing_none _ _ _ _ _ c.word_of.ensures
 
 mul-word-at : tie.Need-overflow-mul-word-at invariant-loop decreases-loop
 mul-word-at c = omega (arith, c.before.before.before.before.before.requires.few, c.loop-test.true)
@@ -68,8 +68,8 @@ mul-total-2 c =
     omega (
       arith,
       s.requires.few,
-      mixing-fits _ _ _ _ _ _ at-loop.loop.invariant at-loop-test.loop-test.true
-          (s.requires.light _ at-loop-test.loop-test.true) _ c.before.word-at.ensures,
+      mixing_fits _ _ _ _ _ _ at-loop.loop.invariant at-loop-test.loop-test.true
+          (s.requires.light _ at-loop-test.loop-test.true) _ c.before.word_at.ensures,
     )
 
 add_total : tie.Need-overflow-add-total invariant-loop decreases-loop
@@ -80,8 +80,8 @@ add_total c =
     omega (
       arith,
       s.requires.few,
-      mixing-fits _ _ _ _ _ _ at-loop.loop.invariant at-loop-test.loop-test.true
-          (s.requires.light _ at-loop-test.loop-test.true) _ c.before.word-at.ensures,
+      mixing_fits _ _ _ _ _ _ at-loop.loop.invariant at-loop-test.loop-test.true
+          (s.requires.light _ at-loop-test.loop-test.true) _ c.before.word_at.ensures,
     )
 
 add-k : tie.Need-overflow-add-k invariant-loop decreases-loop
@@ -98,14 +98,14 @@ loop-again c =
     let at-loop-test = c.before.before.before.before.before in
     let at-loop = at-loop-test.before in
     let start = at-loop.before.before.before.before in
-    mixing-more _ _ _ _ _ _ at-loop.loop.invariant at-loop-test.loop-test.true (start.requires.light _ at-loop-test.loop-test.true) _
-    c.before.word-at.ensures
+    mixing_more _ _ _ _ _ _ at-loop.loop.invariant at-loop-test.loop-test.true (start.requires.light _ at-loop-test.loop-test.true) _
+    c.before.word_at.ensures
 
 closed-requires : tie.Need-closed-requires invariant-loop decreases-loop
 closed-requires c κs = c.before.before.before.before.before.requires.divides
 
 returns : tie.Need-returns invariant-loop decreases-loop
-returns c = mixing-end _ _ _ _ _ _ _ _ _ _ _ _ _ _ c.before.before.loop.invariant c.before.loop-test.false _ c.closed.ensures
+returns c = mixing_end _ _ _ _ _ _ _ _ _ _ _ _ _ _ c.before.before.loop.invariant c.before.loop-test.false _ c.closed.ensures
 
 pub value-at-spec : {M : Type 1} → statement M
 value-at-spec =

@@ -2,7 +2,7 @@
 use Prim.Native.Nat.{◌-◌}
 use native.Mathlib.Omega.{arith}
 use mathlib.Core.Path.{sym, ◌∙◌}
-use Rattle.base.proofs.Tests.{pick_true, pick-false}
+use Rattle.base.proofs.Tests.{pick_true, pick_false}
 use borrow.Author.Rules.{rules}
 use Rattle.values.proofs.shaped_values.word_at.Statement.{statement}
 use Rattle.values.proofs.shaped_values.word_at.Tie as tie
@@ -33,7 +33,7 @@ returns c =
     )
 
 returns-2 : tie.Need-returns-2
-returns-2 c = (sym (pick-false _ _ _ (sym c.before.has.ensures ∙ c.if1.false)), c.before.before.before.requires.1.0)
+returns-2 c = (sym (pick_false _ _ _ (sym c.before.has.ensures ∙ c.if1.false)), c.before.before.before.requires.1.0)
 
 pub word-at-spec : {M : Type 1} → statement M
 word-at-spec =

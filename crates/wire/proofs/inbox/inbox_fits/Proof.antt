@@ -1,6 +1,6 @@
 -- Both lengths, one after the other.
 use Rattle.plan.specs.Shaped.{plan_of}
-use Rattle.wire.proofs.Receiving.{fits-no, fits_by}
+use Rattle.wire.proofs.Receiving.{fits_no, fits_by}
 use borrow.Author.Rules.{rules}
 use Rattle.wire.proofs.inbox.inbox_fits.Statement.{statement}
 use Rattle.wire.proofs.inbox.inbox_fits.Tie as tie
@@ -13,7 +13,7 @@ returns c =
     let at2 = c.before.before in
     let at3 = at2.before in
     let A = at3.args in
-    fits-no (plan_of A.sizes.route A.nest) A.parts A.masks at2.totals.result.words at2.totals.result.messages at2.totals.ensures.1.0
+    fits_no (plan_of A.sizes.route A.nest) A.parts A.masks at2.totals.result.words at2.totals.result.messages at2.totals.ensures.1.0
     at2.totals.ensures.0 c.if1.true
 
 returns-2 : tie.Need-returns-2

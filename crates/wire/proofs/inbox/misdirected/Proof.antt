@@ -2,7 +2,7 @@
 use Rattle.core.specs.Prelude.{ℕ, length, get_or}
 use mathlib.Core.Path.{sym, ap, ◌∙◌}
 use native.Mathlib.Omega.{arith}
-use Rattle.machine.specs.Plan.{heldBy}
+use Rattle.machine.specs.Plan.{held_by}
 use Rattle.plan.specs.Shaped.{plan_of}
 use Rattle.summary.specs.Summary.{line_of}
 use Rattle.stages.proofs.Parts as parts
@@ -14,7 +14,7 @@ use Rattle.wire.proofs.inbox.misdirected.Tie as tie
 returns : tie.Need-returns
 returns c =
     let A = c.before.before.before.before.args in
-    receiving.other-kind (plan_of A.sizes.route A.nest) A.status.now A.processor A.header A.words.now c.if1.true
+    receiving.other_kind (plan_of A.sizes.route A.nest) A.status.now A.processor A.header A.words.now c.if1.true
 
 word-index-requires : tie.Need-word-index-requires
 word-index-requires c κs = search rules
@@ -34,7 +34,7 @@ line-at-requires : tie.Need-line-at-requires
 line-at-requires c κs =
     let at2 = c.before.before in
     let at7 = at2.before.before.before.before.before in
-    (at7.requires.0, parts.placed-self at7.args.sizes.route at7.args.nest at2.word-index.result c.nth.result c.nth.ensures)
+    (at7.requires.0, parts.placed_self at7.args.sizes.route at7.args.nest at2.word-index.result c.nth.result c.nth.ensures)
 
 returns-3 : tie.Need-returns-3
 returns-3 c =
@@ -46,7 +46,7 @@ returns-3 c =
     let at11 = at7.before.before.before.before in
     let A = at11.args in
     let p = plan_of A.sizes.route A.nest in
-    receiving.other-sender p A.status.now A.processor A.header A.words.now at7.if1.false
+    receiving.other_sender p A.status.now A.processor A.header A.words.now at7.if1.false
     (omega (arith, at5.if2.false, at6.word-index.ensures, at11.requires.1)) at3.line_at_lem.result
     (at3.line_at_lem.ensures ∙ ap (line_of p) (at4.nth.ensures.number ∙ at6.word-index.ensures)) c.if3.true
 
@@ -61,7 +61,7 @@ returns-4 c =
     let at14 = at10.before.before.before.before in
     let A = at14.args in
     let p = plan_of A.sizes.route A.nest in
-    receiving.other-taker p A.status.now A.processor A.header A.words.now at10.if1.false
+    receiving.other_taker p A.status.now A.processor A.header A.words.now at10.if1.false
     (omega (arith, at8.if2.false, at9.word-index.ensures, at14.requires.1)) at6.line_at_lem.result
     (at6.line_at_lem.ensures ∙ ap (line_of p) (at7.nth.ensures.number ∙ at9.word-index.ensures)) at3.if3.false c.if4.true
 
@@ -77,7 +77,7 @@ returns-5 c =
     let at16 = at12.before.before.before.before in
     let A = at16.args in
     let p = plan_of A.sizes.route A.nest in
-    receiving.not-here p A.status.now A.processor A.header A.words.now at12.if1.false
+    receiving.not_here p A.status.now A.processor A.header A.words.now at12.if1.false
     (omega (arith, at10.if2.false, at11.word-index.ensures, at16.requires.1)) at8.line_at_lem.result
     (at8.line_at_lem.ensures ∙ ap (line_of p) (at9.nth.ensures.number ∙ at11.word-index.ensures)) at5.if3.false at2.if4.false c.if5.true
 
@@ -100,8 +100,8 @@ returns-6 c =
     receiving.misfit p A.status.now A.processor A.header A.words.now at14.if1.false
     (omega (arith, at12.if2.false, at13.word-index.ensures, at18.requires.1)) at10.line_at_lem.result
     (at10.line_at_lem.ensures ∙ ap (line_of p) (at11.nth.ensures.number ∙ at13.word-index.ensures)) at7.if3.false at4.if4.false at2.if5.false
-    at11.nth.result.words c.before.number_of.result (at11.nth.ensures.words ∙ ap (λ (k : ℕ). length (heldBy p k)) at13.word-index.ensures)
-    (receiving.held-few A.nest A.sizes at18.requires.0.0 A.header.item (omega (arith, at12.if2.false, at13.word-index.ensures, at18.requires.1)))
+    at11.nth.result.words c.before.number_of.result (at11.nth.ensures.words ∙ ap (λ (k : ℕ). length (held_by p k)) at13.word-index.ensures)
+    (receiving.held_few A.nest A.sizes at18.requires.0.0 A.header.item (omega (arith, at12.if2.false, at13.word-index.ensures, at18.requires.1)))
     c.before.number_of.ensures c.if6.true
 
 shared-slice-read-if7 : tie.Need-shared-slice-read-if7
@@ -122,11 +122,11 @@ returns-7 c =
     let at20 = at16.before.before.before.before in
     let A = at20.args in
     let p = plan_of A.sizes.route A.nest in
-    receiving.came-before p A.status.now A.processor A.header A.words.now at16.if1.false
+    receiving.came_before p A.status.now A.processor A.header A.words.now at16.if1.false
     (omega (arith, at14.if2.false, at15.word-index.ensures, at20.requires.1)) at12.line_at_lem.result
     (at12.line_at_lem.ensures ∙ ap (line_of p) (at13.nth.ensures.number ∙ at15.word-index.ensures)) at9.if3.false at6.if4.false at4.if5.false
-    at13.nth.result.words at3.number_of.result (at13.nth.ensures.words ∙ ap (λ (k : ℕ). length (heldBy p k)) at15.word-index.ensures)
-    (receiving.held-few A.nest A.sizes at20.requires.0.0 A.header.item (omega (arith, at14.if2.false, at15.word-index.ensures, at20.requires.1)))
+    at13.nth.result.words at3.number_of.result (at13.nth.ensures.words ∙ ap (λ (k : ℕ). length (held_by p k)) at15.word-index.ensures)
+    (receiving.held_few A.nest A.sizes at20.requires.0.0 A.header.item (omega (arith, at14.if2.false, at15.word-index.ensures, at20.requires.1)))
     at3.number_of.ensures at2.if6.false (λ q. c.if7.true (ap (λ (k : ℕ). get_or A.status.now k 0) at15.word-index.ensures ∙ q))
 
 returns-8 : tie.Need-returns-8
@@ -144,11 +144,11 @@ returns-8 c =
     let at20 = at16.before.before.before.before in
     let A = at20.args in
     let p = plan_of A.sizes.route A.nest in
-    receiving.addressed-here p A.status.now A.processor A.header A.words.now at16.if1.false
+    receiving.addressed_here p A.status.now A.processor A.header A.words.now at16.if1.false
     (omega (arith, at14.if2.false, at15.word-index.ensures, at20.requires.1)) at12.line_at_lem.result
     (at12.line_at_lem.ensures ∙ ap (line_of p) (at13.nth.ensures.number ∙ at15.word-index.ensures)) at9.if3.false at6.if4.false at4.if5.false
-    at13.nth.result.words at3.number_of.result (at13.nth.ensures.words ∙ ap (λ (k : ℕ). length (heldBy p k)) at15.word-index.ensures)
-    (receiving.held-few A.nest A.sizes at20.requires.0.0 A.header.item (omega (arith, at14.if2.false, at15.word-index.ensures, at20.requires.1)))
+    at13.nth.result.words at3.number_of.result (at13.nth.ensures.words ∙ ap (λ (k : ℕ). length (held_by p k)) at15.word-index.ensures)
+    (receiving.held_few A.nest A.sizes at20.requires.0.0 A.header.item (omega (arith, at14.if2.false, at15.word-index.ensures, at20.requires.1)))
     at3.number_of.ensures at2.if6.false (sym (ap (λ (k : ℕ). get_or A.status.now k 0) at15.word-index.ensures) ∙ c.if7.false)
 
 pub misdirected-spec : {M : Type 1} → statement M

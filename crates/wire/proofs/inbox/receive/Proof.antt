@@ -6,7 +6,7 @@ use borrow.Author.Tests.{not-true, not-false}
 use Rattle.plan.specs.Shaped.{plan_of}
 use Rattle.machine.specs.Machine.{state_of}
 use Rattle.engine.proofs.Reading as reading
-use Rattle.wire.specs.Wire.{inboxOf}
+use Rattle.wire.specs.Wire.{inbox_of}
 use Rattle.wire.proofs.Receiving as receiving
 use borrow.Author.Rules.{rules}
 use Rattle.wire.proofs.inbox.receive.Statement.{statement}
@@ -25,8 +25,8 @@ returns c =
     let S = at-with-sizes.before.before.before.before.before.before.before.before.before in
     let opening = at-with-sizes.with-sizes in
     let A = S.args in
-    λ l h. receiving.receive-read A.encoded.now A.route A.run A.source.now (state_of A.memories.now A.buffer.now l A.status.now)
-    A.processor A.packet.now (inboxOf A.parts.now A.masks.now) c.refusal.result opening.result.number c.refusal.ensures
+    λ l h. receiving.receive_read A.encoded.now A.route A.run A.source.now (state_of A.memories.now A.buffer.now l A.status.now)
+    A.processor A.packet.now (inbox_of A.parts.now A.masks.now) c.refusal.result opening.result.number c.refusal.ensures
     opening.ensures.number at-if1.if1.true
 
 slice-aggregate-open-packet : tie.Need-slice-aggregate-open-packet
@@ -47,8 +47,8 @@ returns-2 c =
     let S = at-with-sizes.before.before.before.before.before.before.before.before.before in
     let opening = at-with-sizes.with-sizes in
     let A = S.args in
-    λ l h. receiving.receive-damaged A.encoded.now A.route A.run A.source.now (state_of A.memories.now A.buffer.now l A.status.now)
-    A.processor A.packet.now (inboxOf A.parts.now A.masks.now) (plan_of opening.result.sizes.route opening.result.nest)
+    λ l h. receiving.receive_damaged A.encoded.now A.route A.run A.source.now (state_of A.memories.now A.buffer.now l A.status.now)
+    A.processor A.packet.now (inbox_of A.parts.now A.masks.now) (plan_of opening.result.sizes.route opening.result.nest)
     (opening.ensures.opened at-if1.if1.false)
     at-open-packet.open-packet.result at-open-packet.open-packet.new.1.1.1.1.0 at-open-packet.open-packet.ensures c.refusal2.result
     c.refusal2.ensures at-if2.if2.true
@@ -81,8 +81,8 @@ returns-3 c =
     let S = at-with-sizes.before.before.before.before.before.before.before.before.before in
     let opening = at-with-sizes.with-sizes in
     let A = S.args in
-    λ l h. receiving.receive-inbox A.encoded.now A.route A.run A.source.now (state_of A.memories.now A.buffer.now l A.status.now)
-    A.processor A.packet.now (inboxOf A.parts.now A.masks.now) (plan_of opening.result.sizes.route opening.result.nest)
+    λ l h. receiving.receive_inbox A.encoded.now A.route A.run A.source.now (state_of A.memories.now A.buffer.now l A.status.now)
+    A.processor A.packet.now (inbox_of A.parts.now A.masks.now) (plan_of opening.result.sizes.route opening.result.nest)
     (opening.ensures.opened at-if1.if1.false)
     at-open-packet.open-packet.result at-open-packet.open-packet.new.1.1.1.1.0 at-open-packet.open-packet.ensures at-if2.if2.false
     c.refusal3.result c.refusal3.ensures
@@ -119,8 +119,8 @@ returns-4 c =
     let S = at-with-sizes.before.before.before.before.before.before.before.before.before in
     let opening = at-with-sizes.with-sizes in
     let A = S.args in
-    λ l h. receiving.receive-unfit A.encoded.now A.route A.run A.source.now (state_of A.memories.now A.buffer.now l A.status.now)
-    A.processor A.packet.now (inboxOf A.parts.now A.masks.now) (plan_of opening.result.sizes.route opening.result.nest)
+    λ l h. receiving.receive_unfit A.encoded.now A.route A.run A.source.now (state_of A.memories.now A.buffer.now l A.status.now)
+    A.processor A.packet.now (inbox_of A.parts.now A.masks.now) (plan_of opening.result.sizes.route opening.result.nest)
     (opening.ensures.opened at-if1.if1.false)
     at-open-packet.open-packet.result at-open-packet.open-packet.new.1.1.1.1.0 at-open-packet.open-packet.ensures at-if2.if2.false
     (sym at-inbox-fits.inbox-fits.ensures ∙ not-false _ at-if3.if3.false) at-refusal-of-areas.refusal-of-areas.result
@@ -159,12 +159,12 @@ take-packet-requires c κs =
     let A = S.args in
     let l = take (A.progress.count - 0) (drop 0 A.progress.words) in (
       (opening.ensures.sized at-if1.if1.false, at_fill_lem.fill.ensures),
-      receiving.may-receive A.encoded.now A.route A.run A.source.now (state_of A.memories.now A.buffer.now l A.status.now)
-          A.processor A.packet.now (inboxOf A.parts.now A.masks.now) (plan_of opening.result.sizes.route opening.result.nest)
+      receiving.may_receive A.encoded.now A.route A.run A.source.now (state_of A.memories.now A.buffer.now l A.status.now)
+          A.processor A.packet.now (inbox_of A.parts.now A.masks.now) (plan_of opening.result.sizes.route opening.result.nest)
           (opening.ensures.opened at-if1.if1.false)
           at-open-packet.open-packet.result at-open-packet.open-packet.new.1.1.1.1.0 at-open-packet.open-packet.ensures at-if2.if2.false
           (sym at-inbox-fits.inbox-fits.ensures ∙ not-false _ at-if3.if3.false) at-refusal-of-areas.refusal-of-areas.result
-          (at-refusal-of-areas.refusal-of-areas.ensures.0 l (reading.part-carries A.progress S.requires
+          (at-refusal-of-areas.refusal-of-areas.ensures.0 l (reading.part_carries A.progress S.requires
           (reading.few_words _ _ (opening.ensures.sized at-if1.if1.false)
           A.progress.count
           (at-refusal-of-areas.refusal-of-areas.ensures.1 at-if4.if4.false)))) at-if4.if4.false,
@@ -197,8 +197,8 @@ returns-5 c =
     let S = at-with-sizes.before.before.before.before.before.before.before.before.before in
     let opening = at-with-sizes.with-sizes in
     let A = S.args in
-    λ l h. receiving.receive-packet A.encoded.now A.route A.run A.source.now (state_of A.memories.now A.buffer.now l A.status.now)
-    A.processor A.packet.now (inboxOf A.parts.now A.masks.now) (plan_of opening.result.sizes.route opening.result.nest)
+    λ l h. receiving.receive_packet A.encoded.now A.route A.run A.source.now (state_of A.memories.now A.buffer.now l A.status.now)
+    A.processor A.packet.now (inbox_of A.parts.now A.masks.now) (plan_of opening.result.sizes.route opening.result.nest)
     (opening.ensures.opened at-if1.if1.false)
     at-open-packet.open-packet.result at-open-packet.open-packet.new.1.1.1.1.0 at-open-packet.open-packet.ensures at-if2.if2.false
     (sym at-inbox-fits.inbox-fits.ensures ∙ not-false _ at-if3.if3.false) at-refusal-of-areas.refusal-of-areas.result

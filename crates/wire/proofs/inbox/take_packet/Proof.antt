@@ -4,7 +4,7 @@ use Rattle.core.specs.Prelude.{[]}
 use native.Mathlib.Omega.{arith}
 use Rattle.plan.specs.Shaped.{plan_of}
 use Rattle.machine.specs.Machine.{state_of}
-use Rattle.wire.specs.Wire.{inboxOf}
+use Rattle.wire.specs.Wire.{inbox_of}
 use Rattle.wire.proofs.Receiving as receiving
 use borrow.Author.Rules.{rules}
 use Rattle.wire.proofs.inbox.take_packet.Statement.{statement}
@@ -24,8 +24,8 @@ returns c =
     let at2 = c.before.before in
     let at9 = at2.before.before.before.before.before.before.before in
     let A = at9.args in
-    λ ms l. receiving.took-none (plan_of A.sizes.route A.nest) (state_of ms A.buffer.now l A.status.now) A.processor A.header
-    A.words.now (inboxOf A.parts.now A.masks.now) c.refusal.result at2.misdirected.result c.refusal.ensures at2.misdirected.ensures
+    λ ms l. receiving.took_none (plan_of A.sizes.route A.nest) (state_of ms A.buffer.now l A.status.now) A.processor A.header
+    A.words.now (inbox_of A.parts.now A.masks.now) c.refusal.result at2.misdirected.result c.refusal.ensures at2.misdirected.ensures
     c.before.if1.true
 
 word-index-requires : tie.Need-word-index-requires
@@ -51,7 +51,7 @@ add-end c =
       arith,
       at11.well-formed.1.1.1.1.1.1.1.1.0,
       receiving.room A.sizes.route A.nest A.sizes at11.requires.0.0 refl (state_of [] A.buffer.now [] A.status.now) A.processor
-          A.header A.words.now (inboxOf A.parts.now A.masks.now) at11.requires.1 (sym at4.misdirected.ensures ∙ at3.if1.false) at2.word-index.result
+          A.header A.words.now (inbox_of A.parts.now A.masks.now) at11.requires.1 (sym at4.misdirected.ensures ∙ at3.if1.false) at2.word-index.result
           at2.word-index.ensures c.before.nth.result c.before.nth.ensures,
     )
 
@@ -66,7 +66,7 @@ mul-take-chunk c =
       arith,
       at11.well-formed.1.1.1.1.1.1.1.1.0,
       receiving.room A.sizes.route A.nest A.sizes at11.requires.0.0 refl (state_of [] A.buffer.now [] A.status.now) A.processor
-          A.header A.words.now (inboxOf A.parts.now A.masks.now) at11.requires.1 (sym at4.misdirected.ensures ∙ at3.if1.false) at2.word-index.result
+          A.header A.words.now (inbox_of A.parts.now A.masks.now) at11.requires.1 (sym at4.misdirected.ensures ∙ at3.if1.false) at2.word-index.result
           at2.word-index.ensures c.before.nth.result c.before.nth.ensures,
     )
 
@@ -84,7 +84,7 @@ part-take-chunk-end c =
     let at11 = at4.before.before.before.before.before.before.before in
     let A = at11.args in
     receiving.room A.sizes.route A.nest A.sizes at11.requires.0.0 refl (state_of [] A.buffer.now [] A.status.now) A.processor
-    A.header A.words.now (inboxOf A.parts.now A.masks.now) at11.requires.1 (sym at4.misdirected.ensures ∙ at3.if1.false) at2.word-index.result
+    A.header A.words.now (inbox_of A.parts.now A.masks.now) at11.requires.1 (sym at4.misdirected.ensures ∙ at3.if1.false) at2.word-index.result
     at2.word-index.ensures c.before.nth.result c.before.nth.ensures
 
 mul-take-chunk-2 : tie.Need-overflow-mul-take-chunk-2
@@ -92,13 +92,13 @@ mul-take-chunk-2 c =
     let at2 = c.before.before in
     let at3 = at2.before in
     let at12 = at3.before.before.before.before.before.before.before.before.before in
-    omega (arith, at12.well-formed.1.1.1.1.1.1.1.1.1.0, at3.word-index.ensures, at2.nth.ensures.low, at12.requires.1.masks-long)
+    omega (arith, at12.well-formed.1.1.1.1.1.1.1.1.1.0, at3.word-index.ensures, at2.nth.ensures.low, at12.requires.1.masks_long)
 
 slice-read-take-chunk : tie.Need-slice-read-take-chunk
 slice-read-take-chunk c =
     let at3 = c.before.before.before in
     let at13 = at3.before.before.before.before.before.before.before.before.before.before in
-    omega (arith, at3.nth.ensures.low, at13.requires.1.masks-long)
+    omega (arith, at3.nth.ensures.low, at13.requires.1.masks_long)
 
 take-chunk-requires : tie.Need-take-chunk-requires
 take-chunk-requires c κs = search rules
@@ -108,13 +108,13 @@ mul-masks c =
     let at6 = c.before.before.before.before.before.before in
     let at7 = at6.before in
     let at16 = at7.before.before.before.before.before.before.before.before.before in
-    omega (arith, at16.well-formed.1.1.1.1.1.1.1.1.1.0, at7.word-index.ensures, at6.nth.ensures.low, at16.requires.1.masks-long)
+    omega (arith, at16.well-formed.1.1.1.1.1.1.1.1.1.0, at7.word-index.ensures, at6.nth.ensures.low, at16.requires.1.masks_long)
 
 slice-write-masks : tie.Need-slice-write-masks
 slice-write-masks c =
     let at6 = c.before.before.before.before.before.before in
     let at16 = at6.before.before.before.before.before.before.before.before.before.before in
-    omega (arith, at6.nth.ensures.low, at16.requires.1.masks-long)
+    omega (arith, at6.nth.ensures.low, at16.requires.1.masks_long)
 
 same-length-2 : tie.Need-same-length-2
 same-length-2 c = search rules
@@ -134,8 +134,8 @@ returns-2 c =
     let at11 = at10.before in
     let at18 = at11.before.before.before.before.before.before.before in
     let A = at18.args in
-    λ ms l. receiving.took-part A.sizes.route A.nest A.sizes at18.requires.0.0 refl (state_of ms A.buffer.now l A.status.now) A.processor
-    A.header A.words.now (inboxOf A.parts.now A.masks.now) at18.requires.1 (sym at11.misdirected.ensures ∙ at10.if1.false) at9.word-index.result
+    λ ms l. receiving.took_part A.sizes.route A.nest A.sizes at18.requires.0.0 refl (state_of ms A.buffer.now l A.status.now) A.processor
+    A.header A.words.now (inbox_of A.parts.now A.masks.now) at18.requires.1 (sym at11.misdirected.ensures ∙ at10.if1.false) at9.word-index.result
     at9.word-index.ensures at8.nth.result at8.nth.ensures at4.take_Chunk.result at4.take_Chunk.new.1.1.1.0 at4.take_Chunk.auto.1.1.1.0
     at4.take_Chunk.ensures c.if2.true
 
@@ -151,7 +151,7 @@ mul-receive c =
       arith,
       at20.well-formed.1.1.1.1.1.1.1.1.0,
       receiving.room A.sizes.route A.nest A.sizes at20.requires.0.0 refl (state_of [] A.buffer.now [] A.status.now) A.processor
-          A.header A.words.now (inboxOf A.parts.now A.masks.now) at20.requires.1 (sym at13.misdirected.ensures ∙ at12.if1.false) at11.word-index.result
+          A.header A.words.now (inbox_of A.parts.now A.masks.now) at20.requires.1 (sym at13.misdirected.ensures ∙ at12.if1.false) at11.word-index.result
           at11.word-index.ensures at10.nth.result at10.nth.ensures,
     )
 
@@ -170,8 +170,8 @@ part-receive-end c =
     let at14 = at13.before in
     let at21 = at14.before.before.before.before.before.before.before in
     let A = at21.args in
-    receiving.room-then A.sizes.route A.nest A.sizes at21.requires.0.0 refl (state_of [] A.buffer.now [] A.status.now)
-    A.processor A.header A.words.now (inboxOf A.parts.now A.masks.now) at21.requires.1 (sym at14.misdirected.ensures ∙ at13.if1.false)
+    receiving.room_then A.sizes.route A.nest A.sizes at21.requires.0.0 refl (state_of [] A.buffer.now [] A.status.now)
+    A.processor A.header A.words.now (inbox_of A.parts.now A.masks.now) at21.requires.1 (sym at14.misdirected.ensures ∙ at13.if1.false)
     at12.word-index.result at12.word-index.ensures at11.nth.result at11.nth.ensures at7.take_Chunk.result at7.take_Chunk.new.1.1.1.0
     at7.take_Chunk.auto.1.1.1.0 at7.take_Chunk.ensures
 
@@ -185,8 +185,8 @@ receive-requires c κs =
     let at22 = at15.before.before.before.before.before.before.before in
     let A = at22.args in (
       at22.requires.0,
-      receiving.may-take A.sizes.route A.nest A.sizes at22.requires.0.0 refl (state_of [] A.buffer.now [] A.status.now)
-          A.processor A.header A.words.now (inboxOf A.parts.now A.masks.now) at22.requires.1 (sym at15.misdirected.ensures ∙ at14.if1.false)
+      receiving.may_take A.sizes.route A.nest A.sizes at22.requires.0.0 refl (state_of [] A.buffer.now [] A.status.now)
+          A.processor A.header A.words.now (inbox_of A.parts.now A.masks.now) at22.requires.1 (sym at15.misdirected.ensures ∙ at14.if1.false)
           at13.word-index.result at13.word-index.ensures at12.nth.result at12.nth.ensures at8.take_Chunk.result at8.take_Chunk.new.1.1.1.0
           at8.take_Chunk.auto.1.1.1.0 at8.take_Chunk.ensures,
     )
@@ -214,8 +214,8 @@ returns-3 c =
     let at20 = at19.before in
     let at27 = at20.before.before.before.before.before.before.before in
     let A = at27.args in
-    λ ms l. receiving.took-whole A.sizes.route A.nest A.sizes at27.requires.0.0 refl (state_of ms A.buffer.now l A.status.now)
-    A.processor A.header A.words.now (inboxOf A.parts.now A.masks.now) at27.requires.1 (sym at20.misdirected.ensures ∙ at19.if1.false)
+    λ ms l. receiving.took_whole A.sizes.route A.nest A.sizes at27.requires.0.0 refl (state_of ms A.buffer.now l A.status.now)
+    A.processor A.header A.words.now (inbox_of A.parts.now A.masks.now) at27.requires.1 (sym at20.misdirected.ensures ∙ at19.if1.false)
     at18.word-index.result at18.word-index.ensures at17.nth.result at17.nth.ensures at13.take_Chunk.result at13.take_Chunk.new.1.1.1.0
     at13.take_Chunk.auto.1.1.1.0 at13.take_Chunk.ensures at9.if2.false _ _ (at4.receive.ensures ms l)
 

@@ -54,7 +54,7 @@ returns c =
     let at-byte-wide = at-byte-wide2.before in
     let start = at-byte-wide.before.before.before.before.before.before in
     let A = start.args in
-    L.bound-is A.nest A.k _ _ _ _ _ _ at-byte-wide.byte-wide.ensures at-byte-wide2.byte-wide2.ensures at-byte-wide3.byte-wide3.ensures
+    L.bound_is A.nest A.k _ _ _ _ _ _ at-byte-wide.byte-wide.ensures at-byte-wide2.byte-wide2.ensures at-byte-wide3.byte-wide3.ensures
     c.before.before.byte-wide4.ensures c.before.half-wide.ensures c.bound-record.ensures
 
 pub bound-of-spec : {M : Type 1} → statement M

@@ -38,7 +38,7 @@ returns : tie.Need-returns
 returns c =
     let at_wide = c.before.before.before in
     let start = at_wide.before.before.before.before in
-    L.dimension-is start.args.nest start.args.j _ _ _ _ at_wide.index-wide.ensures c.before.before.index-wide2.ensures c.before.index-wide3.ensures
+    L.dimension_is start.args.nest start.args.j _ _ _ _ at_wide.index-wide.ensures c.before.before.index-wide2.ensures c.before.index-wide3.ensures
     c.dimension-record.ensures
 
 pub dimension-of-spec : {M : Type 1} → statement M

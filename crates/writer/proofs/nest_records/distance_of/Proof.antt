@@ -72,7 +72,7 @@ returns c =
     let at_wide = at-wide2.before in
     let start = at_wide.before.before.before in
     let A = start.args in
-    L.narrow-is A.nest A.e _ _ _ _ at_wide.index-wide.ensures at-wide2.index-wide2.ensures at-wide3.index-wide3.ensures at-wide4.index-wide4.ensures _ _
+    L.narrow_is A.nest A.e _ _ _ _ at_wide.index-wide.ensures at-wide2.index-wide2.ensures at-wide3.index-wide3.ensures at-wide4.index-wide4.ensures _ _
     c.before.before.narrow.ensures c.before.if1.true c.narrow-record.ensures
 
 mul-wide-record : tie.Need-overflow-mul-wide-record
@@ -93,7 +93,7 @@ returns-2 c =
     let start = at_wide.before.before.before in
     let A = start.args in
     L.wide_is A.nest A.e _ _ _ _ at_wide.index-wide.ensures at-wide2.index-wide2.ensures at-wide3.index-wide3.ensures at-wide4.index-wide4.ensures _ _
-    c.before.before.narrow.ensures c.before.if1.false c.wide-record.ensures
+    c.before.before.narrow.ensures c.before.if1.false c.wide_record.ensures
 
 pub distance-of-spec : {M : Type 1} → statement M
 distance-of-spec =

@@ -9,7 +9,7 @@ use borrow.Author.Rules.{rules}
 use borrow.Author.Tests.{lt-ltb}
 use Rattle.base.specs.Tests.{every}
 use Rattle.nest.specs.Nest.{component}
-use Rattle.nest.proofs.Laws.{every-start, every-step}
+use Rattle.nest.proofs.Laws.{every_start, every_step}
 use Rattle.writer.proofs.Records as L
 use Rattle.writer.proofs.nest_records.narrow.Statement.{statement}
 use Rattle.writer.proofs.nest_records.narrow.Tie as tie
@@ -21,7 +21,7 @@ abbrev decreases-loop : tie.decreases-loop
 decreases-loop e components j₀ j = 4 - j
 
 loop-holds : tie.Need-loop-init invariant-loop decreases-loop
-loop-holds c = (omega arith, every-start _)
+loop-holds c = (omega arith, every_start _)
 
 mul-if1 : tie.Need-overflow-mul-if1 invariant-loop decreases-loop
 mul-if1 c = search rules
@@ -50,13 +50,13 @@ loop-again : tie.Need-loop-preserved invariant-loop decreases-loop
 loop-again c =
     let A = c.before.before.before.before.args in (
       omega arith,
-      every-step _ _ c.before.before.loop.invariant.1 (lt-ltb (component A.nest A.e c.before.before.loop.j) 256
+      every_step _ _ c.before.before.loop.invariant.1 (lt-ltb (component A.nest A.e c.before.before.loop.j) 256
           (omega (arith, c.if1.false))),
     )
 
 returns-2 : tie.Need-returns-2 invariant-loop decreases-loop
 returns-2 c =
-    let A = c.before.before.before.args in L.all-narrow A.nest A.e c.before.loop.j c.before.loop.invariant.0 c.loop-test.false
+    let A = c.before.before.before.args in L.all_narrow A.nest A.e c.before.loop.j c.before.loop.invariant.0 c.loop-test.false
     c.before.loop.invariant.1
 
 pub narrow-spec : {M : Type 1} → statement M

@@ -10,7 +10,7 @@ dimension-of-requires : tie.Need-dimension-of-requires
 dimension-of-requires c κs = omega (arith, c.if1.true, c.before.before.requires.0.0)
 
 returns : tie.Need-returns
-returns c = L.dimension-row c.before.before.before.args.nest c.before.before.before.args.r _ c.before.if1.true c.dimension-of.ensures
+returns c = L.dimension_row c.before.before.before.args.nest c.before.before.before.args.r _ c.before.if1.true c.dimension-of.ensures
 
 bound-of-requires : tie.Need-bound-of-requires
 bound-of-requires c κs = omega (arith, c.if2.true, c.before.before.before.before.before.requires.0.1)
@@ -20,7 +20,7 @@ returns-2 c =
     let at-if1 = c.before.before.before.before in
     let start = at-if1.before.before in
     let A = start.args in
-    L.bound-row A.nest A.r _ _ at-if1.if1.false refl c.before.if2.true c.bound_of.ensures
+    L.bound_row A.nest A.r _ _ at-if1.if1.false refl c.before.if2.true c.bound_of.ensures
 
 distance-of-requires : tie.Need-distance-of-requires
 distance-of-requires c κs =
@@ -33,7 +33,7 @@ returns-3 c =
     let at-if1 = at-if2.before.before.before in
     let start = at-if1.before.before in
     let A = start.args in
-    L.distance-row A.nest A.r _ _ at-if1.if1.false at-if2.if2.false refl c.before.if3.true c.distance-of.ensures
+    L.distance_row A.nest A.r _ _ at-if1.if1.false at-if2.if2.false refl c.before.if3.true c.distance-of.ensures
 
 close-record-requires : tie.Need-close-record-requires
 close-record-requires c κs = search rules

@@ -3,15 +3,15 @@ use native.Mathlib.Omega.{arith}
 use Rattle.nest.specs.declared.Nest.{Nest}
 use mathlib.Core.Path.{◌≡◌}
 use mathlib.Core.Bool.{true}
-use Rattle.writer.specs.Writing.{nestWritable}
+use Rattle.writer.specs.Writing.{nest_writable}
 use Rattle.writer.specs.Demand202.{Tables}
-use Rattle.writer.proofs.Fitting.{Fits, writable-fits}
+use Rattle.writer.proofs.Fitting.{Fits, writable_fits}
 use Rattle.writer.proofs.Told as T
 use Rattle.writer.proofs.reading.fields_of.Statement.{statement}
 use Rattle.writer.proofs.reading.fields_of.Tie as tie
 
-fit : (x : Nest) → Tables x × (nestWritable x ≡ true) → Fits x
-fit x p = writable-fits x p.0 p.1
+fit : (x : Nest) → Tables x × (nest_writable x ≡ true) → Fits x
+fit x p = writable_fits x p.0 p.1
 
 cast-t13 : tie.Need-overflow-cast-t13
 cast-t13 c =
@@ -42,49 +42,49 @@ halves-4-requires c κs =
     let at-slopes = c.before.before.before in
     let start = at-slopes.before.before.before.before.before.before.before.before.before.before in
     let f = fit start.args.nest start.requires in
-    (f.lengths.long, T.table-wide 4 _ 65536 _ (omega arith) f.lengths)
+    (f.lengths.long, T.table_wide 4 _ 65536 _ (omega arith) f.lengths)
 
 halves-4-requires-2 : tie.Need-halves-4-requires-2
 halves-4-requires-2 c κs =
     let at-slopes = c.before.before.before.before in
     let start = at-slopes.before.before.before.before.before.before.before.before.before.before in
     let f = fit start.args.nest start.requires in
-    (f.tiling.long, T.table-wide 4 _ 65536 _ (omega arith) f.tiling)
+    (f.tiling.long, T.table_wide 4 _ 65536 _ (omega arith) f.tiling)
 
 halves-4-requires-3 : tie.Need-halves-4-requires-3
 halves-4-requires-3 c κs =
     let at-slopes = c.before.before.before.before.before in
     let start = at-slopes.before.before.before.before.before.before.before.before.before.before in
     let f = fit start.args.nest start.requires in
-    (f.counts.long, T.table-wide 4 _ 65536 _ (omega arith) f.counts)
+    (f.counts.long, T.table_wide 4 _ 65536 _ (omega arith) f.counts)
 
 halves-32-requires : tie.Need-halves-32-requires
 halves-32-requires c κs =
     let at-slopes = c.before.before.before.before.before.before in
     let start = at-slopes.before.before.before.before.before.before.before.before.before.before in
     let f = fit start.args.nest start.requires in
-    (f.components.long, T.table-wide 32 _ 65536 _ (omega arith) f.components)
+    (f.components.long, T.table_wide 32 _ 65536 _ (omega arith) f.components)
 
 halves-8-requires : tie.Need-halves-8-requires
 halves-8-requires c κs =
     let at-slopes = c.before.before.before.before.before.before.before in
     let start = at-slopes.before.before.before.before.before.before.before.before.before.before in
     let f = fit start.args.nest start.requires in
-    (f.weights.long, T.table-wide 8 _ 65536 _ (omega arith) f.weights)
+    (f.weights.long, T.table_wide 8 _ 65536 _ (omega arith) f.weights)
 
 offsets-of-requires : tie.Need-offsets-of-requires
 offsets-of-requires c κs =
     let at-slopes = c.before.before.before.before.before.before.before.before in
     let start = at-slopes.before.before.before.before.before.before.before.before.before.before in
     let f = fit start.args.nest start.requires in
-    (f.bounds, T.table-wide 4 _ 65536 _ (omega arith) f.offsets)
+    (f.bounds, T.table_wide 4 _ 65536 _ (omega arith) f.offsets)
 
 slopes-of-requires : tie.Need-slopes-of-requires
 slopes-of-requires c κs =
     let at-slopes = c.before.before.before.before.before.before.before.before.before in
     let start = at-slopes.before.before.before.before.before.before.before.before.before.before in
     let f = fit start.args.nest start.requires in
-    (f.bounds, T.table-wide 4 _ 256 _ (omega arith) f.slopes)
+    (f.bounds, T.table_wide 4 _ 256 _ (omega arith) f.slopes)
 
 cast-t24 : tie.Need-overflow-cast-t24
 cast-t24 c =

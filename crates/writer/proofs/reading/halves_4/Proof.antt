@@ -17,7 +17,7 @@ abbrev decreases-loop : tie.decreases-loop
 decreases-loop values table₀ i₀ table i = 4 - i
 
 loop-holds : tie.Need-loop-init invariant-loop decreases-loop
-loop-holds c = (omega arith, N.filled-start 4 _)
+loop-holds c = (omega arith, N.filled_start 4 _)
 
 mul-table : tie.Need-overflow-mul-table invariant-loop decreases-loop
 mul-table c = search rules
@@ -45,8 +45,8 @@ loop-again c = (omega arith, N.filled_next 4 _ _ _ _ c.before.loop.invariant.1 (
 
 returns : tie.Need-returns invariant-loop decreases-loop
 returns c =
-    N.filled-end 4 _ 4 c.before.loop.i _ c.before.loop.invariant.0 c.loop-test.false c.before.loop.invariant.1
-    ∙ T.all-filled 4 _ c.before.before.requires.0
+    N.filled_end 4 _ 4 c.before.loop.i _ c.before.loop.invariant.0 c.loop-test.false c.before.loop.invariant.1
+    ∙ T.all_filled 4 _ c.before.before.requires.0
 
 pub halves-4-spec : {M : Type 1} → statement M
 halves-4-spec =

@@ -17,7 +17,7 @@ abbrev decreases-loop : tie.decreases-loop
 decreases-loop values table₀ i₀ table i = 8 - i
 
 loop-holds : tie.Need-loop-init invariant-loop decreases-loop
-loop-holds c = (omega arith, N.filled-start 8 _)
+loop-holds c = (omega arith, N.filled_start 8 _)
 
 mul-table : tie.Need-overflow-mul-table invariant-loop decreases-loop
 mul-table c = search rules
@@ -45,8 +45,8 @@ loop-again c = (omega arith, N.filled_next 8 _ _ _ _ c.before.loop.invariant.1 (
 
 returns : tie.Need-returns invariant-loop decreases-loop
 returns c =
-    N.filled-end 8 _ 8 c.before.loop.i _ c.before.loop.invariant.0 c.loop-test.false c.before.loop.invariant.1
-    ∙ T.all-filled 8 _ c.before.before.requires.0
+    N.filled_end 8 _ 8 c.before.loop.i _ c.before.loop.invariant.0 c.loop-test.false c.before.loop.invariant.1
+    ∙ T.all_filled 8 _ c.before.before.requires.0
 
 pub halves-8-spec : {M : Type 1} → statement M
 halves-8-spec =

@@ -16,7 +16,7 @@ abbrev decreases-loop : tie.decreases-loop
 decreases-loop n values table₀ i₀ table i = n - i
 
 loop-holds : tie.Need-loop-init invariant-loop decreases-loop
-loop-holds c = (omega arith, N.filled-start 4 _)
+loop-holds c = (omega arith, N.filled_start 4 _)
 
 mul-half-index : tie.Need-overflow-mul-half-index invariant-loop decreases-loop
 mul-half-index c = search rules
@@ -49,7 +49,7 @@ loop-again : tie.Need-loop-preserved invariant-loop decreases-loop
 loop-again c = (omega arith, N.filled_next 4 _ _ _ _ c.before.before.loop.invariant.1 (omega arith) (ap (λ (v : ℕ). (v + 32768) % 65536) c.half-index.ensures))
 
 returns : tie.Need-returns invariant-loop decreases-loop
-returns c = N.filled-end 4 _ _ c.before.loop.i _ c.before.loop.invariant.0 c.loop-test.false c.before.loop.invariant.1
+returns c = N.filled_end 4 _ _ c.before.loop.i _ c.before.loop.invariant.0 c.loop-test.false c.before.loop.invariant.1
 
 pub offsets-of-spec : {M : Type 1} → statement M
 offsets-of-spec =

@@ -23,7 +23,7 @@ fields-of-requires : tie.Need-fields-of-requires
 fields-of-requires c κs =
     let A = c.before.before.before.args in
     let read = c.before.read in
-    T.read-nest A.encoded.now read.result read.ensures.0 (read.ensures.1 c.if1.false) c.if1.false
+    T.read_nest A.encoded.now read.result read.ensures.0 (read.ensures.1 c.if1.false) c.if1.false
 
 returns-2 : tie.Need-returns-2
 returns-2 c =

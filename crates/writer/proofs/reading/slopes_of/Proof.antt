@@ -16,7 +16,7 @@ abbrev decreases-loop : tie.decreases-loop
 decreases-loop n values table₀ i₀ table i = n - i
 
 loop-holds : tie.Need-loop-init invariant-loop decreases-loop
-loop-holds c = (omega arith, N.filled-start 4 _)
+loop-holds c = (omega arith, N.filled_start 4 _)
 
 array-read-byte-index : tie.Need-array-read-byte-index invariant-loop decreases-loop
 array-read-byte-index c = search rules
@@ -43,7 +43,7 @@ loop-again : tie.Need-loop-preserved invariant-loop decreases-loop
 loop-again c = (omega arith, N.filled_next 4 _ _ _ _ c.before.before.loop.invariant.1 (omega arith) (ap (λ (v : ℕ). (v + 255) % 256) c.byte-index.ensures))
 
 returns : tie.Need-returns invariant-loop decreases-loop
-returns c = N.filled-end 4 _ _ c.before.loop.i _ c.before.loop.invariant.0 c.loop-test.false c.before.loop.invariant.1
+returns c = N.filled_end 4 _ _ c.before.loop.i _ c.before.loop.invariant.0 c.loop-test.false c.before.loop.invariant.1
 
 pub slopes-of-spec : {M : Type 1} → statement M
 slopes-of-spec =

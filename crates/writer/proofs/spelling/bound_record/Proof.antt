@@ -36,7 +36,7 @@ returns c =
     let at-low2 = at-low3.before in
     let at_low = at-low2.before in
     let A = at_low.before.args in
-    L.bound-made A.side A.dimension A.earlier A.slope A.offset _ _ _ _ _ _ at_low.low.ensures at-low2.low2.ensures at-low3.low3.ensures at-low4.low4.ensures at-low5.low5.ensures c.high.ensures
+    L.bound_made A.side A.dimension A.earlier A.slope A.offset _ _ _ _ _ _ at_low.low.ensures at-low2.low2.ensures at-low3.low3.ensures at-low4.low4.ensures at-low5.low5.ensures c.high.ensures
 
 pub bound-record-spec : {M : Type 1} → statement M
 bound-record-spec =

@@ -26,7 +26,7 @@ returns c =
     let at-low2 = at_high.before in
     let at_low = at-low2.before in
     let A = at_low.before.args in
-    L.close-made A.shift A.boundary _ _ _ _ _ at_low.low.ensures at-low2.low2.ensures at_high.high.ensures at-low3.low3.ensures c.high2.ensures
+    L.close_made A.shift A.boundary _ _ _ _ _ at_low.low.ensures at-low2.low2.ensures at_high.high.ensures at-low3.low3.ensures c.high2.ensures
 
 pub close-record-spec : {M : Type 1} → statement M
 close-record-spec =

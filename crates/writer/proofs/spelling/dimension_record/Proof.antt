@@ -30,7 +30,7 @@ returns c =
     let at_high = at-low2.before in
     let at_low = at_high.before in
     let A = at_low.before.args in
-    L.dimension-made A.length A.tile A.count _ _ _ _ _ _ at_low.low.ensures at_high.high.ensures at-low2.low2.ensures at-high2.high2.ensures at-low3.low3.ensures c.high3.ensures
+    L.dimension_made A.length A.tile A.count _ _ _ _ _ _ at_low.low.ensures at_high.high.ensures at-low2.low2.ensures at-high2.high2.ensures at-low3.low3.ensures c.high3.ensures
 
 pub dimension-record-spec : {M : Type 1} → statement M
 dimension-record-spec =

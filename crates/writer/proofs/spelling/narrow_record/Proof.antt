@@ -30,7 +30,7 @@ returns c =
     let at_high = at-low2.before in
     let at_low = at_high.before in
     let A = at_low.before.args in
-    L.narrow-made A.d1 A.d2 A.d3 A.d4 A.weight _ _ _ _ _ _ at-low2.low2.ensures at-low3.low3.ensures at-low4.low4.ensures
+    L.narrow_made A.d1 A.d2 A.d3 A.d4 A.weight _ _ _ _ _ _ at-low2.low2.ensures at-low3.low3.ensures at-low4.low4.ensures
     c.low5.ensures at_low.low.ensures at_high.high.ensures
 
 pub narrow-record-spec : {M : Type 1} → statement M

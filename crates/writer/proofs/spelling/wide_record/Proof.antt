@@ -46,7 +46,7 @@ returns c =
     let at_high = at-low2.before in
     let at_low = at_high.before in
     let A = at_low.before.args in
-    L.wide-made A.d1 A.d2 A.d3 A.d4 A.weight _ _ _ _ _ _ _ _ _ _ at_low.low.ensures at_high.high.ensures at-low2.low2.ensures at-high2.high2.ensures at-low3.low3.ensures at-high3.high3.ensures at-low4.low4.ensures at-high4.high4.ensures at-low5.low5.ensures c.high5.ensures
+    L.wide_made A.d1 A.d2 A.d3 A.d4 A.weight _ _ _ _ _ _ _ _ _ _ at_low.low.ensures at_high.high.ensures at-low2.low2.ensures at-high2.high2.ensures at-low3.low3.ensures at-high3.high3.ensures at-low4.low4.ensures at-high4.high4.ensures at-low5.low5.ensures c.high5.ensures
 
 pub wide-record-spec : {M : Type 1} → statement M
 wide-record-spec =

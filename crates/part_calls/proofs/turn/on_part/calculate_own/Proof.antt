@@ -18,7 +18,7 @@ slice-aggregate-own-cells : tie.Need-slice-aggregate-own-cells
 slice-aggregate-own-cells c =
     let S = c.before.before.before.before in
     let A = S.args in
-    front.lent-cells A.nest A.sizes A.b S.requires.0.0.0 (replicate {A = ℕ} 16384 0) (length-replicate {A = ℕ} 16384 0)
+    front.lent_cells A.nest A.sizes A.b S.requires.0.0.0 (replicate {A = ℕ} 16384 0) (length-replicate {A = ℕ} 16384 0)
 
 own-cells-requires : tie.Need-own-cells-requires
 own-cells-requires c κs =
@@ -26,7 +26,7 @@ own-cells-requires c κs =
     let A = S.args in (
       (S.requires.0.0.0, (S.requires.0.0.1.routed, S.requires.0.1.0)),
       (
-        front.lent-long A.nest A.sizes A.b S.requires.0.0.0 (replicate {A = ℕ}
+        front.lent_long A.nest A.sizes A.b S.requires.0.0.0 (replicate {A = ℕ}
             16384 0) (length-replicate {A = ℕ} 16384 0),
         refl,
       ),
@@ -36,35 +36,35 @@ array-share-prefix-owned : tie.Need-array-share-prefix-owned
 array-share-prefix-owned c =
     let S = c.before.before.before.before.before.before.before in
     let A = S.args in
-    let own-cells = c.before.own-cells in
-    front.back-room A.nest A.sizes A.b S.requires.0.0.0 (replicate {A = ℕ} 16384 0) own-cells.new.1.1.1.0 (length-replicate {A = ℕ} 16384
-    0) own-cells.auto.1.1.1.0
+    let cells_are_own = c.before.cells_are_own in
+    front.back_room A.nest A.sizes A.b S.requires.0.0.0 (replicate {A = ℕ} 16384 0) cells_are_own.new.1.1.1.0 (length-replicate {A = ℕ} 16384
+    0) cells_are_own.auto.1.1.1.0
 
 slice-aggregate-calculate : tie.Need-slice-aggregate-calculate
 slice-aggregate-calculate c =
     let S = c.before.before.before.before.before.before.before.before in
     let A = S.args in
-    let own-cells = c.before.before.own-cells in
-    front.back-lent A.nest A.sizes A.b S.requires.0.0.0 (replicate {A = ℕ} 16384 0) own-cells.new.1.1.1.0 (length-replicate {A = ℕ} 16384
-    0) own-cells.auto.1.1.1.0
+    let cells_are_own = c.before.before.cells_are_own in
+    front.back_lent A.nest A.sizes A.b S.requires.0.0.0 (replicate {A = ℕ} 16384 0) cells_are_own.new.1.1.1.0 (length-replicate {A = ℕ} 16384
+    0) cells_are_own.auto.1.1.1.0
 
 calculate-requires : tie.Need-calculate-requires
 calculate-requires c κs =
     let S = c.before.before.before.before.before.before.before.before.before.before in
     let A = S.args in
-    let own-cells = c.before.before.before.before.own-cells in
-    let is = front.back_is A.nest A.sizes A.b S.requires.0.0.0 (replicate {A = ℕ} 16384 0) own-cells.new.1.1.1.0 (length-replicate {A =
-    ℕ} 16384 0) own-cells.auto.1.1.1.0 in
+    let cells_are_own = c.before.before.before.before.cells_are_own in
+    let is = front.back_is A.nest A.sizes A.b S.requires.0.0.0 (replicate {A = ℕ} 16384 0) cells_are_own.new.1.1.1.0 (length-replicate {A =
+    ℕ} 16384 0) cells_are_own.auto.1.1.1.0 in
     record {
       sized = S.requires.0.0.0;
       tabled = S.requires.0.0.1;
       processor = S.requires.0.1.0;
       low = S.requires.0.1.1.0;
       mine = S.requires.0.1.1.1.0;
-      kept-are = S.requires.0.1.1.1.1.are;
-      own-are = is ∙ own-cells.ensures.0.are;
+      kept_are = S.requires.0.1.1.1.1.are;
+      own_are = is ∙ cells_are_own.ensures.0.are;
       counted = S.requires.0.1.1.1.1.counted;
-      own-counted = subst (λ (k : List ℕ). Counted k own-cells.new.1.1.1.1.0) (sym is) own-cells.ensures.0.counted;
+      own_counted = subst (λ (k : List ℕ). Counted k cells_are_own.new.1.1.1.1.0) (sym is) cells_are_own.ensures.0.counted;
       source = S.requires.1.0;
       memory = S.requires.1.1;
     }

@@ -31,10 +31,10 @@ returns c =
     let A = S.args in
     let count_at = c.before.count_at in
     let calculate-own = c.before.before.before.before.calculate-own in
-    let next-record = c.next-record in
-    λ mail l marks g three f. stage.calculate-leaves A.nest A.sizes A.b A.lens.now A.kept.now A.counts.now A.ordinals.now
+    let next_record = c.next_record in
+    λ mail l marks g three f. stage.calculate_leaves A.nest A.sizes A.b A.lens.now A.kept.now A.counts.now A.ordinals.now
     A.starts.now S.requires.0.0 A.memory.now mail marks l g three A.finished f A.tile count_at.result
-    (source_of (plan_of A.sizes.route A.nest) A.b A.source.now) _ _ calculate-own.ensures count_at.ensures.0 (next-record.ensures l 0)
+    (source_of (plan_of A.sizes.route A.nest) A.b A.source.now) _ _ calculate-own.ensures count_at.ensures.0 (next_record.ensures l 0)
 
 pub calculate-stage-spec : {M : Type 1} → statement M
 calculate-stage-spec =

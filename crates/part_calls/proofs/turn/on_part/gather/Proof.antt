@@ -4,7 +4,7 @@ use mathlib.Core.Path.{refl, sym, ap, ◌∙◌}
 use Rattle.base.specs.Lists.{pack}
 use Rattle.plan.specs.Shaped.{plan_of}
 use Rattle.plan.proofs.ShapedSound.{sound}
-use Rattle.network.specs.Own.{keptCells}
+use Rattle.network.specs.Own.{kept_cells}
 use Rattle.part.specs.Part.{all_of}
 use native.Mathlib.Omega.{arith}
 use Rattle.stages.proofs.Parts as parts
@@ -35,7 +35,7 @@ loop-holds c =
     let A = S.args in
     let count_at = c.count_at in (
       refl,
-      working.gather-start A.sizes.route A.nest A.tile A.ordinals.now A.starts.now A.mail.now (all_of (plan_of A.sizes.route A.nest)
+      working.gather_start A.sizes.route A.nest A.tile A.ordinals.now A.starts.now A.mail.now (all_of (plan_of A.sizes.route A.nest)
           A.b A.memory.now) A.marks.now
           count_at.result count_at.ensures.0,
     )
@@ -56,7 +56,7 @@ mul-word-index c =
     let loop-test = c.before.loop-test in
     omega (
       arith,
-      working.number-low A.sizes.route A.nest A.tile loop.j nth-at.result (omega (arith, loop.invariant.1.all, loop-test.true))
+      working.number_low A.sizes.route A.nest A.tile loop.j nth-at.result (omega (arith, loop.invariant.1.all, loop-test.true))
           nth-at.ensures S.requires.0.0.known.few,
     )
 
@@ -67,7 +67,7 @@ element-copy-out-word-index c =
     let loop = c.before.before.loop in
     let nth-at = c.nth-at in
     let loop-test = c.before.loop-test in
-    working.number-low A.sizes.route A.nest A.tile loop.j nth-at.result (omega (arith, loop.invariant.1.all, loop-test.true)) nth-at.ensures
+    working.number_low A.sizes.route A.nest A.tile loop.j nth-at.result (omega (arith, loop.invariant.1.all, loop-test.true)) nth-at.ensures
     S.requires.0.0.known.few
 
 word-index-requires : tie.Need-word-index-requires invariant-loop decreases-loop
@@ -81,16 +81,16 @@ take-from-requires c κs =
     let loop = c.before.before.before.before.before.loop in
     let loop-test = c.before.before.before.before.loop-test in
     let word-index = c.before.word-index in (
-      (S.requires.0.0.known.planned, parts.placed-self A.sizes.route A.nest _ nth-at.result nth-at.ensures),
+      (S.requires.0.0.known.planned, parts.placed_self A.sizes.route A.nest _ nth-at.result nth-at.ensures),
       (
         (
           S.requires.0.0.cells,
-          stage.due-cells A.nest A.sizes A.b A.lens.now A.kept.now A.counts.now A.ordinals.now A.starts.now
+          stage.due_cells A.nest A.sizes A.b A.lens.now A.kept.now A.counts.now A.ordinals.now A.starts.now
               S.requires.0.0 A.tile S.requires.1.1 loop.j nth-at.result (omega (arith, loop.invariant.1.all, loop-test.true)) nth-at.ensures,
         ),
         (
           loop.invariant.0 ∙ S.requires.0.1.memory,
-          working.place-low A.sizes.route A.nest A.tile loop.j nth-at.result (omega (arith, loop.invariant.1.all, loop-test.true))
+          working.place_low A.sizes.route A.nest A.tile loop.j nth-at.result (omega (arith, loop.invariant.1.all, loop-test.true))
               nth-at.ensures A.starts.now _ word-index.result
               (stage.placed A.nest A.sizes A.b A.lens.now A.kept.now A.counts.now A.ordinals.now A.starts.now S.requires.0.0
               A.tile
@@ -108,7 +108,7 @@ mul-word-index-2 c =
     let loop-test = c.before.before.before.before.before.before.before.loop-test in
     omega (
       arith,
-      working.number-low A.sizes.route A.nest A.tile loop.j nth-at.result (omega (arith, loop.invariant.1.all, loop-test.true))
+      working.number_low A.sizes.route A.nest A.tile loop.j nth-at.result (omega (arith, loop.invariant.1.all, loop-test.true))
           nth-at.ensures S.requires.0.0.known.few,
     )
 
@@ -119,7 +119,7 @@ element-copy-out-word-index-2 c =
     let loop = c.before.before.before.before.before.before.before.before.loop in
     let nth-at = c.before.before.before.before.before.before.nth-at in
     let loop-test = c.before.before.before.before.before.before.before.loop-test in
-    working.number-low A.sizes.route A.nest A.tile loop.j nth-at.result (omega (arith, loop.invariant.1.all, loop-test.true)) nth-at.ensures
+    working.number_low A.sizes.route A.nest A.tile loop.j nth-at.result (omega (arith, loop.invariant.1.all, loop-test.true)) nth-at.ensures
     S.requires.0.0.known.few
 
 word-index-requires-2 : tie.Need-word-index-requires-2 invariant-loop decreases-loop
@@ -135,8 +135,8 @@ gathered-requires c κs =
     let word-index2 = c.before.word-index2 in
     omega (
       arith,
-      loop.invariant.1.long-marks,
-      working.rank-low A.sizes.route A.nest A.tile loop.j nth-at.result
+      loop.invariant.1.long_marks,
+      working.rank_low A.sizes.route A.nest A.tile loop.j nth-at.result
           (omega (arith, loop.invariant.1.all, loop-test.true)) nth-at.ensures A.ordinals.now _ word-index2.result (stage.ranked A.nest A.sizes
           A.b A.lens.now A.kept.now A.counts.now A.ordinals.now A.starts.now S.requires.0.0 A.tile S.requires.1.1 A.marks.now
           S.requires.0.1.marks)
@@ -156,7 +156,7 @@ loop-again c =
     let A = S.args in
     let loop = at-index.before.before.before.before.before.before.before.before.before.before.loop in
     let nth-at = at-index.before.before.before.before.before.before.before.before.nth-at in
-    let take-from = at-index.before.before.before.before.take-from in
+    let take_from = at-index.before.before.before.before.take_from in
     let count_at = at-index.before.before.before.before.before.before.before.before.before.before.before.count_at in
     let word-index = at-index.before.before.before.before.before.before.word-index in
     let word-index2 = at-index.word-index2 in
@@ -166,18 +166,18 @@ loop-again c =
     let so = sound A.sizes.route A.nest S.requires.0.0.known.planned.0.accepted in
     let L = loop in
     let q = nth-at.ensures in
-    let new = take-from.new.1.1.1.1.1.1.1.0 in (
-      take-from.auto.1.1.1.1.1.1.1.0 ∙ L.invariant.0,
-      working.gather-again A.sizes.route A.nest A.tile A.ordinals.now A.starts.now A.mail.now (all_of p A.b A.memory.now)
+    let new = take_from.new.1.1.1.1.1.1.1.0 in (
+      take_from.auto.1.1.1.1.1.1.1.0 ∙ L.invariant.0,
+      working.gather_again A.sizes.route A.nest A.tile A.ordinals.now A.starts.now A.mail.now (all_of p A.b A.memory.now)
           A.marks.now
           count_at.result (all_of p A.b L.memory) (all_of p A.b new) L.marks gathered.new.0 L.j nth-at.result word-index.result
           word-index2.result L.invariant.1 loop-test.true q word-index.ensures word-index2.ensures
           (kept.all_same p so A.b A.kept.now S.requires.0.0.cells.are L.memory new)
-          (kept.taken-all p so A.b A.kept.now S.requires.0.0.cells.are nth-at.result.number (omega (arith, q.number, q.low))
-          (stage.due-cells A.nest A.sizes A.b A.lens.now A.kept.now A.counts.now A.ordinals.now A.starts.now S.requires.0.0
+          (kept.taken_all p so A.b A.kept.now S.requires.0.0.cells.are nth-at.result.number (omega (arith, q.number, q.low))
+          (stage.due_cells A.nest A.sizes A.b A.lens.now A.kept.now A.counts.now A.ordinals.now A.starts.now S.requires.0.0
           A.tile
           S.requires.1.1 L.j nth-at.result (omega (arith, loop.invariant.1.all, loop-test.true)) q)
-          L.memory (L.invariant.0 ∙ S.requires.0.1.memory) _ new take-from.ensures) gathered.ensures,
+          L.memory (L.invariant.0 ∙ S.requires.0.1.memory) _ new take_from.ensures) gathered.ensures,
     )
 
 same_length : tie.Need-same-length invariant-loop decreases-loop
@@ -188,7 +188,7 @@ same_length c =
 same-length-2 : tie.Need-same-length-2 invariant-loop decreases-loop
 same-length-2 c =
     let loop = c.before.loop in
-    loop.invariant.1.long-marks
+    loop.invariant.1.long_marks
 
 returns : tie.Need-returns invariant-loop decreases-loop
 returns c =
@@ -200,11 +200,11 @@ returns c =
     let p = plan_of A.sizes.route A.nest in
     let so = sound A.sizes.route A.nest S.requires.0.0.known.planned.0.accepted in
     let L = loop in
-    let done = working.gather-done A.sizes.route A.nest A.tile A.ordinals.now A.starts.now A.mail.now (all_of p A.b A.memory.now)
+    let done = working.gather_done A.sizes.route A.nest A.tile A.ordinals.now A.starts.now A.mail.now (all_of p A.b A.memory.now)
     A.marks.now
     count_at.result (all_of p A.b L.memory) L.marks L.j L.invariant.1 loop-test.false in (
-      sym (kept.part-back p so A.b A.kept.now S.requires.0.0.cells.are L.memory (L.invariant.0 ∙ S.requires.0.1.memory))
-          ∙ ap (λ (l : List ℕ). pack l (keptCells p A.b)) done.0,
+      sym (kept.part_back p so A.b A.kept.now S.requires.0.0.cells.are L.memory (L.invariant.0 ∙ S.requires.0.1.memory))
+          ∙ ap (λ (l : List ℕ). pack l (kept_cells p A.b)) done.0,
       done.1,
     )
 

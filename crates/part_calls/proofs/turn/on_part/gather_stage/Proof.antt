@@ -20,7 +20,7 @@ returns c =
     let S = c.before.before.before.before.before.before.before.before.before.before.before in
     let A = S.args in
     let gather = c.before.before.before.before.gather in
-    λ l three f. stage.gather-leaves A.nest A.sizes A.b A.lens.now A.kept.now A.counts.now A.ordinals.now A.starts.now
+    λ l three f. stage.gather_leaves A.nest A.sizes A.b A.lens.now A.kept.now A.counts.now A.ordinals.now A.starts.now
     S.requires.0.0 A.memory.now A.mail.now A.marks.now l S.requires.0.1 three A.finished f
     A.tile S.requires.1.1 _ _ gather.ensures.0 gather.ensures.1
 

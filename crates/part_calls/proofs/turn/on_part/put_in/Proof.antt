@@ -17,20 +17,20 @@ array-borrow-prefix-cells : tie.Need-array-borrow-prefix-cells
 array-borrow-prefix-cells c =
     let S = c.before.before.before in
     let A = S.args in
-    kept.list-room A.place.words (kept.words-few A.nest A.sizes S.requires.0.0.0 A.place.number A.place S.requires.0.1)
+    kept.list_room A.place.words (kept.words_few A.nest A.sizes S.requires.0.0.0 A.place.number A.place S.requires.0.1)
 
 slice-aggregate-cells-of : tie.Need-slice-aggregate-cells-of
 slice-aggregate-cells-of c =
     let S = c.before.before.before.before in
     let A = S.args in
-    sym (kept.list-lent A.place.words (kept.words-few A.nest A.sizes S.requires.0.0.0 A.place.number A.place S.requires.0.1))
+    sym (kept.list_lent A.place.words (kept.words_few A.nest A.sizes S.requires.0.0.0 A.place.number A.place S.requires.0.1))
 
 cells-of-requires : tie.Need-cells-of-requires
 cells-of-requires c κs =
     let S = c.before.before.before.before in
     let A = S.args in (
       (S.requires.0.0.0, (S.requires.0.0.1, S.requires.0.1)),
-      kept.list-lent A.place.words (kept.words-few A.nest A.sizes S.requires.0.0.0
+      kept.list_lent A.place.words (kept.words_few A.nest A.sizes S.requires.0.0.0
           A.place.number A.place S.requires.0.1),
     )
 
@@ -39,7 +39,7 @@ array-share-prefix-cells c =
     let S = c.before.before.before.before.before.before in
     let A = S.args in
     let Cells-of = c.before.Cells-of in
-    kept.list-again A.place.words (kept.words-few A.nest A.sizes S.requires.0.0.0 A.place.number A.place S.requires.0.1)
+    kept.list_again A.place.words (kept.words_few A.nest A.sizes S.requires.0.0.0 A.place.number A.place S.requires.0.1)
     Cells-of.new.1.1.1.1.0 Cells-of.auto.1.1.1.1.0
 
 slice-aggregate-give : tie.Need-slice-aggregate-give
@@ -47,7 +47,7 @@ slice-aggregate-give c =
     let S = c.before.before.before.before.before.before.before in
     let A = S.args in
     let Cells-of = c.before.before.Cells-of in
-    sym (kept.list-long A.place.words (kept.words-few A.nest A.sizes S.requires.0.0.0 A.place.number A.place S.requires.0.1)
+    sym (kept.list_long A.place.words (kept.words_few A.nest A.sizes S.requires.0.0.0 A.place.number A.place S.requires.0.1)
     Cells-of.new.1.1.1.1.0 Cells-of.auto.1.1.1.1.0)
 
 mul-give : tie.Need-overflow-mul-give
@@ -69,10 +69,10 @@ give-requires c κs =
     let Cells-of = c.before.before.before.Cells-of in
     kept.listed (plan_of A.sizes.route A.nest) (sound A.sizes.route A.nest S.requires.0.0.0.accepted) A.b A.kept.now
     S.requires.1.0.0.are A.place.number S.requires.0.1.low S.requires.1.0.1 A.memory.now S.requires.1.1.0
-    S.requires.0.0.0.accepted.cells-most A.counts.now _ _ S.requires.1.0.0.counted (kept.list-is A.place.words (kept.words-few A.nest
+    S.requires.0.0.0.accepted.cells_most A.counts.now _ _ S.requires.1.0.0.counted (kept.list_is A.place.words (kept.words_few A.nest
     A.sizes S.requires.0.0.0 A.place.number A.place S.requires.0.1) Cells-of.new.1.1.1.1.0 Cells-of.auto.1.1.1.1.0 ∙
     Cells-of.ensures)
-    (parts.mid-length A.mail.now A.at A.place.words S.requires.1.1.1 ∙ S.requires.0.1.words)
+    (parts.mid_length A.mail.now A.at A.place.words S.requires.1.1.1 ∙ S.requires.0.1.words)
 
 same_length : tie.Need-same-length
 same_length c = search rules
@@ -85,8 +85,8 @@ returns c =
     let Cells-of = c.before.before.before.before.before.before.Cells-of in
     working.put_back A.mail.now give.new.1.1.1.1.0 _ A.at A.place.words S.requires.1.1.1 give.auto.1.1.1.1.0
     (kept.given_out (plan_of A.sizes.route A.nest) (sound A.sizes.route A.nest S.requires.0.0.0.accepted) A.b A.kept.now
-    S.requires.1.0.0.are A.place.number S.requires.0.1.low S.requires.1.0.1 A.memory.now S.requires.1.1.0 _ _ (kept.list-is A.place.words
-    (kept.words-few A.nest A.sizes S.requires.0.0.0 A.place.number A.place S.requires.0.1) Cells-of.new.1.1.1.1.0
+    S.requires.1.0.0.are A.place.number S.requires.0.1.low S.requires.1.0.1 A.memory.now S.requires.1.1.0 _ _ (kept.list_is A.place.words
+    (kept.words_few A.nest A.sizes S.requires.0.0.0 A.place.number A.place S.requires.0.1) Cells-of.new.1.1.1.1.0
     Cells-of.auto.1.1.1.1.0 ∙ Cells-of.ensures) give.ensures)
 
 pub put-in-spec : {M : Type 1} → statement M

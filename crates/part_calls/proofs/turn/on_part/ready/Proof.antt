@@ -40,7 +40,7 @@ mul-word-index c =
     let A = S.args in
     omega (
       arith,
-      working.number-low A.sizes.route A.nest A.tile loop.j nth-at.result (omega (arith, loop.invariant.all, loop-test.true))
+      working.number_low A.sizes.route A.nest A.tile loop.j nth-at.result (omega (arith, loop.invariant.all, loop-test.true))
           nth-at.ensures S.requires.1.few,
     )
 
@@ -54,7 +54,7 @@ element-copy-out-word-index c =
     let loop = at-loop.loop in
     let S = at-loop.before.before.before in
     let A = S.args in
-    working.number-low A.sizes.route A.nest A.tile loop.j nth-at.result (omega (arith, loop.invariant.all, loop-test.true)) nth-at.ensures
+    working.number_low A.sizes.route A.nest A.tile loop.j nth-at.result (omega (arith, loop.invariant.all, loop-test.true)) nth-at.ensures
     S.requires.1.few
 
 word-index-requires : tie.Need-word-index-requires invariant-loop decreases-loop
@@ -72,7 +72,7 @@ shared-slice-read-if1 c =
     let loop = at-loop.loop in
     let S = at-loop.before.before.before in
     let A = S.args in
-    working.rank-low A.sizes.route A.nest A.tile loop.j nth-at.result (omega (arith, loop.invariant.all, loop-test.true)) nth-at.ensures
+    working.rank_low A.sizes.route A.nest A.tile loop.j nth-at.result (omega (arith, loop.invariant.all, loop-test.true)) nth-at.ensures
     A.ordinals.now _ word-index.result S.requires.1 word-index.ensures
 
 returns : tie.Need-returns invariant-loop decreases-loop
@@ -89,7 +89,7 @@ returns c =
     let count_at = at-count-at.count_at in
     let S = at-count-at.before.before in
     let A = S.args in
-    working.look-no A.sizes.route A.nest A.tile A.ordinals.now A.marks.now count_at.result loop.j loop.invariant nth-at.result
+    working.look_no A.sizes.route A.nest A.tile A.ordinals.now A.marks.now count_at.result loop.j loop.invariant nth-at.result
     word-index.result loop-test.true nth-at.ensures word-index.ensures c.if1.true
 
 add-j : tie.Need-overflow-add-j invariant-loop decreases-loop
@@ -112,7 +112,7 @@ loop-again c =
     let count_at = at-count-at.count_at in
     let S = at-count-at.before.before in
     let A = S.args in
-    working.look-again A.sizes.route A.nest A.tile A.ordinals.now A.marks.now count_at.result loop.j loop.invariant nth-at.result
+    working.look_again A.sizes.route A.nest A.tile A.ordinals.now A.marks.now count_at.result loop.j loop.invariant nth-at.result
     word-index.result loop-test.true nth-at.ensures word-index.ensures c.if1.false
 
 returns-2 : tie.Need-returns-2 invariant-loop decreases-loop
@@ -123,7 +123,7 @@ returns-2 c =
     let count_at = at-count-at.count_at in
     let S = at-count-at.before.before in
     let A = S.args in
-    working.look-done A.sizes.route A.nest A.tile A.ordinals.now A.marks.now count_at.result loop.j loop.invariant c.loop-test.false
+    working.look_done A.sizes.route A.nest A.tile A.ordinals.now A.marks.now count_at.result loop.j loop.invariant c.loop-test.false
 
 pub ready-spec : {M : Type 1} → statement M
 ready-spec =

@@ -18,7 +18,7 @@ mul-word-index c =
     let nth-at = c.nth-at in
     omega (
       arith,
-      stage.sent-low A.nest A.sizes A.b A.lens.now A.kept.now A.counts.now A.ordinals.now A.starts.now S.requires.0.0
+      stage.sent_low A.nest A.sizes A.b A.lens.now A.kept.now A.counts.now A.ordinals.now A.starts.now S.requires.0.0
           A.tile S.requires.1.0.1 A.sent nth-at.result S.requires.1.1.1 nth-at.ensures,
     )
 
@@ -27,7 +27,7 @@ element-copy-out-word-index c =
     let S = c.before.before.before.before.before in
     let A = S.args in
     let nth-at = c.nth-at in
-    stage.sent-low A.nest A.sizes A.b A.lens.now A.kept.now A.counts.now A.ordinals.now A.starts.now S.requires.0.0 A.tile
+    stage.sent_low A.nest A.sizes A.b A.lens.now A.kept.now A.counts.now A.ordinals.now A.starts.now S.requires.0.0 A.tile
     S.requires.1.0.1 A.sent nth-at.result S.requires.1.1.1 nth-at.ensures
 
 word-index-requires : tie.Need-word-index-requires
@@ -39,16 +39,16 @@ put-in-requires c κs =
     let A = S.args in
     let nth-at = c.before.before.before.nth-at in
     let word-index = c.before.word-index in (
-      (S.requires.0.0.known.planned, parts.placed-self A.sizes.route A.nest _ nth-at.result nth-at.ensures),
+      (S.requires.0.0.known.planned, parts.placed_self A.sizes.route A.nest _ nth-at.result nth-at.ensures),
       (
         (
           S.requires.0.0.cells,
-          stage.sent-cells A.nest A.sizes A.b A.lens.now A.kept.now A.counts.now A.ordinals.now A.starts.now
+          stage.sent_cells A.nest A.sizes A.b A.lens.now A.kept.now A.counts.now A.ordinals.now A.starts.now
               S.requires.0.0 A.tile S.requires.1.0.1 A.sent nth-at.result S.requires.1.1.1 nth-at.ensures,
         ),
         (
           S.requires.0.1.memory,
-          stage.sent-room A.nest A.sizes A.b A.lens.now A.kept.now A.counts.now A.ordinals.now A.starts.now
+          stage.sent_room A.nest A.sizes A.b A.lens.now A.kept.now A.counts.now A.ordinals.now A.starts.now
               S.requires.0.0 A.tile S.requires.1.0.1 A.sent nth-at.result S.requires.1.1.1 nth-at.ensures A.mail.now word-index.result
               S.requires.0.1.mail word-index.ensures,
         ),
@@ -62,7 +62,7 @@ mul-word-index-2 c =
     let nth-at = c.before.before.before.before.before.before.nth-at in
     omega (
       arith,
-      stage.sent-low A.nest A.sizes A.b A.lens.now A.kept.now A.counts.now A.ordinals.now A.starts.now S.requires.0.0 A.tile
+      stage.sent_low A.nest A.sizes A.b A.lens.now A.kept.now A.counts.now A.ordinals.now A.starts.now S.requires.0.0 A.tile
           S.requires.1.0.1 A.sent nth-at.result S.requires.1.1.1 nth-at.ensures,
     )
 
@@ -71,7 +71,7 @@ element-copy-out-word-index-2 c =
     let S = c.before.before.before.before.before.before.before.before.before.before.before in
     let A = S.args in
     let nth-at = c.before.before.before.before.before.before.nth-at in
-    stage.sent-low A.nest A.sizes A.b A.lens.now A.kept.now A.counts.now A.ordinals.now A.starts.now S.requires.0.0 A.tile
+    stage.sent_low A.nest A.sizes A.b A.lens.now A.kept.now A.counts.now A.ordinals.now A.starts.now S.requires.0.0 A.tile
     S.requires.1.0.1
     A.sent nth-at.result S.requires.1.1.1 nth-at.ensures
 
@@ -84,7 +84,7 @@ slice-write-marks c =
     let A = S.args in
     let nth-at = c.before.before.before.before.before.before.before.before.nth-at in
     let word-index2 = c.word-index2 in
-    stage.sent-rank A.nest A.sizes A.b A.lens.now A.kept.now A.counts.now A.ordinals.now A.starts.now S.requires.0.0 A.tile
+    stage.sent_rank A.nest A.sizes A.b A.lens.now A.kept.now A.counts.now A.ordinals.now A.starts.now S.requires.0.0 A.tile
     S.requires.1.0.1
     A.sent nth-at.result S.requires.1.1.1 nth-at.ensures A.marks.now word-index2.result S.requires.0.1.marks word-index2.ensures
 
@@ -120,11 +120,11 @@ returns c =
     let word-index2 = c.before.before.word-index2 in
     let nth-at = c.before.before.before.before.before.before.before.before.before.before.nth-at in
     let put_in = c.before.before.before.before.before.before.put_in in
-    let next-record = c.next-record in
-    λ l three f s. stage.send-leaves A.nest A.sizes A.b A.lens.now A.kept.now A.counts.now A.ordinals.now A.starts.now
+    let next_record = c.next_record in
+    λ l three f s. stage.send_leaves A.nest A.sizes A.b A.lens.now A.kept.now A.counts.now A.ordinals.now A.starts.now
     S.requires.0.0 A.memory.now A.mail.now A.marks.now l S.requires.0.1 three A.finished f A.tile
     S.requires.1.0.1 A.sent count_at.result word-index.result word-index2.result nth-at.result _ _ S.requires.1.1.1 nth-at.ensures s
-    count_at.ensures.0 word-index.ensures word-index2.ensures put_in.ensures (next-record.ensures l 0)
+    count_at.ensures.0 word-index.ensures word-index2.ensures put_in.ensures (next_record.ensures l 0)
 
 pub send-stage-spec : {M : Type 1} → statement M
 send-stage-spec =

@@ -3,10 +3,10 @@ use Rattle.core.specs.Prelude.{ℕ, ◌-◌, List, take}
 use mathlib.Core.Path.{sym, ap, ◌∙◌}
 use native.Mathlib.Omega.{arith}
 use Rattle.base.specs.Lists.{unpack, pack}
-use Rattle.machine.specs.Plan.{heldBy}
+use Rattle.machine.specs.Plan.{held_by}
 use Rattle.plan.specs.Shaped.{plan_of}
 use Rattle.plan.proofs.ShapedSound.{sound}
-use Rattle.network.specs.Own.{keptCells}
+use Rattle.network.specs.Own.{kept_cells}
 use Rattle.part.specs.Part.{all_of}
 use Rattle.stages.proofs.Parts as parts
 use Rattle.part_calls.proofs.turn.Kept as kept
@@ -21,20 +21,20 @@ array-borrow-prefix-cells : tie.Need-array-borrow-prefix-cells
 array-borrow-prefix-cells c =
     let S = c.before.before.before in
     let A = S.args in
-    kept.list-room A.place.words (kept.words-few A.nest A.sizes S.requires.0.0.0 A.place.number A.place S.requires.0.1)
+    kept.list_room A.place.words (kept.words_few A.nest A.sizes S.requires.0.0.0 A.place.number A.place S.requires.0.1)
 
 slice-aggregate-cells-of : tie.Need-slice-aggregate-cells-of
 slice-aggregate-cells-of c =
     let S = c.before.before.before.before in
     let A = S.args in
-    sym (kept.list-lent A.place.words (kept.words-few A.nest A.sizes S.requires.0.0.0 A.place.number A.place S.requires.0.1))
+    sym (kept.list_lent A.place.words (kept.words_few A.nest A.sizes S.requires.0.0.0 A.place.number A.place S.requires.0.1))
 
 cells-of-requires : tie.Need-cells-of-requires
 cells-of-requires c κs =
     let S = c.before.before.before.before in
     let A = S.args in (
       (S.requires.0.0.0, (S.requires.0.0.1, S.requires.0.1)),
-      kept.list-lent A.place.words (kept.words-few A.nest A.sizes S.requires.0.0.0
+      kept.list_lent A.place.words (kept.words_few A.nest A.sizes S.requires.0.0.0
           A.place.number A.place S.requires.0.1),
     )
 
@@ -43,7 +43,7 @@ array-share-prefix-cells c =
     let S = c.before.before.before.before.before.before in
     let A = S.args in
     let Cells-of = c.before.Cells-of in
-    kept.list-again A.place.words (kept.words-few A.nest A.sizes S.requires.0.0.0 A.place.number A.place S.requires.0.1)
+    kept.list_again A.place.words (kept.words_few A.nest A.sizes S.requires.0.0.0 A.place.number A.place S.requires.0.1)
     Cells-of.new.1.1.1.1.0 Cells-of.auto.1.1.1.1.0
 
 slice-aggregate-take : tie.Need-slice-aggregate-take
@@ -51,7 +51,7 @@ slice-aggregate-take c =
     let S = c.before.before.before.before.before.before.before in
     let A = S.args in
     let Cells-of = c.before.before.Cells-of in
-    sym (kept.list-long A.place.words (kept.words-few A.nest A.sizes S.requires.0.0.0 A.place.number A.place S.requires.0.1)
+    sym (kept.list_long A.place.words (kept.words_few A.nest A.sizes S.requires.0.0.0 A.place.number A.place S.requires.0.1)
     Cells-of.new.1.1.1.1.0 Cells-of.auto.1.1.1.1.0)
 
 mul-take : tie.Need-overflow-mul-take
@@ -75,10 +75,10 @@ take-requires c κs =
     let Cells-of = c.before.before.before.before.Cells-of in
     kept.listed (plan_of A.sizes.route A.nest) (sound A.sizes.route A.nest S.requires.0.0.0.accepted) A.b A.kept.now
     S.requires.1.0.0.are A.place.number S.requires.0.1.low S.requires.1.0.1 A.memory.now S.requires.1.1.0
-    S.requires.0.0.0.accepted.cells-most A.counts.now _ _ S.requires.1.0.0.counted (kept.list-is A.place.words (kept.words-few A.nest
+    S.requires.0.0.0.accepted.cells_most A.counts.now _ _ S.requires.1.0.0.counted (kept.list_is A.place.words (kept.words_few A.nest
     A.sizes S.requires.0.0.0 A.place.number A.place S.requires.0.1) Cells-of.new.1.1.1.1.0 Cells-of.auto.1.1.1.1.0 ∙
     Cells-of.ensures)
-    (parts.mid-length A.mail.now A.at A.place.words S.requires.1.1.1 ∙ S.requires.0.1.words)
+    (parts.mid_length A.mail.now A.at A.place.words S.requires.1.1.1 ∙ S.requires.0.1.words)
 
 same_length : tie.Need-same-length
 same_length c = search rules
@@ -90,12 +90,12 @@ returns c =
     let Cells-of = c.before.before.before.before.before.before.before.Cells-of in
     let take = c.before.before.take in
     kept.taken_in (plan_of A.sizes.route A.nest) (sound A.sizes.route A.nest S.requires.0.0.0.accepted) A.b A.kept.now
-    S.requires.1.0.0.are A.place.number S.requires.0.1.low S.requires.1.0.1 A.memory.now S.requires.1.1.0 _ _ _ (kept.list-is
-    A.place.words (kept.words-few A.nest A.sizes S.requires.0.0.0 A.place.number A.place S.requires.0.1) Cells-of.new.1.1.1.1.0
+    S.requires.1.0.0.are A.place.number S.requires.0.1.low S.requires.1.0.1 A.memory.now S.requires.1.1.0 _ _ _ (kept.list_is
+    A.place.words (kept.words_few A.nest A.sizes S.requires.0.0.0 A.place.number A.place S.requires.0.1) Cells-of.new.1.1.1.1.0
     Cells-of.auto.1.1.1.1.0 ∙ Cells-of.ensures) take.ensures
-    ∙ ap (λ (ws : List ℕ). pack (unpack (all_of (plan_of A.sizes.route A.nest) A.b A.memory.now) (heldBy (plan_of A.sizes.route A.nest)
-    A.place.number) ws) (keptCells (plan_of A.sizes.route A.nest) A.b))
-    (parts.mid-is A.mail.now A.at A.place.words)
+    ∙ ap (λ (ws : List ℕ). pack (unpack (all_of (plan_of A.sizes.route A.nest) A.b A.memory.now) (held_by (plan_of A.sizes.route A.nest)
+    A.place.number) ws) (kept_cells (plan_of A.sizes.route A.nest) A.b))
+    (parts.mid_is A.mail.now A.at A.place.words)
 
 pub take_from_spec : {M : Type 1} → statement M
 take_from_spec =

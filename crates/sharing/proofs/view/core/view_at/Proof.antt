@@ -25,7 +25,7 @@ returns c =
     let A = c.before.before.before.before.args in
     let unseen = c.unseen in
     seeing.not_seen A.encoded.now A.tenant A.processor A.first A.second unseen.result read.result.number unseen.ensures if1.true
-    (λ a d h k. seeing.look-read A.encoded.now a d A.tenant A.processor read.result.number
+    (λ a d h k. seeing.look_read A.encoded.now a d A.tenant A.processor read.result.number
     (lines.read_number A.encoded.now read.result read.ensures.0) if1.true)
 
 sizes-of-requires : tie.Need-sizes-of-requires
@@ -38,7 +38,7 @@ mul-all : tie.Need-overflow-mul-all
 mul-all c =
     let read = c.before.before.before.before.read in
     let sizes-of = c.before.sizes-of in
-    omega (arith, lines.area-low read.result.nest sizes-of.result sizes-of.ensures.0)
+    omega (arith, lines.area_low read.result.nest sizes-of.result sizes-of.ensures.0)
 
 unseen-requires-2 : tie.Need-unseen-requires-2
 unseen-requires-2 c κs = search rules
@@ -55,11 +55,11 @@ returns-2 c =
     let sizes-of = at-sizes-of.sizes-of in
     let sized = sizes-of.ensures.0 in
     let p = plan_of sizes-of.result.route read.result.nest in
-    let op : Opened A.encoded.now 0 p = lines.opened-direct A.encoded.now read.result read.ensures.0 if1.false sizes-of.ensures.1 in
-    let long = lines.area-is read.result.nest sizes-of.result sized in
+    let op : Opened A.encoded.now 0 p = lines.opened_direct A.encoded.now read.result read.ensures.0 if1.false sizes-of.ensures.1 in
+    let long = lines.area_is read.result.nest sizes-of.result sized in
     let unseen = c.unseen2 in
     seeing.not_seen A.encoded.now A.tenant A.processor A.first A.second unseen.result 9 unseen.ensures (λ z. omega arith)
-    (λ a d h k. seeing.look-first A.encoded.now a d A.tenant A.processor p op (λ e. c.before.if2.true (h ∙ e ∙ sym long)))
+    (λ a d h k. seeing.look_first A.encoded.now a d A.tenant A.processor p op (λ e. c.before.if2.true (h ∙ e ∙ sym long)))
 
 unseen-requires-3 : tie.Need-unseen-requires-3
 unseen-requires-3 c κs = search rules
@@ -76,11 +76,11 @@ returns-3 c =
     let sizes-of = at-sizes-of.sizes-of in
     let sized = sizes-of.ensures.0 in
     let p = plan_of sizes-of.result.route read.result.nest in
-    let op : Opened A.encoded.now 0 p = lines.opened-direct A.encoded.now read.result read.ensures.0 if1.false sizes-of.ensures.1 in
-    let long = lines.area-is read.result.nest sizes-of.result sized in
+    let op : Opened A.encoded.now 0 p = lines.opened_direct A.encoded.now read.result read.ensures.0 if1.false sizes-of.ensures.1 in
+    let long = lines.area_is read.result.nest sizes-of.result sized in
     let unseen = c.unseen3 in
     seeing.not_seen A.encoded.now A.tenant A.processor A.first A.second unseen.result 9 unseen.ensures (λ z. omega arith)
-    (λ a d h k. seeing.look-second A.encoded.now a d A.tenant A.processor p op (λ e. c.before.if3.true (k ∙ e ∙ sym long)))
+    (λ a d h k. seeing.look_second A.encoded.now a d A.tenant A.processor p op (λ e. c.before.if3.true (k ∙ e ∙ sym long)))
 
 unseen-requires-4 : tie.Need-unseen-requires-4
 unseen-requires-4 c κs = search rules
@@ -98,11 +98,11 @@ returns-4 c =
     let sizes-of = at-sizes-of.sizes-of in
     let sized = sizes-of.ensures.0 in
     let p = plan_of sizes-of.result.route read.result.nest in
-    let op : Opened A.encoded.now 0 p = lines.opened-direct A.encoded.now read.result read.ensures.0 if1.false sizes-of.ensures.1 in
-    let long = lines.area-is read.result.nest sizes-of.result sized in
+    let op : Opened A.encoded.now 0 p = lines.opened_direct A.encoded.now read.result read.ensures.0 if1.false sizes-of.ensures.1 in
+    let long = lines.area_is read.result.nest sizes-of.result sized in
     let unseen = c.unseen4 in
     seeing.not_seen A.encoded.now A.tenant A.processor A.first A.second unseen.result 11 unseen.ensures (λ z. omega arith)
-    (λ a d h k. seeing.look-tenant A.encoded.now a d A.tenant A.processor p op (sym h ∙ at-if2.if2.false ∙ long)
+    (λ a d h k. seeing.look_tenant A.encoded.now a d A.tenant A.processor p op (sym h ∙ at-if2.if2.false ∙ long)
     (sym k ∙ c.before.before.if3.false ∙ long) (lt-leb _ _ c.before.if4.true))
 
 unseen-requires-5 : tie.Need-unseen-requires-5
@@ -122,11 +122,11 @@ returns-5 c =
     let sizes-of = at-sizes-of.sizes-of in
     let sized = sizes-of.ensures.0 in
     let p = plan_of sizes-of.result.route read.result.nest in
-    let op : Opened A.encoded.now 0 p = lines.opened-direct A.encoded.now read.result read.ensures.0 if1.false sizes-of.ensures.1 in
-    let long = lines.area-is read.result.nest sizes-of.result sized in
+    let op : Opened A.encoded.now 0 p = lines.opened_direct A.encoded.now read.result read.ensures.0 if1.false sizes-of.ensures.1 in
+    let long = lines.area_is read.result.nest sizes-of.result sized in
     let unseen = c.unseen5 in
     seeing.not_seen A.encoded.now A.tenant A.processor A.first A.second unseen.result 11 unseen.ensures (λ z. omega arith)
-    (λ a d h k. seeing.look-beyond A.encoded.now a d A.tenant A.processor p op (sym h ∙ at-if2.if2.false ∙ long) (sym k ∙ at-if3.if3.false
+    (λ a d h k. seeing.look_beyond A.encoded.now a d A.tenant A.processor p op (sym h ∙ at-if2.if2.false ∙ long) (sym k ∙ at-if3.if3.false
     ∙ long) (omega (arith, c.before.if5.true, sized.processors)))
 
 mul-t15 : tie.Need-overflow-mul-t15
@@ -139,8 +139,8 @@ mul-t15 c =
     let A = start.args in
     omega (
       arith,
-      lines.area-low read.result.nest sizes-of.result sizes-of.ensures.0,
-      seeing.part-inside sizes-of.result.processors
+      lines.area_low read.result.nest sizes-of.result sizes-of.ensures.0,
+      seeing.part_inside sizes-of.result.processors
           A.processor sizes-of.result.cells c.if5.false,
     )
 
@@ -158,10 +158,10 @@ returns-6 c =
     let sizes-of = at-sizes-of.sizes-of in
     let sized = sizes-of.ensures.0 in
     let p = plan_of sizes-of.result.route read.result.nest in
-    let op : Opened A.encoded.now 0 p = lines.opened-direct A.encoded.now read.result read.ensures.0 if1.false sizes-of.ensures.1 in
-    let long = lines.area-is read.result.nest sizes-of.result sized in
-    let low = lines.area-low read.result.nest sizes-of.result sized in (
-      λ a d h k. seeing.look-found A.encoded.now a d A.tenant A.processor p op (sym h ∙ at-if2.if2.false ∙ long) (sym k ∙ at-if3.if3.false ∙ long)
+    let op : Opened A.encoded.now 0 p = lines.opened_direct A.encoded.now read.result read.ensures.0 if1.false sizes-of.ensures.1 in
+    let long = lines.area_is read.result.nest sizes-of.result sized in
+    let low = lines.area_low read.result.nest sizes-of.result sized in (
+      λ a d h k. seeing.look_found A.encoded.now a d A.tenant A.processor p op (sym h ∙ at-if2.if2.false ∙ long) (sym k ∙ at-if3.if3.false ∙ long)
           (omega (arith, c.before.before.if4.false)) (omega (arith, c.if5.false, sized.processors)),
       λ _. seeing.seen_at p (recipe A.encoded.now 0)
           op.is A.first A.second A.processor sizes-of.result.processors sizes-of.result.cells _ at-if2.if2.false at-if3.if3.false

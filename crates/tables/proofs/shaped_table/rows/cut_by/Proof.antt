@@ -4,7 +4,7 @@ use Rattle.tables.proofs.shaped_table.rows.cut_by.Statement.{statement}
 use Rattle.tables.proofs.shaped_table.rows.cut_by.Tie as tie
 
 element-copy-out-if1 : tie.Need-element-copy-out-if1
-element-copy-out-if1 c = omega (arith, c.requires.1.0, c.requires.0.bounds-most)
+element-copy-out-if1 c = omega (arith, c.requires.1.0, c.requires.0.bounds_most)
 
 lower-cut-requires : tie.Need-lower-cut-requires
 lower-cut-requires c κs =

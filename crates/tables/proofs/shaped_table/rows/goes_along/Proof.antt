@@ -27,65 +27,65 @@ cast-slope c = search rules
 mul-before : tie.Need-overflow-mul-before
 mul-before c =
     let start = c.before.before.before.before in
-    omega (arith, M.bound-in start.args.t1 start.requires.0 start.args.k start.requires.1.0)
+    omega (arith, M.bound_in start.args.t1 start.requires.0 start.args.k start.requires.1.0)
 
 array-read-before : tie.Need-array-read-before
 array-read-before c =
     let start = c.before.before.before.before in
-    omega (arith, M.bound-in start.args.t1 start.requires.0 start.args.k start.requires.1.0)
+    omega (arith, M.bound_in start.args.t1 start.requires.0 start.args.k start.requires.1.0)
 
 mul-before-2 : tie.Need-overflow-mul-before-2
 mul-before-2 c =
     let start = c.before.before.before.before in
-    omega (arith, M.bound-in start.args.t1 start.requires.0 start.args.k start.requires.1.0)
+    omega (arith, M.bound_in start.args.t1 start.requires.0 start.args.k start.requires.1.0)
 
 array-read-before-2 : tie.Need-array-read-before-2
 array-read-before-2 c =
     let start = c.before.before.before.before in
-    omega (arith, M.bound-in start.args.t1 start.requires.0 start.args.k start.requires.1.0)
+    omega (arith, M.bound_in start.args.t1 start.requires.0 start.args.k start.requires.1.0)
 
 mul-before-3 : tie.Need-overflow-mul-before-3
 mul-before-3 c =
     let start = c.before.before.before.before in
-    let few = M.along-few start.args.t1 start.requires.0 start.args.t2 start.requires.1.1 start.args.k in
+    let few = M.along_few start.args.t1 start.requires.0 start.args.t2 start.requires.1.1 start.args.k in
     omega (arith, few.0, few.1.0, few.1.1)
 
 mul-result : tie.Need-overflow-mul-result
 mul-result c =
     let start = c.before.before.before.before in
-    let few = M.along-few start.args.t1 start.requires.0 start.args.t2 start.requires.1.1 start.args.k in
+    let few = M.along_few start.args.t1 start.requires.0 start.args.t2 start.requires.1.1 start.args.k in
     omega (arith, few.0, few.1.0, few.1.1)
 
 mul-result-2 : tie.Need-overflow-mul-result-2
 mul-result-2 c =
     let start = c.before.before.before.before in
-    omega (arith, M.bound-in start.args.t1 start.requires.0 start.args.k start.requires.1.0)
+    omega (arith, M.bound_in start.args.t1 start.requires.0 start.args.k start.requires.1.0)
 
 array-read-result : tie.Need-array-read-result
 array-read-result c =
     let start = c.before.before.before.before in
-    omega (arith, M.bound-in start.args.t1 start.requires.0 start.args.k start.requires.1.0)
+    omega (arith, M.bound_in start.args.t1 start.requires.0 start.args.k start.requires.1.0)
 
 mul-result-3 : tie.Need-overflow-mul-result-3
 mul-result-3 c =
     let start = c.before.before.before.before in
-    omega (arith, M.bound-in start.args.t1 start.requires.0 start.args.k start.requires.1.0)
+    omega (arith, M.bound_in start.args.t1 start.requires.0 start.args.k start.requires.1.0)
 
 array-read-result-2 : tie.Need-array-read-result-2
 array-read-result-2 c =
     let start = c.before.before.before.before in
-    omega (arith, M.bound-in start.args.t1 start.requires.0 start.args.k start.requires.1.0)
+    omega (arith, M.bound_in start.args.t1 start.requires.0 start.args.k start.requires.1.0)
 
 mul-result-4 : tie.Need-overflow-mul-result-4
 mul-result-4 c =
     let start = c.before.before.before.before in
-    let few = M.along-few start.args.t1 start.requires.0 start.args.t2 start.requires.1.1 start.args.k in
+    let few = M.along_few start.args.t1 start.requires.0 start.args.t2 start.requires.1.1 start.args.k in
     omega (arith, few.0, few.1.0, few.1.1)
 
 add-result : tie.Need-overflow-add-result
 add-result c =
     let start = c.before.before.before.before in
-    let few = M.along-few start.args.t1 start.requires.0 start.args.t2 start.requires.1.1 start.args.k in
+    let few = M.along_few start.args.t1 start.requires.0 start.args.t2 start.requires.1.1 start.args.k in
     omega (arith, few.0, few.1.0, few.1.1)
 
 returns : tie.Need-returns

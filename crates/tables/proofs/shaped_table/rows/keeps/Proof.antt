@@ -29,7 +29,7 @@ returns c = λ e. absurd (never_both e refl)
 add-k : tie.Need-overflow-add-k invariant-loop decreases-loop
 add-k c =
     let start = c.before.before.before.before in
-    omega (arith, c.before.before.loop-test.true, start.requires.0.bounds-most)
+    omega (arith, c.before.before.loop-test.true, start.requires.0.bounds_most)
 
 loop-less : tie.Need-loop-smaller invariant-loop decreases-loop
 loop-less c = omega (arith, c.before.before.loop-test.true)

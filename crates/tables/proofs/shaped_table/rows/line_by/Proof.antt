@@ -17,17 +17,17 @@ array-read-first c = search rules
 sub-first : tie.Need-overflow-sub-first
 sub-first c =
     let start = c.before.before in
-    L.first-low start.args.nest start.requires.0.0.accepted start.args.tile _ start.requires.0.1.1
+    L.first_low start.args.nest start.requires.0.0.accepted start.args.tile _ start.requires.0.1.1
 
 add-t11 : tie.Need-overflow-add-t11
 add-t11 c =
     let start = c.before.before.before in
-    omega (arith, start.requires.1, start.requires.0.1.0, L.boxes-few start.args.nest start.requires.0.0.accepted)
+    omega (arith, start.requires.1, start.requires.0.1.0, L.boxes_few start.args.nest start.requires.0.0.accepted)
 
 add-t14 : tie.Need-overflow-add-t14
 add-t14 c =
     let start = c.before.before.before.before in
-    omega (arith, start.requires.1, start.requires.0.1.0, L.boxes-few start.args.nest start.requires.0.0.accepted)
+    omega (arith, start.requires.1, start.requires.0.1.0, L.boxes_few start.args.nest start.requires.0.0.accepted)
 
 mul-t15 : tie.Need-overflow-mul-t15
 mul-t15 c = search rules
@@ -41,8 +41,8 @@ add-t19 c =
     omega (
       arith,
       start.requires.0.1.0,
-      L.boxes-few start.args.nest start.requires.0.0.accepted,
-      L.across-few start.args.nest start.requires.0.0.accepted _
+      L.boxes_few start.args.nest start.requires.0.0.accepted,
+      L.across_few start.args.nest start.requires.0.0.accepted _
           (start.requires.0.0.across _ (L.inner start.args.nest start.requires.0.0.accepted)),
     )
 

@@ -16,7 +16,7 @@ moved-in-requires c κs =
       start.requires.0,
       (
         start.requires.1.1.1.short,
-        L.place-few start.args.nest start.requires.0.accepted start.args.tile _ at_place.place-of-tile.ensures,
+        L.place_few start.args.nest start.requires.0.accepted start.args.tile _ at_place.place-of-tile.ensures,
       ),
     )
 
@@ -34,8 +34,8 @@ returns c =
     let at_place = at-if1.before.before in
     let start = at_place.before in
     let made = c.line-by.ensures in
-    L.lined-as start.args.nest _ _ _ _ _ _
-    (M.moved-line start.args.nest start.requires.0.accepted start.args.tile _ _ at_place.place-of-tile.ensures _ start.requires.1.1.1
+    L.lined_as start.args.nest _ _ _ _ _ _
+    (M.moved_line start.args.nest start.requires.0.accepted start.args.tile _ _ at_place.place-of-tile.ensures _ start.requires.1.1.1
     at-if1.if1.true _ at-moved-in.moved_in.ensures _ refl)
     made.0 made.1.0 made.1.1
 

@@ -13,7 +13,7 @@ abbrev decreases-loop : tie.decreases-loop
 decreases-loop nest more last across j₀ j = last - j
 
 sub-last : tie.Need-overflow-sub-last invariant-loop decreases-loop
-sub-last c = omega (arith, c.before.requires.0.accepted.dimensions-least)
+sub-last c = omega (arith, c.before.requires.0.accepted.dimensions_least)
 
 loop-holds : tie.Need-loop-init invariant-loop decreases-loop
 loop-holds c = omega arith
@@ -21,7 +21,7 @@ loop-holds c = omega arith
 steps-by-requires : tie.Need-steps-by-requires invariant-loop decreases-loop
 steps-by-requires c κs =
     let start = c.before.before.before.before in
-    (c.loop-test.true, (omega (arith, start.requires.0.accepted.dimensions-least, start.requires.0.accepted.dimensions-most), start.requires.1))
+    (c.loop-test.true, (omega (arith, start.requires.0.accepted.dimensions_least, start.requires.0.accepted.dimensions_most), start.requires.1))
 
 keeps-requires : tie.Need-keeps-requires invariant-loop decreases-loop
 keeps-requires c κs =
@@ -31,7 +31,7 @@ keeps-requires c κs =
 rank-requires : tie.Need-rank-requires invariant-loop decreases-loop
 rank-requires c κs =
     let start = c.before.before.before.before.before.before.before in
-    M.steps-ranked start.args.nest start.requires.0.accepted _ _ start.requires.0.across c.before.before.steps-by.ensures
+    M.steps_ranked start.args.nest start.requires.0.accepted _ _ start.requires.0.across c.before.before.steps-by.ensures
 
 returns : tie.Need-returns invariant-loop decreases-loop
 returns c =
@@ -39,7 +39,7 @@ returns c =
     let at-keeps = at-if1.before in
     let at-steps-by = at-keeps.before in
     let start = at-steps-by.before.before.before.before.before in
-    M.moves-by start.args.nest start.requires.0.accepted start.args.sizes.across _ start.requires.0.across at-steps-by.steps-by.ensures
+    M.moves_by start.args.nest start.requires.0.accepted start.args.sizes.across _ start.requires.0.across at-steps-by.steps-by.ensures
     (at-keeps.keeps.ensures at-if1.if1.true) _ c.rank.ensures
 
 add-j : tie.Need-overflow-add-j invariant-loop decreases-loop
@@ -48,8 +48,8 @@ add-j c =
     omega (
       arith,
       c.before.before.before.loop-test.true,
-      start.requires.0.accepted.dimensions-least,
-      start.requires.0.accepted.dimensions-most,
+      start.requires.0.accepted.dimensions_least,
+      start.requires.0.accepted.dimensions_most,
     )
 
 loop-less : tie.Need-loop-smaller invariant-loop decreases-loop
@@ -61,7 +61,7 @@ loop-again c = omega (arith, c.before.before.before.loop-test.true)
 returns-2 : tie.Need-returns-2 invariant-loop decreases-loop
 returns-2 c =
     let start = c.before.before.before.before in
-    M.moves-none start.args.nest start.requires.0.accepted _ M.short_none
+    M.moves_none start.args.nest start.requires.0.accepted _ M.short_none
 
 pub move-by-spec : {M : Type 1} → statement M
 move-by-spec =

@@ -9,10 +9,10 @@ div-whole : tie.Need-nonzero-div-whole
 div-whole c = search rules
 
 returns : tie.Need-returns
-returns c = L.places-none _ _ _ _
+returns c = L.places_none _ _ _ _
 
 returns-2 : tie.Need-returns-2
-returns-2 c = L.places-none _ _ _ _
+returns-2 c = L.places_none _ _ _ _
 
 add-t7 : tie.Need-overflow-add-t7
 add-t7 c = search rules
@@ -26,7 +26,7 @@ div-t9 c = search rules
 add-t10 : tie.Need-overflow-add-t10
 add-t10 c =
     let start = c.before.before.before.before in
-    omega (arith, L.places-room start.args.inner.from start.args.tiling start.requires.0, start.requires.1)
+    omega (arith, L.places_room start.args.inner.from start.args.tiling start.requires.0, start.requires.1)
 
 sub-least : tie.Need-overflow-sub-least
 sub-least c = search rules
@@ -42,7 +42,7 @@ returns-3 c =
     let at-if2 = c.before.before.before in
     let at-if1 = at-if2.before.before in
     let start = at-if1.before in
-    L.places-some start.args.inner _ _ _ _ start.requires.0 start.requires.1.0 start.requires.1.1.0 start.requires.1.1.1.1 at-if1.if1.false
+    L.places_some start.args.inner _ _ _ _ start.requires.0 start.requires.1.0 start.requires.1.1.0 start.requires.1.1.1.1 at-if1.if1.false
     at-if2.if2.false c.least.ensures
 
 pub places-in-spec : {M : Type 1} → statement M

@@ -19,7 +19,7 @@ array-write-steps-2 c = search rules
 
 returns : tie.Need-returns
 returns c =
-    M.short-pair c.args.last c.args.more c.args.j c.requires.1.0 c.requires.0 c.requires.1.1
+    M.short_pair c.args.last c.args.more c.args.j c.requires.1.0 c.requires.0 c.requires.1.1
 
 pub steps-by-spec : {M : Type 1} → statement M
 steps-by-spec =

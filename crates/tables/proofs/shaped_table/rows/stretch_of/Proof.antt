@@ -8,59 +8,59 @@ use Rattle.tables.proofs.shaped_table.rows.stretch_of.Tie as tie
 area-of-requires : tie.Need-area-of-requires
 area-of-requires c κs = (
   c.requires.0.accepted,
-  (c.requires.1.1.0, L.place-few c.args.nest c.requires.0.accepted c.args.tile _ c.requires.1.1.1),
+  (c.requires.1.1.0, L.place_few c.args.nest c.requires.0.accepted c.args.tile _ c.requires.1.1.1),
 )
 
 inner-of-requires : tie.Need-inner-of-requires
 inner-of-requires c κs =
     let start = c.before in (
       start.requires.0.accepted,
-      L.area-few start.args.nest start.requires.0.accepted _
-          (L.place-few start.args.nest start.requires.0.accepted start.args.tile _ start.requires.1.1.1) _ _ start.requires.1.1.0
+      L.area_few start.args.nest start.requires.0.accepted _
+          (L.place_few start.args.nest start.requires.0.accepted start.args.tile _ start.requires.1.1.1) _ _ start.requires.1.1.0
           c.area_of.ensures,
     )
 
 sub-last : tie.Need-overflow-sub-last
 sub-last c =
     let start = c.before.before.before in
-    omega (arith, start.requires.0.accepted.dimensions-least, start.requires.0.accepted.dimensions-most)
+    omega (arith, start.requires.0.accepted.dimensions_least, start.requires.0.accepted.dimensions_most)
 
 mul-places-in : tie.Need-overflow-mul-places-in
 mul-places-in c =
     let start = c.before.before.before.before.before in
-    omega (arith, start.requires.0.accepted.dimensions-least, start.requires.0.accepted.dimensions-most)
+    omega (arith, start.requires.0.accepted.dimensions_least, start.requires.0.accepted.dimensions_most)
 
 array-read-places-in : tie.Need-array-read-places-in
 array-read-places-in c =
     let start = c.before.before.before.before.before in
-    omega (arith, start.requires.0.accepted.dimensions-least, start.requires.0.accepted.dimensions-most)
+    omega (arith, start.requires.0.accepted.dimensions_least, start.requires.0.accepted.dimensions_most)
 
 mul-places-in-2 : tie.Need-overflow-mul-places-in-2
 mul-places-in-2 c =
     let start = c.before.before.before.before.before in
-    omega (arith, start.requires.0.accepted.dimensions-least, start.requires.0.accepted.dimensions-most)
+    omega (arith, start.requires.0.accepted.dimensions_least, start.requires.0.accepted.dimensions_most)
 
 array-read-places-in-2 : tie.Need-array-read-places-in-2
 array-read-places-in-2 c =
     let start = c.before.before.before.before.before in
-    omega (arith, start.requires.0.accepted.dimensions-least, start.requires.0.accepted.dimensions-most)
+    omega (arith, start.requires.0.accepted.dimensions_least, start.requires.0.accepted.dimensions_most)
 
 mul-places-in-3 : tie.Need-overflow-mul-places-in-3
 mul-places-in-3 c =
     let start = c.before.before.before.before.before in
-    omega (arith, start.requires.0.accepted.dimensions-least, start.requires.0.accepted.dimensions-most)
+    omega (arith, start.requires.0.accepted.dimensions_least, start.requires.0.accepted.dimensions_most)
 
 array-read-places-in-3 : tie.Need-array-read-places-in-3
 array-read-places-in-3 c =
     let start = c.before.before.before.before.before in
-    omega (arith, start.requires.0.accepted.dimensions-least, start.requires.0.accepted.dimensions-most)
+    omega (arith, start.requires.0.accepted.dimensions_least, start.requires.0.accepted.dimensions_most)
 
 places-in-requires : tie.Need-places-in-requires
 places-in-requires c κs =
     let start = c.before.before.before.before.before in (
       start.requires.0.accepted.tiled _ (L.inner start.args.nest start.requires.0.accepted),
       (
-        start.requires.0.accepted.tile-most _,
+        start.requires.0.accepted.tile_most _,
         (start.requires.0.accepted.length_most _, (start.requires.1.1.0.small _, c.before.before.before.inner_of.ensures.few.0)),
       ),
     )
@@ -76,8 +76,8 @@ returns c =
     let at-area-of = at-inner-of.before in
     let start = at-area-of.before in
     let made = c.line-by.ensures in
-    L.lined-as start.args.nest _ _ _ _ _ _
-    (L.line-is start.args.nest start.requires.0.accepted start.args.tile _ start.args.t3 start.requires.1.1.1
+    L.lined_as start.args.nest _ _ _ _ _ _
+    (L.line_is start.args.nest start.requires.0.accepted start.args.tile _ start.args.t3 start.requires.1.1.1
     start.requires.1.1.0 _ at-area-of.area_of.ensures _ at-inner-of.inner_of.ensures _ c.before.places-in.ensures _ refl)
     made.0 made.1.0 made.1.1
 

@@ -35,22 +35,22 @@ cast-offset c = search rules
 mul-worst : tie.Need-overflow-mul-worst
 mul-worst c =
     let start = c.before.before.before.before.before.before in
-    omega (arith, (L.bound-four start.args.t1 start.requires.0 start.args.area start.args.k start.requires.1.0).1)
+    omega (arith, (L.bound_four start.args.t1 start.requires.0 start.args.area start.args.k start.requires.1.0).1)
 
 array-read-worst : tie.Need-array-read-worst
 array-read-worst c =
     let start = c.before.before.before.before.before.before in
-    omega (arith, (L.bound-four start.args.t1 start.requires.0 start.args.area start.args.k start.requires.1.0).1)
+    omega (arith, (L.bound_four start.args.t1 start.requires.0 start.args.area start.args.k start.requires.1.0).1)
 
 mul-worst-2 : tie.Need-overflow-mul-worst-2
 mul-worst-2 c =
     let start = c.before.before.before.before.before.before in
-    omega (arith, (L.bound-four start.args.t1 start.requires.0 start.args.area start.args.k start.requires.1.0).1)
+    omega (arith, (L.bound_four start.args.t1 start.requires.0 start.args.area start.args.k start.requires.1.0).1)
 
 array-read-worst-2 : tie.Need-array-read-worst-2
 array-read-worst-2 c =
     let start = c.before.before.before.before.before.before in
-    omega (arith, (L.bound-four start.args.t1 start.requires.0 start.args.area start.args.k start.requires.1.0).1)
+    omega (arith, (L.bound_four start.args.t1 start.requires.0 start.args.area start.args.k start.requires.1.0).1)
 
 worst-requires : tie.Need-worst-requires
 worst-requires c κs = search rules
@@ -60,7 +60,7 @@ mul-level c =
     let start = c.before.before.before.before.before.before.before in
     omega (
       arith,
-      L.level-fits start.args.t1 start.requires.0 start.args.area start.args.k start.requires.1.0 start.requires.1.1.1.0 c.worst.result
+      L.level_fits start.args.t1 start.requires.0 start.args.area start.args.k start.requires.1.0 start.requires.1.1.1.0 c.worst.result
           (L.high_fits start.args.t1 start.requires.0 start.args.area start.args.k start.requires.1.0 start.requires.1.1.1.0
           c.worst.result c.worst.ensures),
     )
@@ -70,7 +70,7 @@ add-level c =
     let start = c.before.before.before.before.before.before.before in
     omega (
       arith,
-      L.level-fits start.args.t1 start.requires.0 start.args.area start.args.k start.requires.1.0 start.requires.1.1.1.0 c.worst.result
+      L.level_fits start.args.t1 start.requires.0 start.args.area start.args.k start.requires.1.0 start.requires.1.1.1.0 c.worst.result
           (L.high_fits start.args.t1 start.requires.0 start.args.area start.args.k start.requires.1.0 start.requires.1.1.1.0
           c.worst.result c.worst.ensures),
     )
@@ -78,24 +78,24 @@ add-level c =
 add-if1 : tie.Need-overflow-add-if1
 add-if1 c =
     let start = c.before.before.before.before.before.before.before in
-    omega (arith, (L.bound-four start.args.t1 start.requires.0 start.args.area start.args.k start.requires.1.0).0)
+    omega (arith, (L.bound_four start.args.t1 start.requires.0 start.args.area start.args.k start.requires.1.0).0)
 
 mul-if2 : tie.Need-overflow-mul-if2
 mul-if2 c =
     let start = c.before.before.before.before.before.before.before.before in
-    omega (arith, (L.bound-four start.args.t1 start.requires.0 start.args.area start.args.k start.requires.1.0).0)
+    omega (arith, (L.bound_four start.args.t1 start.requires.0 start.args.area start.args.k start.requires.1.0).0)
 
 array-read-if2 : tie.Need-array-read-if2
 array-read-if2 c =
     let start = c.before.before.before.before.before.before.before.before in
-    omega (arith, (L.bound-four start.args.t1 start.requires.0 start.args.area start.args.k start.requires.1.0).0)
+    omega (arith, (L.bound_four start.args.t1 start.requires.0 start.args.area start.args.k start.requires.1.0).0)
 
 add-if2 : tie.Need-overflow-add-if2
 add-if2 c =
     let start = c.before.before.before.before.before.before.before.before in
     omega (
       arith,
-      L.side-fits start.args.t1 start.requires.0 start.args.area start.args.k start.requires.1.0 start.requires.1.1.1.0,
+      L.side_fits start.args.t1 start.requires.0 start.args.area start.args.k start.requires.1.0 start.requires.1.1.1.0,
       L.high_fits start.args.t1 start.requires.0 start.args.area start.args.k start.requires.1.0 start.requires.1.1.1.0
           c.before.worst.result c.before.worst.ensures,
     )
@@ -105,7 +105,7 @@ add-if2-2 c =
     let start = c.before.before.before.before.before.before.before.before in
     omega (
       arith,
-      L.side-fits start.args.t1 start.requires.0 start.args.area start.args.k start.requires.1.0 start.requires.1.1.1.0,
+      L.side_fits start.args.t1 start.requires.0 start.args.area start.args.k start.requires.1.0 start.requires.1.1.1.0,
       L.high_fits start.args.t1 start.requires.0 start.args.area start.args.k start.requires.1.0 start.requires.1.1.1.0
           c.before.worst.result c.before.worst.ensures,
     )
@@ -114,20 +114,20 @@ returns : tie.Need-returns
 returns c =
     let start = c.before.before.before.before.before.before.before.before.before in
     let worst = c.before.before.worst in
-    L.upper-aside start.args.t1 start.requires.0 start.args.area start.args.k start.requires.1.0 start.args.left start.requires.1.1.1.1
+    L.upper_aside start.args.t1 start.requires.0 start.args.area start.args.k start.requires.1.0 start.args.left start.requires.1.1.1.1
     worst.result start.requires.1.1.0 worst.ensures c.before.if1.true c.if2.true
 
 returns-2 : tie.Need-returns-2
 returns-2 c =
     let start = c.before.before.before.before.before.before.before.before.before in
-    L.cut-nothing start.args.t1 start.requires.0 start.args.area start.args.k start.requires.1.0 start.args.left start.requires.1.1.1.1
+    L.cut_nothing start.args.t1 start.requires.0 start.args.area start.args.k start.requires.1.0 start.args.left start.requires.1.1.1.1
 
 add-if3 : tie.Need-overflow-add-if3
 add-if3 c =
     let start = c.before.before.before.before.before.before.before.before in
     omega (
       arith,
-      L.side-fits start.args.t1 start.requires.0 start.args.area start.args.k start.requires.1.0 start.requires.1.1.1.0,
+      L.side_fits start.args.t1 start.requires.0 start.args.area start.args.k start.requires.1.0 start.requires.1.1.1.0,
       L.high_fits start.args.t1 start.requires.0 start.args.area start.args.k start.requires.1.0 start.requires.1.1.1.0
           c.before.worst.result c.before.worst.ensures,
     )
@@ -135,7 +135,7 @@ add-if3 c =
 returns-3 : tie.Need-returns-3
 returns-3 c =
     let start = c.before.before.before.before.before.before.before.before.before in
-    L.cut-nothing start.args.t1 start.requires.0 start.args.area start.args.k start.requires.1.0 start.args.left start.requires.1.1.1.1
+    L.cut_nothing start.args.t1 start.requires.0 start.args.area start.args.k start.requires.1.0 start.args.left start.requires.1.1.1.1
 
 add-least : tie.Need-overflow-add-least
 add-least c =
@@ -143,7 +143,7 @@ add-least c =
     let worst = c.before.before.worst in
     omega (
       arith,
-      L.level-fits start.args.t1 start.requires.0 start.args.area start.args.k start.requires.1.0 start.requires.1.1.1.0 worst.result
+      L.level_fits start.args.t1 start.requires.0 start.args.area start.args.k start.requires.1.0 start.requires.1.1.1.0 worst.result
           (L.high_fits start.args.t1 start.requires.0 start.args.area start.args.k start.requires.1.0 start.requires.1.1.1.0
           worst.result worst.ensures),
     )
@@ -161,7 +161,7 @@ returns-4 : tie.Need-returns-4
 returns-4 c =
     let start = c.before.before.before.before.before.before.before.before.before.before in
     let worst = c.before.before.before.worst in
-    L.upper-cuts start.args.t1 start.requires.0 start.args.area start.args.k start.requires.1.0 start.args.left start.requires.1.1.1.1
+    L.upper_cuts start.args.t1 start.requires.0 start.args.area start.args.k start.requires.1.0 start.args.left start.requires.1.1.1.1
     worst.result start.requires.1.1.0 worst.ensures c.before.before.if1.false c.before.if3.false _ c.least.ensures
 
 pub upper-cut-spec : {M : Type 1} → statement M
