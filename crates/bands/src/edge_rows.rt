@@ -146,7 +146,7 @@ pub fn edge_row(
 }
 
 // What is left of the taps in a row where some read nowhere, which `first` 1024 says: those weigh nothing, and what they add is besides.
-#[derive(Drop)]
+#[derive(Clone, Copy)]
 struct Rest {
     outside: u64,
     backs: [usize; 8],

@@ -1,5 +1,7 @@
 // Rows of a nest over the loops of `kernels`: one by one, and four side by side.
 // Four rows go each one column behind the row before it, or in the same columns where no row reads another.
+#![tactic(auto)]
+
 ghost use Rattle.std.specs.Prelude.{◌≡◌, ◌+◌, ◌*◌, ◌-◌, ◌/◌, ◌%◌, ◌^◌, ◌≤◌, ◌<◌, length, get_or};
 ghost use Rattle.base.specs.Lists.{store_all};
 ghost use Rattle.nest.specs.declared.Nest.{Nest};

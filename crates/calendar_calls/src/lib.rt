@@ -1,5 +1,7 @@
 // The calls with hours, for programs, which keep the records as words, three a processor: a turn at a minute of the week, for one tenant and
 // for one of two, and the minutes until a processor next opens. `hours` is the table, 14 pairs of words a processor.
+#![tactic(auto)]
+
 ghost use Rattle.core.specs.Prelude.{◌≡◌};
 ghost use Rattle.machine.specs.Machine.{state_of};
 ghost use Rattle.tenants.specs.Tenants.{tenant_areas};
@@ -100,7 +102,7 @@ pub fn turn_for(
 }
 
 // What the question tells: its number and when the processor next opens; at a refusal in 0 minutes.
-#[derive(Drop)]
+#[derive(Clone, Copy)]
 pub struct Asked {
     pub number: u32,
     pub opening: Opening,

@@ -69,7 +69,7 @@ pub extern "C" fn rolwyddac_tenant_turn_at(
 
 // What is told of an opening: the call's number, 1 and in how many minutes, or 0 and 0 where there is none; 0 and 0 at a refusal.
 #[repr(C)]
-#[derive(Drop)]
+#[derive(Clone, Copy)]
 pub struct NextOpening {
     pub number: u32,
     pub opens: u32,

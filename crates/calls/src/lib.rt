@@ -3,6 +3,8 @@
 // The word `route` is 0 for direct passing, any other for indirect.
 // Each call over records is a thin function: it takes the records apart, has covered code work on numbers, and stores what that gives.
 // Two steps, either way round (W-214), have no code: specs/Demands214 states them of the calls on bytes, specs/OverRecords214 of these.
+#![tactic(auto)]
+
 ghost use Rattle.machine.specs.Runs.{turn_of, deliveryOf};
 ghost use Rattle.writer.specs.Fields.{fields};
 ghost use Rattle.calls.specs.Gave.{areas_of, FreshGave, EventGave, CollectGave, SweepGave, SummaryGave, MessageGave, HopsGave};

@@ -11,7 +11,7 @@ use wire::{PacketLine, Written};
 
 // What is told of recipe and route: nothing is refused.
 #[repr(C)]
-#[derive(Drop)]
+#[derive(Clone, Copy)]
 pub struct Fingerprint {
     pub number: u32,
     pub fingerprint: u64,

@@ -13,7 +13,7 @@ use records::{Flat, Progress, RECORD_WORDS};
 use schedule::Driven;
 
 // What the driver makes but for the stores into the records: what it tells and, where its number is 0, the records' words.
-#[derive(Drop)]
+#[derive(Clone, Copy)]
 pub struct Ran {
     pub driven: Driven,
     pub flat: Flat,

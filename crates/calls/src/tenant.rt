@@ -141,7 +141,7 @@ pub extern "C" fn rolwyddac_fresh_both(
 
 // What a view tells: its number, where the processor's part begins in the named tenant's memories, and how many words it has; nothing at a refusal.
 #[repr(C)]
-#[derive(Drop)]
+#[derive(Clone, Copy)]
 pub struct Viewed {
     pub number: u32,
     pub begin: u32,

@@ -1,5 +1,7 @@
 // The stored cases, file by file: the reader's numbers, plans, sweeps compared, calls one by one. tools/ makes the files, and what is
 // expected of each, from the models; tools/README.md has the formats.
+#![tactic(auto)]
+
 ghost use Rattle.std.specs.Prelude.{◌≡◌, length};
 ghost use Rattle.io.specs.Counts.{IsPrefixLen};
 

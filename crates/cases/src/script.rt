@@ -8,7 +8,7 @@ use records::RECORD_WORDS;
 
 // The areas, and what of each is lent: lent[0] is the recipe's length in bytes, lent[1] to lent[6] those of the areas; lent[7] is the
 // route of calls. They go from function to function by value.
-#[derive(Drop)]
+#[derive(Clone, Copy)]
 struct Areas {
     recipe: [u8; 512],
     source: [u32; 1024],
@@ -156,7 +156,7 @@ fn show(words: &[u32]) {
 // ---- records: what each does
 
 // A record: what to do, on which area (0 for a call), by which rule, and two words.
-#[derive(Drop)]
+#[derive(Clone, Copy)]
 struct Record {
     op: u8,
     area: u32,

@@ -1,4 +1,6 @@
 // A grid's text for the charting desk (document 02, W-211), and its length: the calls, by the line that counts.
+#![tactic(auto)]
+
 ghost use Rattle.std.specs.Prelude.{◌≡◌};
 ghost use Rattle.nest.specs.Accepted.{Accepted};
 ghost use Rattle.base.specs.Numbers.{first_of};
@@ -12,7 +14,7 @@ pub mod grid_text; // grid_text.rt: the text, row by row, put into a lent space;
 
 // What a call tells: its number, and the text's length in bytes, 0 at a refusal.
 #[repr(C)]
-#[derive(Drop)]
+#[derive(Clone, Copy)]
 pub struct Told {
     pub number: u32,
     pub length: u32,

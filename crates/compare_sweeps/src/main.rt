@@ -1,4 +1,6 @@
 // Sweeps the recipe on standard input both ways, and says for each source and order of turns whether the two agree; faults on standard error.
+#![tactic(auto)]
+
 fn main() {
     program_io::tell_arguments();
     // one byte more than a recipe may have

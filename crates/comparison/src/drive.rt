@@ -8,7 +8,7 @@ ghost use Rattle.engine.specs.Demands.{calls};
 ghost use Rattle.comparison.specs.drive.Drive.{in_order, turns_to, deliveries_to, round_of, Tried, Delivered, Driven};
 
 // How many processors and messages there are, and in which order the processors take turns.
-#[derive(Drop)]
+#[derive(Clone, Copy)]
 pub struct Order {
     pub processors: u32,
     pub messages: u32,

@@ -1,5 +1,7 @@
 // A recipe swept both ways, over two sources and in two orders of turns, messages passed directly: what the second program of document 01
 // writes, made in a lent space and handed to standard output.
+#![tactic(auto)]
+
 ghost use Rattle.std.specs.Prelude.{◌≡◌, true, ◌+◌, ◌*◌, ◌≤◌, ◌<◌, length, take};
 ghost use Rattle.base.specs.Tests.{pick};
 ghost use Rattle.machine.specs.Machine.{state_of};
@@ -16,7 +18,7 @@ use records::RECORD_WORDS;
 pub mod drive; // drive.rt: a run on the direct route, driven to its end by the offered calls
 
 // What the areas of a run are made of.
-#[derive(Drop)]
+#[derive(Clone, Copy)]
 pub struct Extent {
     pub cells: u32,
     pub processors: u32,

@@ -90,7 +90,7 @@ pub fn refusal_of_areas(
 }
 
 // What a turn makes: its number and, where that is 0, the processor's record after it.
-#[derive(Drop)]
+#[derive(Clone, Copy)]
 pub struct Turned {
     pub number: u32,
     pub progress: Progress,

@@ -1,4 +1,6 @@
 // The calls for programs, which keep the records as words, three a processor, each on the route that a word names; and the sweep.
+#![tactic(auto)]
+
 ghost use Rattle.core.specs.Prelude.{◌≡◌, ◌+◌, ◌*◌, ◌<◌, length};
 ghost use Rattle.machine.specs.Machine.{state_of};
 ghost use Rattle.stages.specs.Progress.{set_record};

@@ -1,20 +1,22 @@
 // Loops that make words of a source and a memory: along a row of cells, and along four rows side by side, each one column behind
 // the row before it. A word sums the source's and so many taps, words of the memory a fixed way back, weighed. One to four
 // taps are summed without a loop, so that the words of a column wait for each other no longer than they must.
+#![tactic(auto)]
+
 ghost use Rattle.std.specs.Prelude.{◌≡◌, [], ◌∷◌, ◌+◌, ◌*◌, ◌-◌, ◌/◌, ◌%◌, ◌^◌, ◌≤◌, ◌<◌, length, get_or, set};
 ghost use Rattle.base.specs.Tests.{tabulate};
 ghost use Rattle.base.specs.Lists.{store_all};
 ghost use Rattle.kernels.specs.Taps.{made, made_by, wave_of, Fits, FitsBy, Word, column_of, Stands};
 
 // How far back, and its weight.
-#[derive(Drop)]
+#[derive(Clone, Copy)]
 struct Tap {
     back: usize,
     weight: u64,
 }
 
 // What is added to every word besides, and by which power of 2 it is divided.
-#[derive(Drop)]
+#[derive(Clone, Copy)]
 pub struct Rule {
     pub outside: u64,
     pub shift: u64,
@@ -268,7 +270,7 @@ fn wave_tap(
 }
 
 // The words of a column: of four cells, each t further on than the one before.
-#[derive(Drop)]
+#[derive(Clone, Copy)]
 struct Column {
     first: u64,
     second: u64,

@@ -1,4 +1,6 @@
 // Cells and tiles in code: numbers and places, the tile of a cell, the processor of a tile, a tile's box, the ends of a slot.
+#![tactic(auto)]
+
 ghost use Rattle.std.specs.Prelude.{◌≡◌, ℕ, ◌+◌, ◌*◌, ◌-◌, ◌/◌, ◌%◌, ◌≤◌, ◌<◌, length, get_or, true};
 ghost use Rattle.base.specs.Tests.{pick, product};
 ghost use Rattle.machine.specs.Plan.{tiles_of};
@@ -18,7 +20,7 @@ use nest::division::tile_along;
 use plan::Route;
 
 // A nest's counts on a route, made once in a call: tiles along each dimension, the products, and the ways that a tile's messages go.
-#[derive(Drop)]
+#[derive(Clone, Copy)]
 pub struct Sizes {
     pub cells: usize,
     pub tiles: usize,
@@ -29,7 +31,7 @@ pub struct Sizes {
 }
 
 // A processor's share of the tiles along a dimension.
-#[derive(Drop)]
+#[derive(Clone, Copy)]
 pub struct Share {
     pub first: usize,
     pub stride: usize,
@@ -38,14 +40,14 @@ pub struct Share {
 }
 
 // A cell's number and place.
-#[derive(Drop)]
+#[derive(Clone, Copy)]
 pub struct Cell {
     pub number: usize,
     pub place: [usize; 4],
 }
 
 // The cells of a tile: a box, from its first place, with its lengths.
-#[derive(Drop)]
+#[derive(Clone, Copy)]
 pub struct Bounds {
     pub tile: usize,
     pub corner: [usize; 4],

@@ -3,7 +3,7 @@ ghost use Rattle.std.specs.Prelude.{◌≡◌, ◌+◌, ◌-◌, ◌/◌, ◌%�
 ghost use Rattle.nest.specs.division.Division.{Splits};
 
 // A component's tile, and the place in it.
-#[derive(Drop)]
+#[derive(Clone, Copy)]
 pub struct Divided {
     pub tile: u16,
     pub rest: u16,

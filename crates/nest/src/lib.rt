@@ -1,4 +1,6 @@
 // A nest by value and what reading gives; and a nest's rows: the cells of each that are in the shape, and the tiles that hold one.
+#![tactic(auto)]
+
 ghost use Rattle.std.specs.Prelude.{◌≡◌, ℕ, ◌+◌, ◌*◌, ◌/◌, ◌<◌, ◌≤◌, length, get_or, replicate, leb};
 ghost use Rattle.base.specs.Tests.{◌and◌, pick, product};
 ghost use Rattle.nest.specs.Nest.{length_of, tile_length, cells, box_tiles};
@@ -26,7 +28,7 @@ pub const MOST_LENGTH: usize = 1024;
 pub const MOST_MESSAGES: usize = 7168;
 
 // A loop nest with constant distances, cut into tiles: the cells of a box that its bounds leave.
-#[derive(Drop)]
+#[derive(Clone, Copy)]
 pub struct Nest {
     pub dimensions: usize,
     pub spread: usize,
@@ -49,14 +51,14 @@ pub struct Nest {
 }
 
 // What reading gives: 0 and the nest, or the number of the line that refuses the bytes.
-#[derive(Drop)]
+#[derive(Clone, Copy)]
 pub struct Reading {
     pub number: u32,
     pub nest: Nest,
 }
 
 // Components of the last dimension: from the first up to the second, or none.
-#[derive(Drop)]
+#[derive(Clone, Copy)]
 pub struct Interval {
     pub from: usize,
     pub to: usize,

@@ -10,7 +10,7 @@ use base::{copy_part, least, refusals, word_index};
 
 // What became of a chunk: a number, 1 where the message is whole now, and the mask of chunks that are there. At a refusal the mask is as it was.
 #[repr(C)]
-#[derive(Drop)]
+#[derive(Clone, Copy)]
 pub struct Taken {
     pub number: u32,
     pub whole: u32,

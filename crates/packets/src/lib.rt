@@ -1,5 +1,7 @@
 // Packets: the bytes of one datagram made of words, and what is accepted of the bytes that come. specs/Packet.antt has the format, specs/Crc.antt
 // the check word, specs/Fingerprint.antt what recipe and route are known by, specs/Calls.antt what the calls answer, specs/Laws.antt what is proved.
+#![tactic(auto)]
+
 ghost use Rattle.std.specs.Prelude.{◌≡◌, ◌++◌, ◌+◌, ◌*◌, ◌/◌, ◌%◌, ◌^◌, ◌≤◌, length, drop};
 ghost use Rattle.base.specs.Tests.{tabulate};
 ghost use Rattle.base.specs.Numbers.{first_of};
@@ -15,7 +17,7 @@ pub mod crc_table; // crc_table.rt: CRC-32's register after bytes, by table
 use base::{refusals, word_at, word_index, word_wide};
 
 // What a packet says of the words that it brings.
-#[derive(Drop)]
+#[derive(Clone, Copy)]
 pub struct Header {
     pub fingerprint: u64,
     pub run: u64,
@@ -29,7 +31,7 @@ pub struct Header {
 }
 
 // 0, a packet's header and how many words it brings. Or a refusal, and zeros.
-#[derive(Drop)]
+#[derive(Clone, Copy)]
 pub struct Reading {
     pub number: u32,
     pub header: Header,

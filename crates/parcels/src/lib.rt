@@ -1,4 +1,6 @@
 // Parcels in code: the box that holds a slot's cells and the window that a distance puts them into, a parcel's length, packing, unpacking.
+#![tactic(auto)]
+
 ghost use Rattle.std.specs.Prelude.{◌≡◌, ℕ, ◌+◌, ◌*◌, ◌-◌, min, ◌≤◌, ◌<◌, length, get_or, eqb, leb, ltb};
 ghost use Rattle.base.specs.Tests.{◌and◌, one, some};
 ghost use Rattle.base.specs.Lists.{pack, unpack};
@@ -19,21 +21,21 @@ use plan::Route;
 pub mod shaped; // shaped.rt: the same of nests with bounds, by rows and spans
 
 // A box of places, from its first one with its lengths.
-#[derive(Drop)]
+#[derive(Clone, Copy)]
 pub struct Block {
     pub corner: [usize; 4],
     pub lengths: [usize; 4],
 }
 
 // The window: a cell of the box is the slot's if some distance puts it from `low` on, below `high`, in each dimension.
-#[derive(Drop)]
+#[derive(Clone, Copy)]
 pub struct Window {
     pub low: [usize; 4],
     pub high: [usize; 4],
 }
 
 // What a slot's cells are found by: the box by rows, and the window.
-#[derive(Drop)]
+#[derive(Clone, Copy)]
 pub struct Sending {
     pub block: Block,
     pub window: Window,
@@ -43,7 +45,7 @@ pub struct Sending {
 
 // A row of the box: the place of its first cell, the last component there, the ends in it, how many of its cells are in
 // the parcel, and how many rows from it on are like it.
-#[derive(Drop)]
+#[derive(Clone, Copy)]
 pub struct Row {
     pub place: [usize; 4],
     pub component: usize,

@@ -22,7 +22,7 @@ use layout::Sizes;
 use nest::{Interval, Nest};
 
 // A row: the place of its first cell, and the runs in it that hold a slot's cells, each from one last component on, below another.
-#[derive(Drop)]
+#[derive(Clone, Copy)]
 pub struct Reached {
     pub place: [usize; 4],
     pub starts: [usize; 8],

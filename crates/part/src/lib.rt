@@ -1,5 +1,7 @@
 // One processor's own part of the machine's areas, by the table: which cells it keeps words of, which messages it handles, where these stand in its
 // part, and its words put in and taken out by a list of cells.
+#![tactic(auto)]
+
 ghost use Rattle.std.specs.Prelude.{◌≡◌, ℕ, ◌+◌, ◌*◌, ◌/◌, ◌%◌, ◌≤◌, ◌<◌, length, get_or, eqb};
 ghost use Rattle.base.specs.Tests.{one, pick, tabulate};
 ghost use Rattle.base.specs.Lists.{In, set_all, unpack, pack};

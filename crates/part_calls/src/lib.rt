@@ -1,6 +1,8 @@
 // The calls for one processor that is lent its own part alone, for programs that keep its record as words: the lengths of its areas,
 // its messages, a fresh start, a message handed over, a message that arrives, and its cells' words for the grid; a turn is in `turn`.
 // The route is a word, 0 direct, any other indirect.
+#![tactic(auto)]
+
 ghost use Rattle.core.specs.Prelude.{◌≡◌, []};
 ghost use Rattle.machine.specs.Machine.{state_of};
 ghost use Rattle.engine.specs.Calls.{answer};
@@ -18,7 +20,7 @@ use records::flat_of;
 // What is told of a processor's areas: the call's number, the cells of its tiles, the cells that it keeps, the words of the messages that it handles,
 // and how many these are; all 0 at a refusal.
 #[repr(C)]
-#[derive(Drop)]
+#[derive(Clone, Copy)]
 pub struct AreaLengths {
     pub number: u32,
     pub cells: u32,

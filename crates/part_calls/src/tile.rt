@@ -25,7 +25,7 @@ use tables::TABLE_WORDS;
 use values::shaped_values::{Reads, overlap, reads_of};
 
 // Cells of a row in the part: where the first stands, and its source; its last component; how many; where each distance reads, and how far back.
-#[derive(Drop)]
+#[derive(Clone, Copy)]
 struct Row {
     first: usize,
     from: usize,

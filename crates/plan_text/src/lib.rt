@@ -1,4 +1,6 @@
 // The plan printer's text of one recipe on a route, made in a lent space and handed to standard output; and the hops of its messages.
+#![tactic(auto)]
+
 ghost use Rattle.std.specs.Prelude.{◌≡◌, [], ◌∷◌, ◌+◌, ◌*◌, ◌≤◌, length, take};
 ghost use Rattle.machine.specs.Plan.{count};
 ghost use Rattle.plan.specs.Shaped.{plan_of};
@@ -126,7 +128,7 @@ pub fn write_recipe(space: &mut [u8], encoded: &[u8], route: u32) -> usize
 }
 
 // What was handed to standard output: so many bytes from the front of the space, and whether all of them were written.
-#[derive(Drop)]
+#[derive(Clone, Copy)]
 pub struct Printed {
     pub length: usize,
     pub written: bool,

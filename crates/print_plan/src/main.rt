@@ -1,4 +1,6 @@
 // The plan printer: a recipe on standard input, its plan by direct passing or its refusal on standard output, faults on standard error.
+#![tactic(auto)]
+
 ghost use Rattle.std.specs.Prelude.{◌≡◌, length, take};
 ghost use Rattle.plan_text.specs.PlanText.{printer_text};
 

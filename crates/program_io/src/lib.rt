@@ -1,4 +1,6 @@
 // Small things that the programs share: how much of an area is lent, numbers in bytes, and faults told on standard error.
+#![tactic(auto)]
+
 ghost use Rattle.std.specs.Prelude.{◌≡◌, ◌<◌, length};
 ghost use Rattle.io.specs.Counts.{IsPrefixLen};
 ghost use Rattle.program_io.specs.Bytes.{word_in};

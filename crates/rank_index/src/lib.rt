@@ -1,5 +1,7 @@
 // Cells marked by bytes: how many marked cells come before a cell, its rank, which is where its word stands among theirs. The marks before each block
 // of 64 cells are counted once.
+#![tactic(auto)]
+
 ghost use Rattle.std.specs.Prelude.{◌≡◌, ◌+◌, ◌-◌, ◌≤◌, length};
 ghost use Rattle.rank_index.specs.Ranks.{rank_at, Counted};
 

@@ -1,5 +1,7 @@
 // The reader: a recipe's bytes to a nest by value, or the number of the first line of document 01's table that refuses it.
 // `read` takes any bytes. Lines 1, 2 and 18 test the bytes (`fields`, `distance_fields`), the others the nest made of them (5 and 6: `distances`).
+#![tactic(auto)]
+
 ghost use Rattle.std.specs.Prelude.{◌≡◌, [], ℕ, ◌+◌, ◌*◌, ◌<◌, ◌≤◌, length, get_or, ltb};
 ghost use Rattle.base.specs.Tests.{some, keep};
 ghost use Rattle.base.specs.Lists.{Bytes};

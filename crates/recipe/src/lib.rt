@@ -1,5 +1,7 @@
 // A recipe read for a route, with its counts, with its table: what each call that is given a recipe begins with, and the one place where line 21 is
 // looked at.
+#![tactic(auto)]
+
 ghost use Rattle.std.specs.Prelude.{◌≡◌, length};
 ghost use Rattle.layout.specs.RouteWords.{route_of};
 ghost use Rattle.recipe.specs.Routes.{ReadFor};
@@ -35,7 +37,7 @@ pub fn read_for(encoded: &[u8], route: u32) -> Reading
 }
 
 // What a call makes of a recipe: the number of the reader's and the route's lines and, where that is 0, the nest and its counts on the route.
-#[derive(Drop)]
+#[derive(Clone, Copy)]
 pub struct Recipe {
     pub number: u32,
     pub nest: Nest,

@@ -1,4 +1,6 @@
 // A processor's record as a struct: the words of a slice of records, for reading, and the stores into it.
+#![tactic(auto)]
+
 ghost use Rattle.std.specs.Prelude.{◌≡◌, ◌<◌, length, eqb};
 ghost use Rattle.base.specs.Tests.{pick};
 ghost use Rattle.records.specs.Records.{flat_words, Flattens, blank, with_record, put_at, zeros, clear_all, record_in, put_all};
@@ -8,7 +10,7 @@ pub const RECORD_WORDS: usize = 192;
 
 // A processor's record (document 01: board record): tiles finished, stage (0 gather, 1 calculate, 2 send), messages sent of the current tile.
 #[repr(C)]
-#[derive(Drop)]
+#[derive(Clone, Copy)]
 pub struct Progress {
     pub finished: u32,
     pub stage: u32,
@@ -17,7 +19,7 @@ pub struct Progress {
 
 // The words of records, three each, as a call reads them, and how many there are. A recipe has at most 64 processors, so of more than 192
 // words only their number is of use.
-#[derive(Drop)]
+#[derive(Clone, Copy)]
 pub struct Flat {
     pub words: [u32; RECORD_WORDS],
     pub count: usize,

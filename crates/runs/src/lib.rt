@@ -1,4 +1,6 @@
 // Rows by runs: where each distance reaches in a row; the pieces of a row, the cells reached counted piece by piece.
+#![tactic(auto)]
+
 ghost use Rattle.std.specs.Prelude.{◌≡◌, ◌⊎◌, ℕ, ◌+◌, ◌≤◌, ◌<◌, length};
 ghost use Rattle.runs.specs.Runs.{hit_row, AheadIs, PieceIs};
 
@@ -6,14 +8,14 @@ pub mod row_words; // row_words.rt: the words of a row's cells that lie in a run
 pub mod listed; // listed.rt: cells side by side as a list of their numbers
 
 // What lies ahead in a row: where the runs that have begun end, and where the next one begins.
-#[derive(Drop)]
+#[derive(Clone, Copy)]
 struct Ahead {
     reach: usize,
     next: usize,
 }
 
 // A piece of a row whose cells are alike: its end, and how many of them are hit, all or none.
-#[derive(Drop)]
+#[derive(Clone, Copy)]
 pub struct Piece {
     pub end: usize,
     pub hits: usize,

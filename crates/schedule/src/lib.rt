@@ -1,5 +1,7 @@
 // The driver by rounds: in a round every processor that could gather does its whole tile, then all mail in flight is delivered. The nest's
 // table is made once, and a processor is tested when its place comes, which changes nothing (rounds/proofs/AsItGoes).
+#![tactic(auto)]
+
 ghost use Rattle.core.specs.Prelude.{◌≡◌, ◌*◌, ◌<◌, length};
 ghost use Rattle.base.specs.Lists.{set_all, all_at};
 ghost use Rattle.machine.specs.Plan.{count, words, sender_of, sends_of, dues_of};
@@ -295,7 +297,7 @@ pub fn all_rounds(
 
 // What the driver tells: its number and the rounds, 0 at a refusal.
 #[repr(C)]
-#[derive(Drop)]
+#[derive(Clone, Copy)]
 pub struct Driven {
     pub number: u32,
     pub rounds: u32,

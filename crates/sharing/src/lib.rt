@@ -1,5 +1,7 @@
 // The calls for one of two tenants on the same processors (W-208), for programs, which keep the records as words, three a processor.
 // The rules of engaging and freeing a processor are crate `tenants`'; the stages are the engine's.
+#![tactic(auto)]
+
 ghost use Rattle.core.specs.Prelude.{◌≡◌};
 ghost use Rattle.machine.specs.Machine.{state_of};
 ghost use Rattle.tenants.specs.Tenants.{tenant_areas, sharing_of, sources_of};

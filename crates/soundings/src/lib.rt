@@ -1,5 +1,7 @@
 // A source filled from soundings (W-210), in one pass over the file and one over the cells. Of each cell survey number, day and
 // depth of the record that counts so far are kept, side by side in words of the call's own: nothing is written where a record is refused.
+#![tactic(auto)]
+
 ghost use Rattle.std.specs.Prelude.{◌≡◌, false, [], ◌∷◌, ◌+◌, ◌*◌, ◌≤◌, ◌<◌, length};
 ghost use Rattle.base.specs.Tests.{tabulate};
 ghost use Rattle.base.specs.Numbers.{line, first_of};

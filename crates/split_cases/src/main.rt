@@ -1,5 +1,7 @@
 // Splits every component from 0 to 1,023 by every tile length from 1 to 1,024 and prints how many of these splits are the tile and
 // the rest found by counting up, without a division.
+#![tactic(auto)]
+
 ghost use Rattle.std.specs.Prelude.{◌≤◌, ◌<◌};
 
 use libc::STDOUT_FILENO;

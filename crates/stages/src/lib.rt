@@ -1,4 +1,6 @@
 // The stages of a turn and the other work on lent areas below the engine's calls: each asks for areas of their lengths.
+#![tactic(auto)]
+
 ghost use Rattle.std.specs.Prelude.{◌≡◌, List, [], ℕ, ◌+◌, ◌*◌, ◌≤◌, ◌<◌, length, get_or, ltb, leb};
 ghost use Rattle.base.specs.Tests.{pick, every, some};
 ghost use Rattle.base.specs.Lists.{put, set_all, all_at, unpack, pack, store_all};

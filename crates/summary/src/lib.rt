@@ -1,4 +1,6 @@
 // The calls about a plan: its figures, the line of one message, its hops.
+#![tactic(auto)]
+
 ghost use Rattle.std.specs.Prelude.{◌≡◌, ◌≢◌, ℕ, ◌<◌};
 ghost use Rattle.machine.specs.Plan.{count};
 ghost use Rattle.nest.specs.Accepted.{Accepted};
@@ -21,7 +23,7 @@ use tables::{TABLE_WORDS, totals};
 
 // What is said of a plan as a whole; number is 0, or why the recipe is refused.
 #[repr(C)]
-#[derive(Drop)]
+#[derive(Clone, Copy)]
 pub struct Figures {
     pub number: u32,
     pub tiles: u32,
@@ -32,7 +34,7 @@ pub struct Figures {
 
 // What is said of one message: its tiles, their processors, its words.
 #[repr(C)]
-#[derive(Drop)]
+#[derive(Clone, Copy)]
 pub struct MessageLine {
     pub number: u32,
     pub sender: u32,
@@ -44,7 +46,7 @@ pub struct MessageLine {
 
 // How often a message of the direct route is passed on along the indirect one.
 #[repr(C)]
-#[derive(Drop)]
+#[derive(Clone, Copy)]
 pub struct HopCount {
     pub number: u32,
     pub hops: u32,

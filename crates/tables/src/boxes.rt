@@ -14,7 +14,7 @@ use nest::Nest;
 use parcels::{one, two_before};
 
 // So many tiles one after the other, each with parcels as long as those of the tile so far before it.
-#[derive(Drop)]
+#[derive(Clone, Copy)]
 struct Run {
     back: usize,
     tiles: usize,

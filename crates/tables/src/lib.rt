@@ -1,5 +1,7 @@
 // The table of a nest: the length of each message, found once in a call, and all that is told of messages by it.
 // Here box and shape meet: a function looks at the number of bounds once, and its contract speaks of the nest's plan.
+#![tactic(auto)]
+
 ghost use Rattle.std.specs.Prelude.{◌≡◌, ℕ, ◌≤◌, ◌<◌, length, get_or};
 ghost use Rattle.base.specs.Lists.{pack, unpack};
 ghost use Rattle.machine.specs.Plan.{count, words, held_by, tiles_of};

@@ -7,7 +7,7 @@ ghost use Rattle.tables.specs.scans.Scans.{Sheet, Lengths, Summing, Found};
 use crate::TABLE_WORDS;
 
 // Where a message is found: its slot, its number, its place in the buffer.
-#[derive(Drop)]
+#[derive(Clone, Copy)]
 pub struct MessageSlot {
     pub slot: usize,
     pub number: usize,
@@ -15,7 +15,7 @@ pub struct MessageSlot {
     pub words: usize,
 }
 
-#[derive(Drop)]
+#[derive(Clone, Copy)]
 pub struct Total {
     pub messages: usize,
     pub words: usize,

@@ -27,14 +27,14 @@ use nest::{MOST_CELLS, MOST_MESSAGES, Nest};
 use rows::{Move, TileRow, line_of, move_of};
 
 // Slots from the first one on, below the second.
-#[derive(Drop)]
+#[derive(Clone, Copy)]
 struct Range {
     first: usize,
     end: usize,
 }
 
 // A processor, and where in the box a row of its tiles along the last dimension ends.
-#[derive(Drop)]
+#[derive(Clone, Copy)]
 struct Owner {
     number: usize,
     end: usize,

@@ -1,5 +1,7 @@
 // Text written to a lent space: each writer puts its bytes from a place on and answers the next place. Bytes past the space's end are counted
 // and not written, so that a text written to a space of one byte tells its length alone.
+#![tactic(auto)]
+
 ghost use Rattle.std.specs.Prelude.{◌≡◌, true, [], ◌∷◌, ◌+◌, ◌≤◌, length, pos, nat_abs};
 ghost use Rattle.std.specs.Int.Signed.{lt_z};
 ghost use Rattle.text.specs.Decimal.{decimal, signed};

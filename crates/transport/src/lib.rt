@@ -1,5 +1,7 @@
 // What a transport asks of the engine where processors share no memory, for programs that keep the records as words: all messages, the
 // processor of each cell, what a processor waits for, and taking a message in. The route is a word, 0 direct, any other indirect.
+#![tactic(auto)]
+
 ghost use Rattle.core.specs.Prelude.{◌≡◌, []};
 ghost use Rattle.machine.specs.Machine.{state_of};
 ghost use Rattle.engine.specs.Calls.{answer};
@@ -56,7 +58,7 @@ pub fn owners(encoded: &[u8], out: &mut [u32]) -> u32
 
 // What is told of a processor that waits: the call's number, and its tile, 0 at a refusal.
 #[repr(C)]
-#[derive(Drop)]
+#[derive(Clone, Copy)]
 pub struct Waiting {
     pub number: u32,
     pub tile: u32,

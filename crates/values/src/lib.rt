@@ -1,4 +1,6 @@
 // Values in code: a tile and the sequential sweep of the whole grid, by the rows of a box of cells.
+#![tactic(auto)]
+
 ghost use Rattle.std.specs.Prelude.{◌≡◌, ◌*◌, ◌-◌, ◌≤◌, ◌<◌, length, get_or};
 ghost use Rattle.base.specs.Tests.{product};
 ghost use Rattle.base.specs.Lists.{store_all};

@@ -17,7 +17,7 @@ use bands::side_by_side;
 use nest::Nest;
 
 // The numbers of a nest that its rows go by. A nest itself is large, and handed on by value for each row it would be copied as often.
-#[derive(Drop)]
+#[derive(Clone, Copy)]
 pub struct Body {
     pub dimensions: usize,
     pub distances: usize,

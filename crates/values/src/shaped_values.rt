@@ -23,7 +23,7 @@ use layout::{Cell, Sizes};
 use nest::{Interval, Nest};
 
 // Where each distance reads in a row: last components from one number on, below another.
-#[derive(Drop)]
+#[derive(Clone, Copy)]
 pub struct Reads {
     pub firsts: [usize; 8],
     pub ends: [usize; 8],

@@ -26,7 +26,7 @@ use tables::{TABLE_WORDS, fill, nth, totals};
 
 // What became of bytes: a number, 1 where a message is whole with them and was taken in, and the message.
 #[repr(C)]
-#[derive(Drop)]
+#[derive(Clone, Copy)]
 pub struct Received {
     pub number: u32,
     pub whole: u32,

@@ -1,5 +1,7 @@
 // Between the areas of a run and the wire: a chunk of an item, or of a message out of its sender's buffer, as a packet; what a packet says; and, in inbox.rt,
 // bytes as they came taken in at a message's taker's. specs/Wire.antt says what the calls answer.
+#![tactic(auto)]
+
 ghost use Rattle.core.specs.Prelude.{◌≡◌, ◌≤◌, [], ◌∷◌, length};
 ghost use Rattle.base.specs.Numbers.{first_of};
 ghost use Rattle.machine.specs.Plan.{words};
@@ -25,7 +27,7 @@ pub const MESSAGE: u32 = 1; // a packet's kind
 
 // What was written: a number, and how many bytes the packet has.
 #[repr(C)]
-#[derive(Drop)]
+#[derive(Clone, Copy)]
 pub struct Written {
     pub number: u32,
     pub length: u32,
@@ -33,7 +35,7 @@ pub struct Written {
 
 // What a packet says beside recipe, route and run, which were asked for, and how many words it brings. Zeros at a refusal.
 #[repr(C)]
-#[derive(Drop)]
+#[derive(Clone, Copy)]
 pub struct PacketLine {
     pub number: u32,
     pub kind: u32,

@@ -1,5 +1,7 @@
 // The writer: a recipe's fields to its bytes, with the number that the reader would give for them.
 // The bytes are made in an array of the largest recipe's size and the reader itself is asked about them, so its lines stand in one place.
+#![tactic(auto)]
+
 ghost use Rattle.std.specs.Prelude.{◌≡◌, true, ℕ, ◌+◌, ◌*◌, ◌%◌, ◌<◌, ◌≤◌, length, get_or, take, ltb};
 ghost use Rattle.base.specs.Tests.{pick, keep, tabulate};
 ghost use Rattle.base.specs.Numbers.{first_of};

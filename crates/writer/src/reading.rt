@@ -11,7 +11,7 @@ use nest::Nest;
 // What reading tells: its number; how many dimensions, distances and bounds there are, whose numbers stand first in each table, 0 behind them;
 // four components a distance; slopes and offsets as the recipe's signed bytes have them. All 0 beside the number at a refusal.
 #[repr(C)]
-#[derive(Drop)]
+#[derive(Clone, Copy)]
 pub struct RecipeFields {
     pub number: u32,
     pub dimensions: u32,

@@ -9,7 +9,7 @@ use plan::Route;
 use reader::read;
 
 // Where a view finds its part: the number and, where that is 0, where the part begins and how many words it has.
-#[derive(Drop)]
+#[derive(Clone, Copy)]
 pub struct Seen {
     pub number: u32,
     pub start: usize,

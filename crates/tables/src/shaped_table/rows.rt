@@ -16,14 +16,14 @@ use nest::{Interval, Nest};
 use parcels::Window;
 
 // A move of tiles: so many in each dimension, and so far in the box's numbers; none is 0 far.
-#[derive(Drop)]
+#[derive(Clone, Copy)]
 pub struct Move {
     pub steps: [usize; 4],
     pub far: usize,
 }
 
 // Of a row of the box's tiles: those, from one number on, below another, that are like the tile so far before them; and where the row ends.
-#[derive(Drop)]
+#[derive(Clone, Copy)]
 pub struct TileRow {
     pub from: usize,
     pub to: usize,
