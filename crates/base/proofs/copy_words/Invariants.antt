@@ -1,0 +1,14 @@
+-- `copy_words` meets its contract: the words passed.
+use native.Mathlib.Omega.{arith}
+use Prim.Native.Nat.{◌-◌}
+use mathlib.Core.Path.{refl}
+use lib.ListN.{length, get_or}
+use Rattle.base.proofs.Stored as stored
+use borrow.Author.Rules.{rules}
+use Rattle.base.proofs.copy_words.Given as goal
+
+abbrev pub invariant-loop-i : goal.invariant-loop-i
+invariant-loop-i l = stored.Stored (λ j. get_or l.words j 0) l.initial.to l.to l.i
+
+abbrev pub decreases-loop-i : goal.decreases-loop-i
+decreases-loop-i l = length l.initial.to - l.i
