@@ -12,13 +12,13 @@ use lib.Seq.{take-length}
 use lib.Dec.{eqb, ltb}
 use Rattle.base.specs.Tests.{◌or◌, not, tabulate}
 use Rattle.base.specs.Bytes.{word}
-use Rattle.base.specs.Numbers.{Line, line, first_of}
+use Rattle.base.specs.Numbers.{line, first_of}
 use Rattle.base.proofs.Tests.{not-true, not-false, true_not, or_left, or_right, or_false, neither}
 use Rattle.base.proofs.Numbers.{first_nil, first_true, first_false, none_first}
 use Rattle.packets.specs.Crc.{crc32}
 use Rattle.packets.specs.Packet.{word_bytes, words_bytes, magic, packet_length, head_words, body_of, encode_packet, word_at, double_at, count_of, header_of}
-use Rattle.packets.specs.Packet.{words_of, unfit, damaged, stale, decode_lines}
-use Rattle.packets.specs.Calls.{Put, Written, written_of, written_by, write_lines, write_call, Read, no_header, read_of, read_by, read_lines, read_call}
+use Rattle.packets.specs.Packet.{words_of, unfit, damaged, stale}
+use Rattle.packets.specs.Calls.{Put, written_of, written_by, write_call, Read, no_header, read_of, read_by, read_lines, read_call}
 use Rattle.packets.specs.declared.Header.{Header}
 use Rattle.packets.specs.declared.Reading.{Reading}
 use Rattle.packets.proofs.Bytes.{les_append, length_les, length_le, length_body, put_join}

@@ -1,6 +1,6 @@
 -- For the proofs alone.
 -- Chunks put together: bits of a mask, one chunk placed, and a whole list of chunks taken in.
-use mathlib.Core.Path.{◌≡◌, refl, sym, ap, ap₂, ◌∙◌}
+use mathlib.Core.Path.{◌≡◌, refl, sym, ap, ◌∙◌}
 use mathlib.Core.Logic.{◌≢◌, ◌⊎◌, inl, inr}
 use mathlib.Core.Bool.{Bool, true, false}
 use mathlib.Core.List.{List, [], ◌∷◌}
@@ -8,20 +8,20 @@ use Prim.Native.Nat.{ℕ, zero, suc, ◌+◌, ◌-◌, ◌*◌, ◌/◌, ◌%◌
 use native.Mathlib.Nat.{mod-lt, zero-lt-suc, div-add-mod', div-eq_of_lt, zero-div, one-mul, mul-mod_left, pow-suc}
 use native.Mathlib.Decide.{ℕ_discrete, dec_lt}
 use native.Mathlib.Omega.{arith}
-use borrow.Author.Tests.{eq-eqb, ne_eqb, eqb-true, lt-ltb, le-ltb, ltb-true, ltb-false}
-use lib.ListN.{length, get_or, take, drop, length-take, length-drop}
+use borrow.Author.Tests.{eq-eqb, lt-ltb, le-ltb, ltb-true}
+use lib.ListN.{length, get_or, drop, length-take, length-drop}
 use lib.Seq.{ext_get_or}
 use lib.Dec.{eqb, ltb}
-use lib.Pow.{pow_pos, pow-lt, pow-add, shl-shr}
+use lib.Pow.{pow-lt, pow-add, shl-shr}
 use lib.Bits.{bit_or, or_shr, or_mod, or_zero_r}
-use Rattle.base.specs.Tests.{◌and◌, not, pick, every}
+use Rattle.base.specs.Tests.{not, pick}
 use Rattle.base.specs.Lists.{sublist, put}
-use Rattle.base.specs.Numbers.{Line, line, first_of}
+use Rattle.base.specs.Numbers.{line, first_of}
 use Rattle.base.proofs.Tests.{both, and_true, not-true, true_not, never_both, every_at, every_all}
 use Rattle.base.proofs.Lists.{length_put}
 use Rattle.base.proofs.Entries.{part_at, put_same, put_rest}
 use Rattle.base.proofs.Numbers.{first_nil, first_false, none_first}
-use Rattle.packets.specs.Cut.{chunks_of, Chunk, cut, Assembly, assembly, there, complete, chunk_length, fits, placed, take_lines, Taking, taking_by}
+use Rattle.packets.specs.Cut.{chunks_of, Chunk, cut, Assembly, assembly, there, complete, chunk_length, fits, placed, take_lines, taking_by}
 use Rattle.packets.specs.Cut.{take_chunk_call, take_all, Comes, own, misfit, AllCome, Among, ChunksHold}
 
 -- ---- bits

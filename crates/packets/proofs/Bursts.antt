@@ -2,14 +2,14 @@
 -- A packet in which up to 32 bits that follow each other were changed is damaged. CRC-32 takes the bits one by one, each into a register that loses
 -- nothing: so the same bits behind keep two registers apart, and 32 bits are as many as the register has.
 use mathlib.Core.Path.{◌≡◌, refl, sym, ap, ap₂, ◌∙◌}
-use mathlib.Core.Bool.{Bool, true, false}
+use mathlib.Core.Bool.{true, false}
 use mathlib.Core.List.{List, [], ◌∷◌, ◌++◌, append_assoc}
 use Prim.Native.Nat.{ℕ, zero, suc, ◌+◌, ◌*◌, ◌/◌, ◌%◌, ◌^◌, ◌≤◌, ◌<◌}
 use native.Mathlib.Nat.{mod-lt, zero-lt-suc, div-lt_iff_lt-mul, div-add-mod', div-eq_of_lt, div-div-eq-div-mul, lt_of_lt_of_le, pow-suc}
 use native.Mathlib.Omega.{arith}
 use lib.Arith.{lt-one, digits_mod, digits_div}
 use lib.Pow.{pow_pos, pow_mono, split}
-use lib.ListN.{length, get_or, length-append}
+use lib.ListN.{length, get_or}
 use lib.Seq.{get_or-append_seam}
 use lib.Dec.{lit<}
 use lib.Bits.{bit_xor, xor_zero_r, xor_self, xor_comm, xor_shifted, xor_lt}
@@ -17,7 +17,7 @@ use Rattle.base.specs.Lists.{Bytes}
 use Rattle.base.proofs.Tests.{is_true}
 use Rattle.base.proofs.Numbers.{first_true}
 use Rattle.packets.specs.Crc.{shift, shifts, feed, feed_all, crc32}
-use Rattle.packets.specs.Packet.{word_bytes, body_of, encode_packet, header_of, words_of, damaged, Decoded, refused, decoded_by, decode_packet}
+use Rattle.packets.specs.Packet.{word_bytes, body_of, encode_packet, header_of, words_of, damaged, refused, decoded_by, decode_packet}
 use Rattle.packets.specs.Bits.{bits_of, bits, Burst, ByteChange}
 use Rattle.packets.proofs.Xor.{bit_lt, xor_assoc, xor_cancel, xor_cancel_left}
 use Rattle.packets.proofs.Shifts.{shifts_xor, shifts_high, shift_lt, shift_one, shifts_one}

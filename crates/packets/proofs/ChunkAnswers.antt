@@ -3,24 +3,23 @@
 use mathlib.Core.Path.{◌≡◌, refl, sym, ap, ap₂, ◌∙◌}
 use mathlib.Core.Bool.{Bool, true, false}
 use mathlib.Core.List.{List, [], ◌∷◌}
-use Prim.Native.Nat.{ℕ, zero, suc, ◌+◌, ◌-◌, ◌*◌, ◌/◌, ◌%◌, ◌^◌, ◌≤◌, ◌<◌, min}
+use Prim.Native.Nat.{ℕ, zero, suc, ◌+◌, ◌-◌, ◌*◌, ◌/◌, ◌%◌, ◌^◌, ◌≤◌, ◌<◌}
 use native.Mathlib.Nat.{one-mul, mod-eq_of_lt}
 use native.Mathlib.Numerals.{add-one}
 use native.Mathlib.Omega.{arith}
 use borrow.Author.Tests.{eq-eqb, ne_eqb, eqb-true, lt-ltb, le-ltb, ltb-false}
-use lib.ListN.{length, take, drop}
+use lib.ListN.{length}
 use lib.Seq.{take-length}
 use lib.Dec.{eqb, ltb}
 use lib.Pow.{pow-lt}
 use lib.Bits.{bit_or}
-use Rattle.base.specs.Tests.{◌and◌, not, pick, one, every}
+use Rattle.base.specs.Tests.{not, pick, one, every}
 use Rattle.base.specs.Lists.{sublist, put}
-use Rattle.base.specs.Numbers.{Line, line, first_of}
+use Rattle.base.specs.Numbers.{line, first_of}
 use Rattle.base.proofs.Tests.{both, and_true, and_false, and_no, not-false, every_more, every_not}
 use Rattle.base.proofs.Numbers.{first_true, first_false, none_first}
-use Rattle.packets.specs.Cut.{chunks_of, Chunk, chunk_of, Assembly, assembly, there, complete, chunk_length, fits, placed, take_lines, Taking}
+use Rattle.packets.specs.Cut.{chunks_of, Chunk, Assembly, assembly, there, complete, chunk_length, fits, placed, take_lines, Taking}
 use Rattle.packets.specs.Cut.{taking_by, take_chunk_call, taking_of}
-use Rattle.packets.specs.declared.chunks.Taken.{Taken}
 use Rattle.packets.proofs.Assembling.{few, ends, placed_again, fits_below, no_line, no_lines}
 
 -- ---- how many
@@ -37,14 +36,6 @@ chunks_some n = add-one ((n - 1) / 285)
 
 pub one_shl : (k : ℕ) → k < 64 → (1 * 2 ^ k) % 2 ^ 64 ≡ 2 ^ k
 one_shl k h = ap (λ (x : ℕ). x % 2 ^ 64) (one-mul (2 ^ k)) ∙ mod-eq_of_lt (pow-lt h)
-
-pub not_there : (t : Bool) → mathlib.Core.Bool.not t ≡ true → t ≡ false
-not_there true e = sym e
-not_there false e = refl
-
-pub is_there : (t : Bool) → mathlib.Core.Bool.not t ≡ false → t ≡ true
-is_there true e = refl
-is_there false e = sym e
 
 -- ---- the number
 

@@ -1,6 +1,6 @@
 -- For the proofs alone.
 -- The rows of chunks, computed.
-use mathlib.Core.Path.{◌≡◌, refl}
+use mathlib.Core.Path.{refl}
 use Rattle.base.specs.Tests.{◌and◌, not, pick, one, every, tabulate}
 use Rattle.base.specs.Lists.{sublist, put}
 use Rattle.base.specs.Numbers.{first_of}

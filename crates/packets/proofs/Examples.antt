@@ -1,8 +1,6 @@
 -- For the proofs alone.
 -- The rows, computed.
-use mathlib.Core.Path.{◌≡◌, refl}
-use mathlib.Core.List.{List, [], ◌∷◌}
-use lib.ListN.{take}
+use mathlib.Core.Path.{refl}
 use Rattle.base.specs.Tests.{◌or◌, not, pick, tabulate}
 use Rattle.base.specs.Numbers.{first_of}
 use Rattle.packets.specs.Crc.{shift, shifts, feed, feed_all, crc32}

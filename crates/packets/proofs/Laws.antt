@@ -1,20 +1,18 @@
 -- For the proofs alone.
 -- What is proved of packets, put together.
-use mathlib.Core.Path.{◌≡◌, refl, sym, ap, ◌∙◌}
+use mathlib.Core.Path.{◌≡◌, sym, ap, ◌∙◌}
 use mathlib.Core.List.{List, [], ◌∷◌, ◌++◌}
-use Prim.Native.Nat.{ℕ, zero, suc, ◌+◌, ◌*◌, ◌%◌, ◌^◌, ◌≤◌, ◌<◌}
+use Prim.Native.Nat.{ℕ, zero, suc, ◌*◌, ◌%◌, ◌^◌, ◌<◌}
 use native.Mathlib.Nat.{mod-lt}
 use native.Mathlib.Omega.{arith}
-use lib.ListN.{length}
 use lib.Dec.{lit<}
 use lib.Pow.{pow_pos}
 use lib.Bits.{bit_xor, xor_lt}
 use Rattle.base.specs.Lists.{Bytes}
 use Rattle.packets.specs.Crc.{shifts, feed_all, crc32}
 use Rattle.packets.specs.Fingerprint.{mix, mix_all, fnv1a, fingerprint_of}
-use Rattle.packets.specs.Packet.{word_bytes, Fit, encode_packet}
+use Rattle.packets.specs.Packet.{word_bytes, encode_packet}
 use Rattle.packets.specs.Laws.{PacketsHold}
-use Rattle.packets.specs.declared.Header.{Header}
 use Rattle.packets.proofs.Xor.{xor_cancel, xor_cancel_left}
 use Rattle.packets.proofs.Shifts.{shifts_one}
 use Rattle.packets.proofs.Bytes.{feed_append}

@@ -9,22 +9,22 @@ use native.Mathlib.Omega.{arith}
 use borrow.Author.Tests.{eq-eqb, eqb-true}
 use lib.ListN.{length, get_or, take, drop, length-append, get_or-append}
 use lib.Seq.{take_at, take_all, get_or_at, get_or-append-add}
-use lib.Dec.{eqb, lit<, lit≤}
+use lib.Dec.{lit<, lit≤}
 use lib.Pow.{pow_pos, split, shr_lt, low, high}
 use lib.Bits.{bit_xor, xor_lt}
-use Rattle.base.specs.Tests.{not, tabulate}
+use Rattle.base.specs.Tests.{tabulate}
 use Rattle.base.specs.Lists.{Bytes}
-use Rattle.base.specs.Numbers.{Line, line, first_of}
+use Rattle.base.specs.Numbers.{line, first_of}
 use Rattle.base.proofs.Tests.{not-true, true_not, or_false, neither, is_true, length_tabulate, tabulate_same}
 use Rattle.base.proofs.Numbers.{first_nil, first_true, first_false, none_first}
 use Rattle.packets.specs.Crc.{feed, feed_all, crc32}
 use Rattle.packets.specs.Packet.{Words, Fit, word_bytes, words_bytes, magic, packet_length, head_words, body_of, encode_packet, word_at, double_at, count_of}
-use Rattle.packets.specs.Packet.{header_of, words_of, damaged, stale, decode_lines, Decoded, packet, refused, decoded_by, decode_packet}
-use Rattle.packets.specs.Calls.{Read, read_call, Written, write_call}
+use Rattle.packets.specs.Packet.{header_of, words_of, damaged, stale, decode_lines, packet, refused, decoded_by, decode_packet}
+use Rattle.packets.specs.Calls.{read_call, Written, write_call}
 use Rattle.packets.specs.Laws.{Accepted, Ways, accepted, damaged_26, stale_27}
 use Rattle.packets.specs.declared.Header.{Header}
 use Rattle.packets.proofs.Shifts.{shifts_lt}
-use Rattle.packets.proofs.Bytes.{les_append, les_one, length_le, length_les, length_body}
+use Rattle.packets.proofs.Bytes.{les_append, les_one, length_le, length_body}
 use Rattle.packets.proofs.Words.{word_four, word_les, les_words, tabulate_add, tabulate_list}
 use Rattle.packets.proofs.Answers.{Whole, whole_is, is_whole, fit_is, write_done, made, read_all, number_none}
 

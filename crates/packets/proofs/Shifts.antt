@@ -1,7 +1,7 @@
 -- For the proofs alone.
 -- Laws of a shift: it is linear, brings the bits above down, and maps no two words of 32 bits to one.
-use mathlib.Core.Path.{◌≡◌, refl, sym, ap, ap₂, ◌∙◌, subst}
-use Prim.Native.Nat.{ℕ, zero, suc, ◌+◌, ◌*◌, ◌/◌, ◌%◌, ◌^◌, ◌≤◌, ◌<◌}
+use mathlib.Core.Path.{◌≡◌, refl, sym, ap, ap₂, ◌∙◌}
+use Prim.Native.Nat.{ℕ, zero, suc, ◌+◌, ◌*◌, ◌/◌, ◌%◌, ◌^◌, ◌<◌}
 use native.Mathlib.Nat.{mod-lt, zero-lt-suc, mul-div_cancel, mul-mod_left, mul-one, mul_assoc, pow-suc, div-add-mod', div-le_self, lt_of_le_of_lt}
 use native.Mathlib.Nat.{div-lt_iff_lt-mul, div-eq_of_lt}
 use native.Mathlib.Omega.{arith}

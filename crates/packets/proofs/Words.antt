@@ -5,14 +5,14 @@ use mathlib.Core.List.{List, [], ◌∷◌, ◌++◌, append-nil, append_assoc}
 use Prim.Native.Nat.{ℕ, zero, suc, ◌+◌, ◌*◌, ◌/◌, ◌%◌, ◌^◌, ◌≤◌, ◌<◌}
 use native.Mathlib.Nat.{add-zero, div-add-mod', div-div-eq-div-mul, mod-eq_of_lt, div-lt_iff_lt-mul, zero-lt-suc, le_of_suc-le-suc}
 use native.Mathlib.Omega.{arith}
-use lib.ListN.{length, get_or, take, drop, length-append}
+use lib.ListN.{length, get_or, take}
 use lib.Seq.{take-suc, get_or-append-add, ext_get_or}
 use lib.Arith.{digits_mod, digits_div}
 use Rattle.base.specs.Tests.{tabulate}
 use Rattle.base.specs.Lists.{Bytes}
-use Rattle.base.proofs.Tests.{length_tabulate, tabulate_at, tabulate_same}
+use Rattle.base.proofs.Tests.{length_tabulate, tabulate_at}
 use Rattle.packets.specs.Packet.{word_bytes, words_bytes, word_at, Words}
-use Rattle.packets.proofs.Bytes.{les_append, les_one, length_le, length_les}
+use Rattle.packets.proofs.Bytes.{les_append, les_one, length_le}
 
 -- ---- of words written as bytes
 

@@ -2,7 +2,7 @@
 -- Chunks computed: how many there are, a message of three words, each refusal, and a message of 286 words whose chunks come last first and repeated.
 use Rattle.std.specs.Prelude.{◌≡◌, true, false, List, [], ◌∷◌, ℕ, replicate}
 use Rattle.base.specs.Tests.{tabulate}
-use Rattle.packets.specs.Cut.{chunks_of, Chunk, chunk_of, cut, Assembly, assembly, complete, Taking, take_chunk_call, take_all}
+use Rattle.packets.specs.Cut.{chunks_of, chunk_of, cut, Assembly, assembly, complete, take_chunk_call, take_all}
 
 pub record Counted : Type 0 where
   pub none : chunks_of 0 ≡ 1

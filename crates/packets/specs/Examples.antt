@@ -1,10 +1,10 @@
 -- Read this.
 -- Small packets, fingerprints and check words, computed: the check values that tables of CRC-32 and FNV-1a give, and one packet that is written, read, and
 -- refused for each reason.
-use Rattle.std.specs.Prelude.{◌≡◌, List, [], ◌∷◌, ◌++◌, ℕ, take}
+use Rattle.std.specs.Prelude.{◌≡◌, List, [], ◌∷◌, ℕ, take}
 use Rattle.packets.specs.Crc.{crc32}
 use Rattle.packets.specs.Fingerprint.{fnv1a, fingerprint_of}
-use Rattle.packets.specs.Packet.{encode_packet, Decoded, packet, refused, decode_packet}
+use Rattle.packets.specs.Packet.{encode_packet, packet, refused, decode_packet}
 use Rattle.packets.specs.declared.Header.{Header}
 
 -- fingerprint 1 and 2, run 3 and 4, life 5 and 6, then 7 to 12, and two words

@@ -4,8 +4,8 @@ use Rattle.std.specs.Prelude.{ℕ, ◌^◌, ◌≤◌, ◌<◌, ◌≡◌, List,
 use Rattle.base.specs.Lists.{Bytes}
 use Rattle.packets.specs.Bits.{Burst, ByteChange}
 use Rattle.packets.specs.Fingerprint.{fingerprint_of}
-use Rattle.packets.specs.Packet.{most_words, packet_length, Fit, encode_packet, Decoded, packet, refused, decode_packet}
-use Rattle.packets.specs.Calls.{Written, write_call, Read, read_call}
+use Rattle.packets.specs.Packet.{packet_length, Fit, encode_packet, packet, refused, decode_packet}
+use Rattle.packets.specs.Calls.{write_call, read_call}
 use Rattle.packets.specs.declared.Header.{Header}
 
 -- bytes p are accepted as a packet: they are its encoding byte for byte, and it is of this recipe, route and run

@@ -1,5 +1,4 @@
 -- The table's rule: each of its 256 entries is what eight shifts make of its put-chunk, which antt computes once.
-use borrow.Author.Rules.{rules}
 use borrow.Author.Tests.{eqb-true}
 use mathlib.Core.Path.{◌≡◌, refl}
 use mathlib.Core.Bool.{Bool, true}
@@ -10,8 +9,7 @@ use lib.Dec.{eqb}
 use Rattle.base.specs.Tests.{◌and◌, every}
 use Rattle.base.proofs.Tests.{every_at}
 use Rattle.packets.specs.Crc.{shift, shifts, Eights}
-use Rattle.packets.proofs.crc_table.fed.Statement.{statement}
-use Rattle.packets.proofs.crc_table.fed.Tie as tie
+use Rattle.packets.proofs.crc_table.fed.Goals as goal
 
 table : List ℕ
 table =
@@ -60,12 +58,6 @@ long = refl
 eights : Eights table
 eights = record { long = long; at = at }
 
-fed-by-requires : tie.Need-fed-by-requires
+pub fed_by-requires : goal.fed_by-requires
 unfolding table
-fed-by-requires c κs = eights
-
-returns : tie.Need-returns
-returns c = search rules
-
-pub fed-spec : {M : Type 1} → statement M
-fed-spec = tie.close (tie.spec fed-by-requires returns)
+fed_by-requires c = eights
