@@ -1,7 +1,6 @@
 -- A worked example, computed: 2 rows of 3 cells, the cell in the middle of the second row outside.
-use Prim.Native.Nat.{ℕ}
 use mathlib.Core.Path.{◌≡◌, refl}
-use mathlib.Core.List.{List, [], ◌∷◌, ◌++◌}
+use mathlib.Core.List.{[], ◌∷◌}
 use lib.IntN.{pos, negsuc}
 use Rattle.text.specs.Decimal.{decimal, signed, digits_in}
 use Rattle.text.specs.Grid.{Frame, grid_text, header, head_line, row, more, rows_from, cell}

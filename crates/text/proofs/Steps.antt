@@ -5,13 +5,13 @@ use mathlib.Core.List.{List, [], ◌∷◌, ◌++◌}
 use native.Mathlib.Omega.{arith}
 use native.Mathlib.Numerals.{add-one}
 use lib.IntN.{ℤ, pos, negsuc, ◌-ℤ◌, nat_abs}
-use lib.Signed.{lt_z, non_neg, mag, nat_abs-le}
-use lib.Dec.{T, ltb, lit<}
+use lib.Signed.{lt_z, non_neg, nat_abs-le}
+use lib.Dec.{T, lit<}
 use mathlib.Core.Bool.{Bool, true, false, true≢false}
 use mir.Syntax.{w32}
 use mir.Val.{Fits, SFits, to_z, of_z}
 use mir.ValLaws.{to_z-of_z}
-use borrow.Author.Tests.{ltb-true, lt-ltb, le-ltb, ne_eqb}
+use borrow.Author.Tests.{ltb-true, le-ltb}
 use native.Mathlib.Nat.{lt_of_le_of_lt}
 use lib.ListN.{length, get_or, drop, length-append}
 use lib.Seq.{drop-cons, drop-nil}
