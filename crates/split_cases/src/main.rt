@@ -4,7 +4,7 @@
 
 ghost use Rattle.std.specs.Prelude.{◌≤◌, ◌<◌};
 
-use libc::STDOUT_FILENO;
+use std::io;
 
 // One where the split is this tile and this rest, else none.
 fn agrees(component: u16, length: u16, tile: u16, rest: u16) -> u32
@@ -39,11 +39,10 @@ fn agreeing(length: u16) -> u32
     n
 }
 
-fn main() {
+fn main(rt: HostRuntime) -> io::Result<()> {
     let mut n: u32 = 0;
     for length in 1..1025u16 {
         n += agreeing(length);
     }
-    io::print_decimal(STDOUT_FILENO, base::word_wide(n));
-    io::write_all(STDOUT_FILENO, b" of 1048576 splits agree\n");
+    println!(rt; "{n} of 1048576 splits agree")
 }
