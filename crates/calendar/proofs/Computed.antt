@@ -13,8 +13,8 @@ use Rattle.machine.specs.Runs.{answers_to}
 use Rattle.tenants.specs.Tenants.{stage_agrees, fit_word, fit_for, held_by_other, freed_after, engaged_after, carry_out_for, deliver_for, of_tenant, Sharing}
 use Rattle.tenants.specs.Tenants.{Sources, returned, fresh_sharing}
 use Rattle.calendar.specs.declared.Opening.TheVariants.{OpensIn}
-use Rattle.calendar.specs.Windows.{is_window, is_faulty, faulty_board, faulty_table, faulty_window, faulty_minute, covers, in_window, open_at, Moment}
-use Rattle.calendar.specs.Windows.{moment_of, faulty_moment, faulty_for, closed, timed_turn, timed_turn_for, turn_at, mail_of, act_at, act_at_for, act_at_on}
+use Rattle.calendar.specs.Windows.{is_window, is_faulty, faulty_board, faulty_table, faulty_window, faulty_minute, covers, open_at, Moment}
+use Rattle.calendar.specs.Windows.{moment_of, faulty_for, closed, timed_turn, timed_turn_for, turn_at, mail_of, act_at, act_at_for, act_at_on}
 use Rattle.calendar.specs.Windows.{first_from, until_open, ask_opening}
 use Rattle.calendar.specs.Demands212.{turn_at_by, mail_by}
 

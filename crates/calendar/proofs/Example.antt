@@ -19,7 +19,7 @@ use Rattle.machine.proofs.ComputedRun.{rows}
 use Rattle.machine.proofs.Example.{sound}
 use Rattle.tenants.specs.Tenants.{Sources, fresh_sharing, collect_on}
 use Rattle.calendar.specs.declared.Opening.TheVariants.{Never}
-use Rattle.calendar.specs.Windows.{closes_at, is_window, is_faulty, faulty_board, faulty_table, faulty_window, covers, in_window, open_at, closed, moment_of}
+use Rattle.calendar.specs.Windows.{closes_at, is_window, is_faulty, faulty_board, faulty_table, covers, open_at, closed, moment_of}
 use Rattle.calendar.specs.Windows.{Timed, turn_at, mail_of, act_at, TimedCall, act_at_on, until_open}
 use Rattle.calendar.specs.Waits.{Fair}
 use Rattle.calendar.specs.Demands212.{Faultless, SomeStep, Demand212, Demand212For}

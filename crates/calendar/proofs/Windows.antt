@@ -1,18 +1,17 @@
 -- Laws of one window: when it is next open.
-use Prim.Native.Nat.{ℕ, ◌+◌, ◌*◌, ◌-◌, ◌%◌, ◌≤◌, ◌<◌}
-use mathlib.Core.Path.{◌≡◌, refl, sym, ap, ◌∙◌}
-use mathlib.Core.Logic.{◌⊎◌, inl, inr, ◌≢◌}
+use Prim.Native.Nat.{ℕ, ◌+◌, ◌-◌, ◌%◌, ◌≤◌, ◌<◌}
+use mathlib.Core.Path.{◌≡◌, refl, sym, ◌∙◌}
+use mathlib.Core.Logic.{◌≢◌}
 use mathlib.Core.Bool.{Bool, true, false}
 use mathlib.Core.List.{List}
 use native.Mathlib.Omega.{arith}
 use native.Mathlib.Decide.{dec_lt, ℕ_discrete}
-use lib.ListN.{get_or}
 use lib.Dec.{ltb, leb, eqb}
 use borrow.Author.Tests.{lt-ltb, le-ltb, ltb-true, ltb-false, le-leb, leb-true, eq-eqb, ne_eqb, eqb-true}
-use Rattle.base.specs.Tests.{◌and◌, ◌or◌, not, some}
-use Rattle.base.proofs.Tests.{both, and_true, and_left, and_false, and_no, either, or_left, or_right, is_false, never_both, not-false, not-true}
+use Rattle.base.specs.Tests.{◌and◌, ◌or◌, not}
+use Rattle.base.proofs.Tests.{both, and_true, and_left, and_false, and_no, or_left, or_right, is_false, never_both, not-false, not-true}
 use Rattle.base.proofs.Tests.{false_not, same_test, none_some}
-use Rattle.calendar.specs.Windows.{week, opens_at, closes_at, is_window, is_faulty, faulty_pair, faulty_board, covers, in_window}
+use Rattle.calendar.specs.Windows.{week, opens_at, closes_at, is_window, is_faulty, faulty_pair, faulty_board, covers}
 use Rattle.calendar.specs.Waits.{Fair, First}
 
 -- ---- a pair

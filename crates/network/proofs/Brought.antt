@@ -7,10 +7,10 @@ use mathlib.Core.Bool.{Bool, true, false}
 use mathlib.Core.List.{List, [], ◌∷◌, ◌++◌, append-nil, append_assoc}
 use native.Mathlib.Omega.{arith}
 use native.Mathlib.Decide.{dec_lt, ℕ_discrete}
-use lib.ListN.{length, get_or}
+use lib.ListN.{length}
 use lib.Dec.{ltb, eqb}
-use borrow.Author.Tests.{eqb-true, eq-eqb, ne_eqb, lt-ltb, le-ltb, ltb-true}
-use Rattle.base.specs.Tests.{not, pick, one}
+use borrow.Author.Tests.{eqb-true, eq-eqb, ne_eqb, lt-ltb, le-ltb}
+use Rattle.base.specs.Tests.{not, pick}
 use Rattle.base.specs.Lists.{count_if}
 use Rattle.base.specs.Numbers.{line, first_of}
 use Rattle.base.proofs.Tests.{both, and_true, and_no, and_false, or_left, or_right, or_false, not-true, not-false, true_not, pick_true, pick_false}
@@ -19,16 +19,16 @@ use Rattle.base.proofs.Numbers.{first_true, first_false, first_nil, none_first}
 use Rattle.machine.specs.Plan.{Plan, Sound, count, held_by}
 use Rattle.machine.specs.Machine.{State, place_of, fit, Answered, turn, deliver}
 use Rattle.machine.specs.Runs.{Event, turn_of, deliveryOf, act, state_after, answers_to, steps}
-use Rattle.machine.proofs.Turns.{delivered, can_deliver}
+use Rattle.machine.proofs.Turns.{delivered}
 use Rattle.machine.proofs.Kept.{status_of}
 use Rattle.machine.proofs.Events.{flying}
 use Rattle.machine.proofs.RunLaws.{Passed, number_of, after_of}
 use Rattle.network.specs.Apart.{AreasApart, sender_at, taker_at, replaced, marked, received, sent_off, arrived}
-use Rattle.network.specs.Packets.{Packet, packet_at, Network, network_of, status_at, NetworkEvent, turn_by, post_of, arrivalOf, posted, post, arrive}
+use Rattle.network.specs.Packets.{Packet, packet_at, Network, network_of, status_at, turn_by, post_of, arrivalOf, posted, post, arrive}
 use Rattle.network.specs.Packets.{turn_network, act_network, machine_events}
 use Rattle.network.specs.Apart.{turn_apart}
-use Rattle.network.specs.Brought.{BoardEvent, turn_at, post_at, brought_to, BoardCalls, called_at, act_boards, taken_by, as_long, take_in_lines, take_in}
-use Rattle.network.specs.Brought.{machine_calls, machine_boards, WasPosted, Carries}
+use Rattle.network.specs.Brought.{BoardEvent, turn_at, post_at, brought_to, called_at, act_boards, take_in}
+use Rattle.network.specs.Brought.{machine_boards, WasPosted, Carries}
 use Rattle.network.specs.OnBoards.{events_at, numbers_at}
 use Rattle.network.proofs.Letters.{replaced_own}
 use Rattle.network.proofs.Agrees.{agrees_fit}

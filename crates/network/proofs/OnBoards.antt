@@ -2,37 +2,36 @@
 use Prim.Native.Nat.{ℕ, ◌+◌, ◌≤◌, ◌<◌}
 use mathlib.Core.Path.{◌≡◌, refl, sym, ap, ◌∙◌, subst}
 use mathlib.Core.Logic.{◌≢◌}
-use mathlib.Core.Bool.{Bool, true, false}
+use mathlib.Core.Bool.{true, false}
 use mathlib.Core.List.{List, [], ◌∷◌, ◌++◌, append-nil}
 use native.Mathlib.Omega.{arith}
 use native.Mathlib.Decide.{dec_lt, ℕ_discrete}
-use lib.ListN.{length, get_or, take, length-map}
+use lib.ListN.{length, get_or, length-map}
 use lib.Dec.{ltb, eqb}
-use borrow.Author.Tests.{eq-eqb, ne_eqb, lt-ltb, le-ltb, ltb-false}
+use borrow.Author.Tests.{ne_eqb, lt-ltb, le-ltb, ltb-false}
 use Rattle.base.specs.Tests.{pick, tabulate}
-use Rattle.base.specs.Lists.{In, count_if}
-use Rattle.base.proofs.Tests.{pick_true, pick_false, sum_same, some_none, none_some, length_tabulate}
+use Rattle.base.specs.Lists.{count_if}
+use Rattle.base.proofs.Tests.{pick_true, pick_false, some_none, none_some, length_tabulate}
 use Rattle.base.proofs.Select.{those_lt}
 use Rattle.machine.specs.Plan.{Plan, Sound, count, held_by, tiles_of}
-use Rattle.machine.specs.Machine.{State, Action, gather, memory_of, place_of, finished_of, stage_of, sent_of, tiles_left, fit, Answered, turn, deliver, carry_out}
+use Rattle.machine.specs.Machine.{State, gather, memory_of, place_of, finished_of, stage_of, sent_of, tiles_left, Answered, turn, deliver, carry_out}
 use Rattle.machine.specs.Machine.{next_action, collect, fresh, sweep}
-use Rattle.machine.specs.Runs.{Event, turn_of, deliveryOf, act, state_after, answers_to, steps, total, program, turns_of, deliveries_of, steps_in, Demand3}
+use Rattle.machine.specs.Runs.{Event, act, state_after, answers_to, steps, total, program, turns_of, deliveries_of, steps_in, Demand3}
 use Rattle.machine.specs.StatusTells.{Standing, StatusTells}
 use Rattle.machine.proofs.Turns as turns
 use Rattle.machine.proofs.Turns.{can_deliver, can_collect}
 use Rattle.machine.proofs.Progress.{prog, prog_is, prog_before, work, full}
 use Rattle.machine.proofs.Invariant.{sender_low}
 use Rattle.machine.proofs.Kept.{status_of, inv_fit}
-use Rattle.machine.proofs.RunLaws.{Passed, number_of, after_of, ends, steps_same, turns_same, brings_same}
+use Rattle.machine.proofs.RunLaws.{number_of, after_of, ends, steps_same, turns_same, brings_same}
 use Rattle.machine.proofs.Once.{once_passed, collects_like}
 use Rattle.machine.proofs.Theorem.{theorem, named_next}
 use Rattle.machine.proofs.StatusTells.{marks_passed}
 use Rattle.network.specs.Apart.{AreasApart, start_apart, replaced, sender_at, taker_at, joined}
-use Rattle.network.specs.Packets.{Packet, packet_at, Network, network_of, NetworkEvent, turn_by, post_of, arrivalOf, turn_network, act_network, start_network}
-use Rattle.network.specs.Packets.{mailed}
-use Rattle.network.specs.Brought.{BoardEvent, turn_at, post_at, brought_to, BoardCalls, called_at, act_boards, take_in, machine_calls, machine_boards}
-use Rattle.network.specs.Brought.{WasPosted, Carries}
-use Rattle.network.specs.OnBoards.{events_at, numbers_at, posts_of, whole, taken_in, handed_over, stepsGot, OnBoards, OnWholeAreas}
+use Rattle.network.specs.Packets.{Packet, packet_at, Network, network_of, NetworkEvent, turn_by, post_of, arrivalOf, act_network, start_network}
+use Rattle.network.specs.Brought.{BoardEvent, turn_at, post_at, brought_to, BoardCalls, called_at, act_boards, take_in, machine_boards}
+use Rattle.network.specs.Brought.{Carries}
+use Rattle.network.specs.OnBoards.{events_at, numbers_at, whole, taken_in, handed_over, stepsGot, OnBoards, OnWholeAreas}
 use Rattle.network.proofs.Letters.{replaced_same, replaced_other}
 use Rattle.network.proofs.Agrees.{left_same, number_same, goes_same}
 use Rattle.network.proofs.Joined.{joined_shape, joined_same}
@@ -42,7 +41,7 @@ use Rattle.network.proofs.Network.{Follows, PostedOnce, post_asks, arrive_asks, 
 use Rattle.network.proofs.PacketTheorem.{step_here, step_there, few, mailed_all}
 use Rattle.network.proofs.Brought.{Away, Honest, board_low, stays_as, post_asked, post_refused, turn_refused, take_refused, take_short, take_none, take_wrong}
 use Rattle.network.proofs.Brought.{take_again, takes_it, not_flying, carries_none, carries_next, carries_alone, carries_first, carries_rest, carries_prefix}
-use Rattle.network.proofs.Brought.{board_fit, its_own, keeps, turn_as, post_here, post_low, post_is, post_from, take_number, take_nowhere, arrives}
+use Rattle.network.proofs.Brought.{board_fit, its_own, turn_as, post_here, post_is, take_number, take_nowhere, arrives}
 use Rattle.network.proofs.Brought.{Ran, ran}
 use Rattle.network.proofs.Posts.{is_of, has_count, once_count, at_least, posts_counted, taken_posted}
 

@@ -10,7 +10,7 @@ use lib.ListN.{length, get_or, take, drop, replicate, length-replicate}
 use lib.Seq.{take-append_seam, drop-append_seam}
 use lib.Dec.{leb, eqb}
 use borrow.Author.Tests.{eqb-true, eq-eqb, le-leb, leb-true}
-use Rattle.base.specs.Tests.{◌and◌, ◌or◌, some}
+use Rattle.base.specs.Tests.{◌and◌, some}
 use Rattle.base.specs.Lists.{In, Rising, put, member, unpack, pack}
 use Rattle.base.proofs.Tests.{both, and_true, either, never_both, or_left, or_right, some_at, some_one, every_at, every_all}
 use Rattle.base.proofs.Select.{keep_in, in_keep, keep_rising}

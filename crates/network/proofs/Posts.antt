@@ -9,16 +9,15 @@ use native.Mathlib.Decide.{dec_lt, ℕ_discrete}
 use lib.ListN.{length}
 use lib.Dec.{ltb, eqb}
 use borrow.Author.Tests.{eq-eqb, ne_eqb}
-use Rattle.base.specs.Tests.{◌and◌, pick, one, keep}
+use Rattle.base.specs.Tests.{◌and◌, pick, one}
 use Rattle.base.specs.Lists.{count_if}
-use Rattle.base.proofs.Tests.{and_true, and_no, and_false, pick_true, pick_false, one_true, one_false}
+use Rattle.base.proofs.Tests.{and_no, and_false, pick_true, pick_false, one_true, one_false}
 use Rattle.base.proofs.Select.{keep_few}
 use Rattle.base.proofs.Lists.{count_append}
 use Rattle.machine.specs.Machine.{State, Answered}
 use Rattle.machine.specs.Runs.{state_after, answers_to, deliveries_of}
-use Rattle.network.specs.Apart.{AreasApart}
 use Rattle.network.specs.Packets.{Packet, packet_at, Network}
-use Rattle.network.specs.Brought.{BoardEvent, turn_at, post_at, brought_to, BoardCalls, called_at, act_boards, WasPosted, Carries}
+use Rattle.network.specs.Brought.{BoardEvent, turn_at, post_at, brought_to, BoardCalls, called_at, act_boards, Carries}
 use Rattle.network.specs.OnBoards.{events_at, numbers_at, posts_of}
 use Rattle.network.proofs.Posting.{Has}
 use Rattle.network.proofs.Network.{PostedOnce, has_more}

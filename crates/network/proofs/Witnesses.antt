@@ -2,7 +2,7 @@
 -- it, though the sources differ at a cell of processor 1, and so do the words, the record and the mark that processor 1 has.
 use Prim.Native.Nat.{ℕ, zero, suc, ◌<◌}
 use mathlib.Core.Path.{◌≡◌, refl}
-use mathlib.Core.Logic.{inl}
+use mathlib.Core.Logic.{inl, inr}
 use mathlib.Core.List.{List, [], ◌∷◌}
 use native.Mathlib.Omega.{arith}
 use Rattle.base.specs.Tests.{◌and◌, pick, every, keep, those}
@@ -45,10 +45,13 @@ brought = Keeps.brought 1 (omega arith) refl (inl refl)
 not_kept : Keeps line3 0 2 → ⊥
 unfolding line3
 not_kept (Keeps.own zero h e (inl i)) = omega arith
+not_kept (Keeps.own zero h e (inr i)) = absurd i
 not_kept (Keeps.own (suc zero) h e (inl i)) = omega arith
+not_kept (Keeps.own (suc zero) h e (inr i)) = absurd i
 not_kept (Keeps.own (suc (suc zero)) h e i) = omega arith
 not_kept (Keeps.own (suc (suc (suc t))) h e i) = omega arith
 not_kept (Keeps.brought zero h e (inl i)) = omega arith
+not_kept (Keeps.brought zero h e (inr i)) = absurd i
 not_kept (Keeps.brought (suc zero) h e i) = omega arith
 not_kept (Keeps.brought (suc (suc m)) h e i) = omega arith
 
@@ -56,7 +59,9 @@ not_kept (Keeps.brought (suc (suc m)) h e i) = omega arith
 same_source : SameSource line3 0 source3 source
 unfolding line3 source3 source
 same_source zero c h e (inl i) = rw i refl
+same_source zero c h e (inr i) = absurd i
 same_source (suc zero) c h e (inl i) = rw i refl
+same_source (suc zero) c h e (inr i) = absurd i
 same_source (suc (suc zero)) c h e i = absurd (omega arith)
 same_source (suc (suc (suc t))) c h e i = absurd (omega arith)
 

@@ -7,7 +7,7 @@ use Rattle.machine.specs.Plan.{Plan, count, held_by}
 use Rattle.machine.specs.Machine.{State, Answered, gather, memory_of, tiles_left, carry_out, sweep}
 use Rattle.machine.specs.Runs.{Event, turn_of, deliveryOf, state_after, answers_to, total, program, turns_of, deliveries_of, last, answers, steps, steps_in}
 use Rattle.machine.specs.Runs.{Once, Collects}
-use Rattle.network.specs.Apart.{AreasApart, replaced, sender_at, taker_at, joined}
+use Rattle.network.specs.Apart.{replaced, sender_at, taker_at, joined}
 use Rattle.network.specs.Packets.{Packet, packet_at, Network}
 use Rattle.network.specs.Brought.{BoardEvent, turn_at, post_at, brought_to, Carries}
 

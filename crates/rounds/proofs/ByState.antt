@@ -2,14 +2,14 @@
 use Prim.Native.Nat.{ℕ, zero, suc, ◌+◌, ◌*◌, ◌≤◌, ◌<◌}
 use mathlib.Core.Path.{◌≡◌, refl, sym, ap, ◌∙◌}
 use mathlib.Core.Bool.{Bool, true, false}
-use mathlib.Core.List.{List, [], ◌∷◌, ◌++◌, map}
+use mathlib.Core.List.{List, [], ◌∷◌, map}
 use native.Mathlib.Omega.{arith}
 use native.Mathlib.Decide.{dec_lt}
 use lib.ListN.{length, get_or, set, replicate}
 use lib.Dec.{ltb, eqb}
 use borrow.Author.Tests.{eq-eqb, ltb-true, ltb-false, lt-ltb}
 use Rattle.base.specs.Tests.{pick, keep, some}
-use Rattle.base.specs.Lists.{In, set_all, all_at}
+use Rattle.base.specs.Lists.{set_all}
 use Rattle.base.proofs.Tests.{both, and_true, same_test, is_true, pick_true, never_both}
 use Rattle.base.proofs.Lists.{all_at_in, all_at_out}
 use Rattle.base.proofs.Select.{at_is}
