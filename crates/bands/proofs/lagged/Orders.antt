@@ -1,15 +1,15 @@
 -- Stores in another order: where each cell's value reads none of the cells still to be stored, the memory ends the same.
 -- No store is moved past another: the memory in index order is the target, and each store writes the target's word.
-use Prim.Native.Nat.{ℕ, zero, suc, ◌+◌, ◌≤◌, ◌<◌}
-use mathlib.Core.Path.{◌≡◌, refl, sym, ap, ◌∙◌}
-use mathlib.Core.Logic.{◌⊎◌, inl, inr, ◌≢◌}
+use Prim.Native.Nat.{ℕ, ◌<◌}
+use mathlib.Core.Path.{◌≡◌, refl, sym, ◌∙◌}
+use mathlib.Core.Logic.{inl, inr, ◌≢◌}
 use mathlib.Core.List.{List, [], ◌∷◌}
 use native.Mathlib.Decide.{ℕ_discrete}
 use native.Mathlib.Omega.{arith}
 use lib.ListN.{length, get_or, set, length-set}
 use lib.Seq.{get_or-set_same, get_or-set_other, ext_get_or}
 use Rattle.base.specs.Lists.{In, Rising, store_all}
-use Rattle.base.proofs.Lists.{AllBelow, store_length}
+use Rattle.base.proofs.Lists.{AllBelow}
 
 -- a cell that is not stored keeps its word
 pub store_other : (f : List ℕ → ℕ → ℕ) (cs m : List ℕ) (z : ℕ) → (In z cs → ⊥) → get_or (store_all f m cs) z 0 ≡ get_or m z 0

@@ -7,7 +7,7 @@ use mathlib.Core.List.{List, [], ◌∷◌, ◌++◌}
 use native.Mathlib.Nat.{add_assoc}
 use native.Mathlib.Decide.{dec_lt, ℕ_discrete}
 use native.Mathlib.Omega.{arith}
-use lib.ListN.{length, get_or, set, length-set}
+use lib.ListN.{length, get_or, set}
 use lib.Dec.{ltb, eqb}
 use borrow.Author.Tests.{eq-eqb, ne_eqb, lt-ltb, le-ltb, le-leb}
 use Rattle.base.specs.Tests.{tabulate, sum, pick}
@@ -15,13 +15,11 @@ use Rattle.base.proofs.Tests.{sum_same, pick_true, pick_false}
 use Rattle.base.specs.Lists.{In, Rising, store_all}
 use Rattle.base.proofs.Lists.{AllBelow, store_length}
 use Rattle.base.proofs.Select.{in_append, in_left, in_right}
-use Rattle.machine.specs.Plan.{Sound}
 use Rattle.nest.specs.declared.Nest.{Nest}
 use Rattle.nest.specs.Accepted.{Accepted}
 use Rattle.nest.specs.Nest.{cells, weight}
 use Rattle.nest.specs.Places.{cell_place}
 use Rattle.plan.specs.Geometry.{has_read, read_at, reads_of, value}
-use Rattle.plan.specs.Messages.{box_plan}
 use Rattle.plan.proofs.Sound.{reads_at, value_local}
 use Rattle.plan.proofs.Tiles.{read_back, read_before}
 use Rattle.layout.specs.CellRows.{row_of}

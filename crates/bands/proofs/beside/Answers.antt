@@ -1,0 +1,66 @@
+-- `bands::beside` meets its contract: the first columns, then all others.
+use native.Mathlib.Omega.{arith}
+use Rattle.bands.specs.lagged.Bands.{four}
+use Rattle.bands.proofs.lagged.Waves.{band_mixes}
+use Rattle.bands.proofs.Columns.{columns_fit, beside_stored}
+use Rattle.bands.proofs.beside.Goals as goal
+
+pub overflow_sub-few : goal.overflow_sub-few
+overflow_sub-few c =
+    let p = c.requires.1 in
+    omega (arith, p.0.1.0.three)
+
+pub overflow_add-full : goal.overflow_add-full
+overflow_add-full c =
+    let p = c.requires.1 in
+    omega (arith, (p.0.1.0.each 0 (omega arith)).few, p.0.1.0.three, p.0.1.0.low)
+
+pub edge_row-requires : goal.edge_row-requires
+edge_row-requires c =
+    let p = c.requires.1 in
+    band_mixes _ p.0.0 (four c.args.a c.args.b c.args.c c.args.d) _ _ _ _ _ _ p.0.1.0 0 _ (omega arith)
+    (omega (arith, p.0.1.0.low)) _ _ p.0.1.1.0 p.0.1.1.1
+
+pub edge_row-requires-2 : goal.edge_row-requires-2
+edge_row-requires-2 c =
+    let p = c.requires.1 in
+    band_mixes _ p.0.0 (four c.args.a c.args.b c.args.c c.args.d) _ _ _ _ _ _ p.0.1.0 1 _ (omega arith)
+    (omega (arith, p.0.1.0.low)) _ _ p.0.1.1.0 (omega arith)
+
+pub edge_row-requires-3 : goal.edge_row-requires-3
+edge_row-requires-3 c =
+    let p = c.requires.1 in
+    band_mixes _ p.0.0 (four c.args.a c.args.b c.args.c c.args.d) _ _ _ _ _ _ p.0.1.0 2 _ (omega arith)
+    (omega (arith, p.0.1.0.low)) _ _ p.0.1.1.0 (omega arith)
+
+pub edge_row-requires-4 : goal.edge_row-requires-4
+edge_row-requires-4 c =
+    let p = c.requires.1 in
+    band_mixes _ p.0.0 (four c.args.a c.args.b c.args.c c.args.d) _ _ _ _ _ _ p.0.1.0 3 _ (omega arith)
+    (omega (arith, p.0.1.0.low)) _ _ p.0.1.1.0 (omega arith)
+
+pub overflow_sub-lag : goal.overflow_sub-lag
+overflow_sub-lag c =
+    let p = c.requires.1 in
+    omega (arith, p.0.1.0.rows.apart 0 1 (omega arith) (omega arith), p.0.1.0.three, p.0.1.0.low)
+
+pub overflow_sub-rest : goal.overflow_sub-rest
+overflow_sub-rest c =
+    let p = c.requires.1 in
+    omega (arith, p.0.1.0.rows.apart 0 1 (omega arith) (omega arith), p.0.1.0.three, p.0.1.0.low)
+
+pub overflow_add-a : goal.overflow_add-a
+overflow_add-a c =
+    let p = c.requires.1 in
+    omega (arith, (p.0.1.0.each 0 (omega arith)).low, p.0.1.0.low, p.0.0.cells_most)
+
+pub wave-requires : goal.wave-requires
+wave-requires c =
+    let p = c.requires.1 in
+    columns_fit _ p.0.0 (four c.args.a c.args.b c.args.c c.args.d) _ _ _ _ _ _ p.0.1.0 p.1 _ _ p.0.1.1.0 (omega arith)
+
+pub returns : goal.returns
+returns c =
+    λ x p.
+    beside_stored _ p.0.0 (four c.args.a c.args.b c.args.c c.args.d) _ _ _ _ _ _ p.0.1.0 _ _ p.0.1.1.1 p.1 _ _ _ _ _
+    c.edge_row.ensures c.edge_row-2.ensures c.edge_row-3.ensures c.edge_row-4.ensures c.wave.ensures
