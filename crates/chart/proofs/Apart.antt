@@ -2,31 +2,28 @@
 use Prim.Native.Nat.{ℕ, zero, suc, ◌+◌, ◌*◌, ◌≤◌, ◌<◌}
 use mathlib.Core.Path.{◌≡◌, refl, sym, ap, ◌∙◌}
 use mathlib.Core.Bool.{Bool, true, false, false≢true}
-use mathlib.Core.List.{List, [], ◌∷◌, ◌++◌, append_assoc}
+use mathlib.Core.List.{List, ◌++◌, append_assoc}
 use mathlib.Core.Logic.{◌⊎◌, inl, inr}
 use native.Mathlib.Omega.{arith}
 use native.Mathlib.Decide.{dec_lt}
 use native.Mathlib.Nat.{suc-mul, zero-mul, eq-or-lt_of_le}
 use lib.IntN.{ℤ}
-use lib.ListN.{get_or, take, drop, length}
+use lib.ListN.{get_or, drop, length}
 use lib.Seq.{take_at}
-use lib.Dec.{eqb, ltb}
 use borrow.Author.Tests.{eqb-true}
-use Rattle.base.specs.Tests.{pick, ◌or◌, not}
+use Rattle.base.specs.Tests.{pick}
 use Rattle.base.specs.Numbers.{first_of}
 use Rattle.base.proofs.Tests.{true_not, neither}
 use Rattle.base.proofs.Numbers.{none_first}
 use Rattle.text.specs.Decimal.{decimal, signed}
 use Rattle.text.proofs.Decimals.{Plain, decimal_plain, decimal_apart, signed_plain, signed_apart, no_minus}
-use Rattle.nest.specs.declared.Nest.{Nest}
-use Rattle.nest.specs.Nest.{cells}
 use Rattle.nest.specs.Reader.{nest_of, read_lines}
 use Rattle.nest.proofs.Numbered.{numbered}
 use Rattle.nest.specs.Shape.{in_shape}
 use Rattle.text.specs.Grid.{Frame, ncols, nrows, xllcorner, yllcorner, cellsize, nodata, missing}
 use Rattle.text.specs.Grid.{head_line, header, cell, more, row, rows_from, grid_text}
 use Rattle.chart.specs.grid_text.Text.{frame_of, chart_text}
-use Rattle.chart.specs.Call.{Written, not_charted, wrong_grid, told_of, write_lines, written_if, write_call}
+use Rattle.chart.specs.Call.{not_charted, told_of, write_lines, written_if, write_call}
 use Rattle.chart.specs.Apart.{Same, text_of, SameInputs, TextsApart}
 use Rattle.chart.proofs.Splits.{Parted, split, cut_same, head_split}
 use Rattle.chart.proofs.grid_text.Lengths.{cells_are}

@@ -1,16 +1,14 @@
 -- No text is longer than 180,322 bytes.
-use Prim.Native.Nat.{ℕ, zero, suc, ◌≤◌, ◌<◌}
-use mathlib.Core.Path.{◌≡◌, refl, sym, ap, ◌∙◌}
-use mathlib.Core.List.{List, [], ◌∷◌, ◌++◌}
+use Prim.Native.Nat.{ℕ, zero, suc, ◌≤◌}
+use mathlib.Core.Path.{◌≡◌, refl}
+use mathlib.Core.List.{List}
 use native.Mathlib.Omega.{arith}
-use lib.Dec.{eqb, ltb}
 use lib.IntN.{ℤ}
 use lib.ListN.{length}
 use mir.Syntax.{w32}
 use mir.Val.{SFits}
 use borrow.Author.Tests.{eqb-true, ltb-false}
 use Rattle.base.specs.Lists.{Bytes}
-use Rattle.base.specs.Tests.{◌or◌, not}
 use Rattle.base.specs.Numbers.{first_of}
 use Rattle.base.proofs.Tests.{true_not, neither}
 use Rattle.base.proofs.Numbers.{none_first}

@@ -1,11 +1,11 @@
 -- How long the text can be: a number of 32 bits has at most ten digits, a corner eleven signs, so with 16,384 cells 180,322 bytes at most.
 use Prim.Native.Nat.{ℕ, zero, suc, ◌+◌, ◌*◌, ◌≤◌, ◌<◌}
-use mathlib.Core.Path.{◌≡◌, refl, sym, ap, ◌∙◌}
+use mathlib.Core.Path.{◌≡◌, ap, ◌∙◌}
 use mathlib.Core.Bool.{Bool, true, false}
-use mathlib.Core.List.{List, [], ◌∷◌, ◌++◌}
+use mathlib.Core.List.{List}
 use native.Mathlib.Omega.{arith}
 use native.Mathlib.Decide.{dec_lt}
-use native.Mathlib.Nat.{suc-mul, zero-mul, mul-le-mul_right, mul_comm}
+use native.Mathlib.Nat.{suc-mul, mul-le-mul_right, mul_comm}
 use lib.ListN.{length, get_or, length-append}
 use lib.IntN.{ℤ}
 use mir.Syntax.{w32}

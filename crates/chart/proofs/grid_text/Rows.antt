@@ -1,13 +1,13 @@
 -- The shape row by row: the interval of a row's cells, and a row written by it.
 use Prim.Native.Nat.{ℕ, zero, suc, ◌+◌, ◌-◌, ◌*◌, ◌≤◌, ◌<◌}
 use mathlib.Core.Path.{◌≡◌, refl, sym, ap, ◌∙◌}
-use mathlib.Core.Bool.{Bool, true, false}
-use mathlib.Core.List.{List, [], ◌∷◌, ◌++◌}
+use mathlib.Core.Bool.{Bool}
+use mathlib.Core.List.{List}
 use native.Mathlib.Omega.{arith}
 use lib.ListN.{length, get_or}
 use lib.Dec.{leb, ltb}
 use borrow.Author.Tests.{leb-true, ltb-true, le-leb, lt-ltb, le-ltb}
-use Rattle.base.specs.Tests.{◌and◌, pick}
+use Rattle.base.specs.Tests.{pick}
 use Rattle.base.proofs.Tests.{both, and_true, and_no, is_false, same_test}
 use Rattle.text.specs.Decimal.{decimal}
 use Rattle.text.specs.Writing.{Pen, write}

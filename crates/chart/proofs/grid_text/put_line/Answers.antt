@@ -1,0 +1,27 @@
+use Rattle.text.specs.Decimal.{decimal}
+use Rattle.text.specs.Writing.{pen}
+use Rattle.chart.proofs.grid_text.Steps.{line_name, line_gap, line_value, line_feed, line_done}
+use Rattle.chart.proofs.grid_text.put_line.Goals as goal
+
+pub put_bytes-a-requires : goal.put_bytes-a-requires
+put_bytes-a-requires c = line_name c.args.name.now (decimal c.args.n) (pen c.args.at c.args.space.now) c.requires
+
+pub put-b-requires : goal.put-b-requires
+put-b-requires c =
+    line_gap c.args.name.now (decimal c.args.n) (pen c.args.at c.args.space.now) c.requires _
+    c.put_bytes-a.ensures
+
+pub put_decimal-c-requires : goal.put_decimal-c-requires
+put_decimal-c-requires c =
+    line_value c.args.name.now (decimal c.args.n) (pen c.args.at c.args.space.now) c.requires _ c.put_bytes-a.ensures _
+    c.put-b.ensures
+
+pub put-requires : goal.put-requires
+put-requires c =
+    line_feed c.args.name.now (decimal c.args.n) (pen c.args.at c.args.space.now) c.requires _ c.put_bytes-a.ensures _
+    c.put-b.ensures _ c.put_decimal-c.ensures
+
+pub returns : goal.returns
+returns c =
+    line_done c.args.name.now (decimal c.args.n) (pen c.args.at c.args.space.now) c.requires _ c.put_bytes-a.ensures _
+    c.put-b.ensures _ c.put_decimal-c.ensures _ c.put.ensures
