@@ -1,15 +1,15 @@
--- What the walks over a slice of records cite: the words of one record more, where a record lies, one record more set to zero.
-use Prim.Native.Nat.{ℕ, zero, suc, ◌+◌, ◌*◌, ◌-◌, ◌^◌, ◌≤◌, ◌<◌}
+-- What the loops over a slice of records cite: the words of one record more, one record more set to zero.
+use Prim.Native.Nat.{ℕ, zero, suc, ◌+◌, ◌*◌, ◌≤◌, ◌<◌}
 use mathlib.Core.Path.{◌≡◌, refl, sym, ap, ◌∙◌}
 use mathlib.Core.Logic.{◌≢◌}
 use mathlib.Core.List.{List, [], ◌∷◌, ◌++◌, append-nil}
 use native.Mathlib.Omega.{arith}
 use native.Mathlib.Decide.{ℕ_discrete}
 use native.Mathlib.Numerals.{add-one}
-use lib.ListN.{length, get_or, set, drop, replicate, length-append, length-drop, length-replicate, drop_of_length-le}
+use lib.ListN.{length, get_or, set, drop, replicate, length-replicate, drop_of_length-le}
 use lib.Seq.{drop-cons, set_at}
 use lib.Dec.{eqb}
-use borrow.Author.Tests.{lt-ltb, le-ltb, eq-eqb, ne_eqb}
+use borrow.Author.Tests.{lt-ltb, eq-eqb, ne_eqb}
 use Rattle.base.specs.Tests.{pick}
 use Rattle.base.proofs.Tests.{pick_true, pick_false}
 use Rattle.records.specs.declared.Progress.{Progress}
@@ -21,14 +21,6 @@ pub written : (words : List ℕ) (i : ℕ) (r : Progress) → i < 64
     → set (set (set words (3 * i) r.finished) (3 * i + 1) r.stage) (3 * i + 2) r.sent ≡ words_at words i r
 unfolding words_at pick
 written words i r l = rw (lt-ltb i 64 l)
-
-pub unwritten : (words : List ℕ) (i : ℕ) (r : Progress) → 64 ≤ i → words ≡ words_at words i r
-unfolding words_at pick
-unwritten words i r l = rw (le-ltb i 64 l)
-
-pub with_written : (f : Flat) (i : ℕ) (r : Progress) (words : List ℕ) → words ≡ words_at f.words i r
-    → record { words = words; count = f.count } ≡ with_record f i r
-with_written f i r words e = rw e
 
 -- the words of these records written, which are those from number i on
 unfoldable pub flat_from : ℕ → List Progress → Flat → Flat
@@ -49,25 +41,11 @@ pub none_of : (rs : List Progress) (f : Flat) (i : ℕ) → length rs ≤ i → 
 unfolding flat_from
 none_of rs f i l = rw (drop_of_length-le rs {i = i} l)
 
--- where record i lies, in bytes
-pub offset_fits : (n i : ℕ) → n * 12 < 2 ^ 63 → i < n → i * 12 < 2 ^ 64
-offset_fits n i room l = omega arith
-
-pub words_fit : (n : ℕ) → n * 12 < 2 ^ 63 → 3 * n < 2 ^ 64
-words_fit n room = omega arith
-
-pub nearer : (n i : ℕ) → i < n → n - (i + 1) < n - i
-nearer n i l = omega arith
-
 -- ---- records set to zero
 
 -- the first n of them
 unfoldable pub zero_records : ℕ → List Progress → List Progress
 zero_records n rs = replicate n zeros ++ drop n rs
-
-pub length_zeros : (n : ℕ) (rs : List Progress) → n ≤ length rs → length (zero_records n rs) ≡ length rs
-unfolding zero_records
-length_zeros n rs l = rw (length-append (replicate n zeros) (drop n rs), length-replicate {A = Progress} n zeros, length-drop n rs) (omega arith)
 
 pub zeros_none : (rs : List Progress) → rs ≡ zero_records 0 rs
 unfolding zero_records

@@ -5,10 +5,10 @@ use mathlib.Core.List.{List, [], ◌∷◌, ◌++◌, append_assoc, append-nil}
 use native.Mathlib.Omega.{arith}
 use native.Mathlib.Decide.{ℕ_discrete}
 use native.Mathlib.Numerals.{add-one}
-use lib.ListN.{length, get_or, set, take, drop, length-append, length-drop, drop_of_length-le}
+use lib.ListN.{length, get_or, set, take, drop, length-append, drop_of_length-le}
 use lib.Seq.{drop-cons, set_at, take-suc}
 use lib.Dec.{eqb}
-use borrow.Author.Tests.{lt-ltb, le-ltb, eq-eqb, ne_eqb}
+use borrow.Author.Tests.{lt-ltb, eq-eqb, ne_eqb}
 use Rattle.base.specs.Tests.{pick}
 use Rattle.base.proofs.Tests.{pick_true, pick_false}
 use Rattle.records.specs.declared.Progress.{Progress}
@@ -22,10 +22,6 @@ pub in_words_lem : (f : Flat) (i : ℕ) → i < 64
 unfolding record_in pick
 in_words_lem f i l = rw (lt-ltb i 64 l)
 
-pub beyond_words : (f : Flat) (i : ℕ) (r : Progress) → r ≡ zeros → 64 ≤ i → r ≡ record_in f i
-unfolding record_in pick
-beyond_words f i r e l = rw (le-ltb i 64 l) e
-
 -- ---- the first n of them stored
 
 unfoldable pub stored_to : Flat → ℕ → List Progress → List Progress
@@ -35,10 +31,6 @@ length_in : (f : Flat) (n : ℕ) → length (records_in f n) ≡ n
 unfolding records_in
 length_in f zero = refl
 length_in f (suc n) = length-append (records_in f n) (record_in f n ∷ []) ∙ ap (λ (k : ℕ). k + 1) (length_in f n) ∙ add-one n
-
-pub length_stored : (f : Flat) (n : ℕ) (rs : List Progress) → n ≤ length rs → length (stored_to f n rs) ≡ length rs
-unfolding stored_to
-length_stored f n rs l = rw (length-append (records_in f n) (drop n rs), length_in f n, length-drop n rs) (omega arith)
 
 pub stored_none : (f : Flat) (rs : List Progress) → rs ≡ stored_to f 0 rs
 unfolding stored_to records_in

@@ -35,6 +35,7 @@ fn empty(count: usize) -> Flat
 }
 
 // The words of record i written.
+#[tactic(auto, unfolding(base::specs::Tests::pick, crate::specs::Records::words_at))]
 fn with_record(flat: Flat, i: usize, p: Progress) -> Flat
     ensures { result ≡ with_record flat i p }
 {
@@ -84,6 +85,7 @@ pub fn flat_of(words: &[u32]) -> Flat
 }
 
 // Record i stored where the call's number is 0; at a refusal nothing is written.
+#[tactic(auto, unfolding(base::specs::Tests::pick, crate::specs::Records::put_at))]
 pub fn put(progress: &mut [Progress], number: u32, i: u32, p: Progress)
     requires { number ≡ 0 → i < length progress.old }
     ensures { progress.new ≡ put_at number i p progress.old }
@@ -104,6 +106,7 @@ fn zero() -> Progress
 }
 
 // How many of n records a call stores anew that gave this number.
+#[tactic(auto, unfolding(base::specs::Tests::pick))]
 fn cleared(number: u32, n: usize) -> usize
     ensures { result ≡ pick (eqb number 0) n 0 }
 {
@@ -126,6 +129,7 @@ pub fn clear(progress: &mut [Progress], number: u32)
 }
 
 // Record i of these words.
+#[tactic(auto, unfolding(base::specs::Tests::pick, crate::specs::Records::record_in))]
 fn record_in(flat: Flat, i: usize) -> Progress
     ensures { result ≡ record_in flat i }
 {
