@@ -10,7 +10,7 @@ use lib.ListN.{length, get_or, take}
 use lib.Seq.{ext_get_or, get_or-take, length-take-le}
 use lib.Dec.{eqb}
 use borrow.Author.Tests.{eq-eqb, ne_eqb, le-leb, lt-leb}
-use Rattle.base.specs.Tests.{◌and◌, not, tabulate}
+use Rattle.base.specs.Tests.{not, tabulate}
 use Rattle.base.specs.Numbers.{line, first_of}
 use Rattle.base.proofs.Tests.{and_true, and_false, and_no, not-true, not-false, is_true, pick_true, pick_false, length_tabulate, tabulate_at}
 use Rattle.base.proofs.Numbers.{first_nil, first_true, first_false, first_some, first_behind}

@@ -5,11 +5,9 @@ use mathlib.Core.Bool.{Bool, true, false}
 use mathlib.Core.List.{List}
 use native.Mathlib.Omega.{arith}
 use lib.ListN.{length, get_or}
-use Rattle.base.specs.Tests.{◌and◌}
 use Rattle.base.specs.Lists.{Bytes}
 use Rattle.base.specs.Numbers.{first_of}
 use Rattle.base.proofs.Tests.{both, and_true}
-use Rattle.machine.specs.Machine.{Answered}
 use Rattle.nest.specs.declared.Nest.{Nest}
 use Rattle.nest.specs.Reader.{nest_of, read_lines, nest_lines}
 use Rattle.nest.specs.Encode.{narrow, encode}

@@ -10,7 +10,7 @@ use lib.ListN.{length, get_or, take, drop, set}
 use lib.Seq.{ext_get_or, get_or-set_same, get_or-set_other}
 use lib.Dec.{eqb, ltb}
 use borrow.Author.Tests.{lt-ltb, le-ltb, le-leb, lt-leb, eq-eqb, ne_eqb}
-use Rattle.base.specs.Tests.{◌and◌, pick, every, tabulate}
+use Rattle.base.specs.Tests.{pick, every, tabulate}
 use Rattle.base.specs.Numbers.{first_of}
 use Rattle.base.proofs.Tests.{and_left, and_false, and_no, every_not, pick_true, pick_false, length_tabulate, tabulate_at}
 use Rattle.nest.specs.declared.Reading.{Reading}

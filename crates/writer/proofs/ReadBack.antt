@@ -9,11 +9,11 @@ use native.Mathlib.Decide.{dec_lt}
 use lib.ListN.{length, get_or, replicate, get_or-replicate}
 use lib.Seq.{ext_get_or, get_or-append-add}
 use lib.Dec.{eqb, ltb, leb}
-use borrow.Author.Tests.{eq-eqb, eqb-true, ne_eqb, lt-ltb, le-ltb, ltb-true, le-leb, leb-true}
+use borrow.Author.Tests.{eq-eqb, eqb-true, ne_eqb, lt-ltb, le-ltb, ltb-true, le-leb}
 use Rattle.base.specs.Tests.{◌and◌, ◌or◌, not, pick, every, keep, those}
 use Rattle.base.specs.Numbers.{first_of}
 use Rattle.base.proofs.Numbers.{first_true, first_false}
-use Rattle.base.proofs.Tests.{both, and_left, and_true, and_no, or_left, or_right, or_false, not-true, not-false, is_true, is_false, never_both}
+use Rattle.base.proofs.Tests.{and_left, and_true, and_no, or_left, or_right, or_false, not-true, is_true, is_false, never_both}
 use Rattle.base.proofs.Tests.{every_at, every_all, some_none, pick_true, pick_false, tabulate_at}
 use Rattle.base.proofs.Select.{keep_more, keep_none, keep_same}
 use Rattle.nest.specs.declared.Nest.{Nest}

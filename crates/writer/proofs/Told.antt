@@ -18,11 +18,11 @@ use Rattle.nest.specs.Reader.{filled, nest_of, read_lines, reading_of}
 use Rattle.nest.proofs.Answers.{number_read, nest-read}
 use Rattle.nest.proofs.Laws.{filled_length, filled_in, filled_out}
 use Rattle.writer.specs.declared.reading.RecipeFields.{RecipeFields}
-use Rattle.writer.specs.Fields.{Fields, fields, fields_of}
+use Rattle.writer.specs.Fields.{Fields, fields_of}
 use Rattle.writer.specs.Writing.{nest_writable, written, write_call}
 use Rattle.writer.specs.Demand202.{Tables}
 use Rattle.writer.specs.Told.{table_of, told_fields, no_fields, fields_if, read_call, taken, ReadsBack}
-use Rattle.writer.proofs.Fitting.{Table, Fits, writable_fits, fits_writable, read_fits}
+use Rattle.writer.proofs.Fitting.{Table, Fits, fits_writable, read_fits}
 use Rattle.writer.proofs.FromFields.{same_fields, Agreed, agreed_fields}
 use Rattle.writer.proofs.Demand202.{demand202}
 

@@ -1,0 +1,10 @@
+-- `writer::fits_in` meets its contract: all numbers passed are in their limits.
+use Prim.Native.Nat.{◌≤◌, ◌-◌}
+use Rattle.writer.proofs.Loops.{Within}
+use Rattle.writer.proofs.fits_in.Given as goal
+
+abbrev pub invariant-loop-i : goal.invariant-loop-i
+invariant-loop-i l = (l.i ≤ l.i-end) × Within l.n l.bound l.values l.i
+
+abbrev pub decreases-loop-i : goal.decreases-loop-i
+decreases-loop-i l = l.i-end - l.i

@@ -1,0 +1,20 @@
+-- `reading::halves_8` meets its contract: the loop has filled the table as far as it came.
+use mathlib.Core.Path.{refl, ◌∙◌}
+use Rattle.nest.proofs.Laws as N
+use native.Mathlib.Omega.{arith}
+use Rattle.writer.proofs.Told as T
+use Rattle.writer.proofs.reading.halves_8.Goals as goal
+
+pub loop-i-init : goal.loop-i-init
+loop-i-init c = (omega arith, N.filled_start 8 _)
+
+pub overflow_cast-table : goal.overflow_cast-table
+overflow_cast-table c = omega (arith, c.requires.1 c.loop-i.i)
+
+pub loop-i-preserved : goal.loop-i-preserved
+loop-i-preserved c = (omega arith, N.filled_next 8 _ _ _ _ c.loop-i.invariant.1 (omega arith) refl)
+
+pub returns : goal.returns
+returns c =
+    N.filled_end 8 _ 8 c.loop-i.i _ c.loop-i.invariant.0 c.loop-i-test.false c.loop-i.invariant.1
+    ∙ T.all_filled 8 _ c.requires.0

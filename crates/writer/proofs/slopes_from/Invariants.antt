@@ -1,0 +1,12 @@
+-- `writer::slopes_from` meets its contract: the loop has filled the table as far as it came.
+use Prim.Native.Nat.{ℕ, ◌+◌, ◌%◌, ◌≤◌, ◌-◌}
+use mathlib.Core.Path.{◌≡◌}
+use lib.ListN.{get_or}
+use Rattle.nest.specs.Reader.{filled}
+use Rattle.writer.proofs.slopes_from.Given as goal
+
+abbrev pub invariant-loop-i : goal.invariant-loop-i
+invariant-loop-i l = (l.i ≤ l.i-end) × (l.table ≡ filled 4 l.i (λ (k : ℕ). (get_or l.values k 0 + 1) % 256))
+
+abbrev pub decreases-loop-i : goal.decreases-loop-i
+decreases-loop-i l = l.i-end - l.i

@@ -1,0 +1,12 @@
+-- `writer::table_32` meets its contract: the loop has filled the table as far as it came.
+use Prim.Native.Nat.{ℕ, ◌≤◌, ◌-◌}
+use mathlib.Core.Path.{◌≡◌}
+use lib.ListN.{get_or}
+use Rattle.nest.specs.Reader.{filled}
+use Rattle.writer.proofs.table_32.Given as goal
+
+abbrev pub invariant-loop-i : goal.invariant-loop-i
+invariant-loop-i l = (l.i ≤ l.i-end) × (l.table ≡ filled 32 l.i (λ (k : ℕ). get_or l.values k 0))
+
+abbrev pub decreases-loop-i : goal.decreases-loop-i
+decreases-loop-i l = l.i-end - l.i
