@@ -6,7 +6,6 @@ use native.Mathlib.Omega.{arith}
 use lib.ListN.{length, get_or}
 use lib.Dec.{ltb}
 use borrow.Author.Tests.{lt-ltb, le-ltb}
-use Rattle.base.specs.Tests.{◌or◌, pick}
 use Rattle.base.proofs.Tests.{or_left, or_right, or_false, pick_true, pick_false}
 use Rattle.program_io.specs.Bytes.{word_in}
 

@@ -1,11 +1,14 @@
 // Small things that the programs share: how much of an area is lent, numbers in bytes, and faults told on standard error.
 #![tactic(auto)]
 
-ghost use Rattle.std.specs.Prelude.{◌≡◌, ◌<◌, length};
-ghost use Rattle.io.specs.Counts.{IsPrefixLen};
+ghost use Rattle.std.specs.Prelude.{◌≡◌, ◌+◌, ◌<◌, ◌≤◌, length, IfOk};
+ghost use Rattle.program_io.specs.Counts.{IsPrefixLen};
 ghost use Rattle.program_io.specs.Bytes.{word_in};
 
-use libc::{STDERR_FILENO, STDIN_FILENO};
+use std::env::FillError;
+use std::io;
+use std::io::Read;
+use std::rt::Env;
 
 // How many of the first n words there are: what `&words[..r]` asks.
 pub fn front(words: &[u32], n: usize) -> usize
@@ -70,98 +73,154 @@ pub fn word(bytes: &[u8], at: usize) -> u32
 
 // ---- faults, told on standard error: what is written to standard output does not depend on them
 
-// A byte of standard input, put at a place of the space: 1, 0 at the input's end, -1 where it can't be read.
-fn read_byte(space: &mut [u8], at: usize) -> isize
+// A byte of the input, put at a place of the space: 1, 0 at the input's end, an error where it can't be read.
+fn read_byte(input: &mut impl Read, space: &mut [u8], at: usize) -> io::Result<usize>
     requires { at < length space.old }
     ensures { length space.new ≡ length space.old }
 {
     let mut byte = [0u8; 1];
-    let got = libc::read(STDIN_FILENO, &mut byte);
+    let got = input.read(&mut byte)?;
     space[at] = byte[0];
-    got
+    Ok(got)
 }
 
 // Standard input, as far as the space goes: how many bytes came. Each read is looked at, so that a part is never taken for the whole: an
 // input that can't be read is told, and counts as empty.
-pub fn read_input(space: &mut [u8]) -> usize
+pub fn read_input(rt: &(impl Input + Eprint + Alloc), space: &mut [u8]) -> usize
     ensures { IsPrefixLen result space.new }
 {
+    let mut input = rt.reader();
     let mut n: usize = 0;
     while n < space.len() {
-        let got = read_byte(space, n);
-        if got < 0 {
-            os::fail(b"standard input");
-            return 0;
+        match read_byte(&mut input, space, n) {
+            Ok(0) => break,
+            Ok(_) => n += 1,
+            Err(e) => {
+                fail(rt, "standard input", e);
+                return 0;
+            }
         }
-        if got == 0 {
-            break;
-        }
-        n += 1;
     }
     n
 }
 
-fn tell(line: &[u8]) {
-    io::write_all(STDERR_FILENO, line);
+// One read of a file into the space from byte at on: how many bytes came, 0 at the file's end.
+fn read_more(file: &mut impl Read, space: &mut [u8], at: usize) -> io::Result<usize>
+    requires { at ≤ length space.old }
+    ensures kept { length space.new ≡ length space.old }
+    ensures room { IfOk result (λ got. at + got ≤ length space.old) }
+{
+    file.read(&mut space[at..])
 }
 
-// Arguments, where there are any: the programs take none.
-pub fn tell_arguments() {
-    if os::arg_count() > 1 {
-        tell(b"arguments are not heeded: the recipe is read from standard input\n");
+// A file, as far as the space goes: how many bytes came up to its end, or up to a read that fails.
+pub fn read_full(file: &mut impl Read, space: &mut [u8]) -> usize
+    ensures { IsPrefixLen result space.new }
+{
+    let mut n: usize = 0;
+    while n < space.len() {
+        match read_more(file, space, n) {
+            Ok(0) => break,
+            Ok(got) => n += got,
+            Err(_) => break,
+        }
+    }
+    n
+}
+
+// What can't be told is left untold: what a program writes on standard output does not depend on it.
+fn tell(rt: &impl Eprint, line: &str) {
+    let _ = rt.eprint(line);
+}
+
+// The system's words, without the number that std puts behind them.
+fn words_of(told: &str) -> &str {
+    match told.split_once(" (os error ") {
+        Some((words, _)) => words,
+        None => told,
     }
 }
 
-// What `io::write_all` answered of standard output, told where it failed.
-pub fn tell_output(written: bool) {
-    if !written {
-        os::fail(b"standard output");
+// What failed, a colon and the system's words, with std's number where no memory is left to take it off.
+pub fn fail(rt: &(impl Eprint + Alloc), what: &str, e: io::Error) {
+    let _ = match format!(in rt.alloc(); "{e}") {
+        Ok(told) => eprintln!(rt; "{what}: {}", words_of(told.as_str())),
+        Err(_) => eprintln!(rt; "{what}: {e}"),
+    };
+}
+
+// Arguments, where there are any: the programs take none.
+pub fn tell_arguments(rt: &(impl Env + Eprint)) {
+    let mut first = [0u8; 1];
+    if !matches!(rt.arg(1, &mut first), Err(FillError::NotPresent)) {
+        tell(
+            rt,
+            "arguments are not heeded: the recipe is read from standard input\n",
+        );
+    }
+}
+
+// What writing to standard output answered, told where it failed.
+pub fn tell_output(rt: &(impl Eprint + Alloc), written: io::Result<()>) {
+    if let Err(e) = written {
+        fail(rt, "standard output", e);
     }
 }
 
 // Lines 1 to 8 of those that a recipe is refused by.
-fn tell_first(number: u32) {
+fn tell_first(rt: &impl Eprint, number: u32) {
     match number {
         1 => tell(
-            b"1, ragged: the recipe is empty, longer than 512 bytes or no multiple of 16 bytes\n",
+            rt,
+            "1, ragged: the recipe is empty, longer than 512 bytes or no multiple of 16 bytes\n",
         ),
         2 => tell(
-            b"2, stray record: kind, order, count, unnamed byte, shift or bound not as the format has them\n",
+            rt,
+            "2, stray record: kind, order, count, unnamed byte, shift or bound not as the format has them\n",
         ),
-        3 => tell(b"3, length: some length is 0 or above 1,024\n"),
-        4 => tell(b"4, too large: more than 16,384 cells\n"),
+        3 => tell(rt, "3, length: some length is 0 or above 1,024\n"),
+        4 => tell(rt, "4, too large: more than 16,384 cells\n"),
         5 => tell(
-            b"5, distance: components all zero, the same as an earlier record's, or not zero beyond the last dimension\n",
+            rt,
+            "5, distance: components all zero, the same as an earlier record's, or not zero beyond the last dimension\n",
         ),
         6 => tell(
-            b"6, tile: some tile length is 0, above 1,024, or smaller than some distance there\n",
+            rt,
+            "6, tile: some tile length is 0, above 1,024, or smaller than some distance there\n",
         ),
-        7 => tell(b"7, boards: more than 64 processors\n"),
-        8 => tell(b"8, tiles: more than 1,024 tiles that hold a cell\n"),
+        7 => tell(rt, "7, boards: more than 64 processors\n"),
+        8 => tell(rt, "8, tiles: more than 1,024 tiles that hold a cell\n"),
         _ => {}
     }
 }
 
 // The lines that came later.
-fn tell_later(number: u32) {
+fn tell_later(rt: &impl Eprint, number: u32) {
     match number {
         16 => tell(
-            b"16, spread order: the first dimension is not spread, or a spread one follows one that is not\n",
+            rt,
+            "16, spread order: the first dimension is not spread, or a spread one follows one that is not\n",
         ),
-        17 => tell(b"17, last spread: the last dimension is spread\n"),
-        18 => tell(b"18, too wide: all components of a distance of kind 4 fit a byte\n"),
-        20 => tell(b"20, empty: no cell of the box is in the shape that the bounds leave\n"),
+        17 => tell(rt, "17, last spread: the last dimension is spread\n"),
+        18 => tell(
+            rt,
+            "18, too wide: all components of a distance of kind 4 fit a byte\n",
+        ),
+        20 => tell(
+            rt,
+            "20, empty: no cell of the box is in the shape that the bounds leave\n",
+        ),
         _ => {}
     }
 }
 
 // Why a recipe is refused, number, term and meaning; nothing where it is not. One of more than 512 bytes is ragged to the programs.
-pub fn tell_refusal(encoded: &[u8]) {
+pub fn tell_refusal(rt: &impl Eprint, encoded: &[u8]) {
     if encoded.len() > 512 {
-        return tell_first(1);
+        return tell_first(rt, 1);
     }
     let reading = reader::read(encoded);
     let number = reading.number;
-    tell_first(number);
-    tell_later(number);
+    tell_first(rt, number);
+    tell_later(rt, number);
 }
