@@ -1,0 +1,19 @@
+-- `parcels::block_of` meets its contract: the first j dimensions.
+use borrow.Author.Rules.{rules}
+use native.Mathlib.Omega.{arith}
+use Prim.Native.Nat.{◌+◌, ◌*◌, ◌-◌, min}
+use lib.ListN.{get_or}
+use lib.Dec.{ltb}
+use Rattle.base.specs.Tests.{one}
+use Rattle.layout.proofs.Loops.{Filled, filled_none, filled_more, filled_end}
+use Rattle.layout.proofs.Cells.{count_most}
+use Rattle.parcels.proofs.Sendings.{tile_few, begin_end}
+use Rattle.parcels.proofs.block_of.Given as goal
+
+abbrev pub invariant-loop-j : goal.invariant-loop-j
+invariant-loop-j l =
+    Filled 4 (λ i. (get_or l.at i 0 - one (ltb i l.earlier)) * get_or l.tiling i 0) l.n l.corner l.j
+    × Filled 4 (λ i. min (get_or l.at i 0 * get_or l.tiling i 0 + get_or l.tiling i 0) (get_or l.ends i 0) - (get_or l.at i 0 - one (ltb i l.earlier)) * get_or l.tiling i 0) l.n l.lengths l.j
+
+abbrev pub decreases-loop-j : goal.decreases-loop-j
+decreases-loop-j l = l.n - l.j
