@@ -2,8 +2,7 @@
 use Prim.Native.Nat.{ℕ, zero, suc, ◌+◌, ◌*◌, ◌-◌, ◌≤◌, ◌<◌}
 use mathlib.Core.Path.{◌≡◌, refl, sym, ap, ◌∙◌}
 use mathlib.Core.Logic.{◌⊎◌, inl, inr, ◌≢◌}
-use mathlib.Core.Bool.{true}
-use mathlib.Core.List.{List, [], ◌∷◌, ◌++◌, append_assoc, append-nil}
+use mathlib.Core.List.{List, ◌++◌, append_assoc, append-nil}
 use native.Mathlib.Nat.{eq-or-lt_of_le, le_of_suc-le-suc, add_assoc, add-zero, add-mul, zero-mul, mul-div_cancel, mul-mod_left}
 use native.Mathlib.Numerals.{add-one}
 use native.Mathlib.Decide.{dec_lt, ℕ_discrete}
@@ -12,13 +11,13 @@ use lib.ListN.{length, get_or, set, length-set}
 use lib.Seq.{get_or-set_same, get_or-set_other}
 use lib.Dec.{leb}
 use borrow.Author.Tests.{leb-true, le-leb}
-use Rattle.base.specs.Tests.{every, product}
+use Rattle.base.specs.Tests.{product}
 use Rattle.base.proofs.Tests.{every_at, every_all}
 use Rattle.base.specs.Lists.{store_all}
 use Rattle.base.proofs.Lists.{store_length}
 use Rattle.nest.specs.declared.Nest.{Nest}
 use Rattle.nest.specs.Accepted.{Accepted}
-use Rattle.nest.specs.Nest.{length_of, tile_length, cells, box_tiles}
+use Rattle.nest.specs.Nest.{length_of, cells, box_tiles}
 use Rattle.nest.specs.Places.{rank, place, cell_at, cell_place, tile_place}
 use Rattle.nest.proofs.Rank.{place_last, place_before, place_beyond, place_lengths, rank_low, rank_same, place_rank, rank_place}
 use Rattle.nest.proofs.Boxes.{product_most}

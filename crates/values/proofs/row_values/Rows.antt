@@ -1,5 +1,5 @@
 -- What the loops over a box's rows know of the row that they stand at, by what rows are given.
-use Prim.Native.Nat.{ℕ, ◌+◌, ◌*◌, ◌-◌, ◌≤◌, ◌<◌}
+use Prim.Native.Nat.{ℕ, ◌+◌, ◌-◌, ◌≤◌, ◌<◌}
 use mathlib.Core.Path.{◌≡◌, refl, ap, ◌∙◌}
 use mathlib.Core.List.{List}
 use native.Mathlib.Omega.{arith}
@@ -16,9 +16,9 @@ use Rattle.layout.proofs.Advance.{placed_start}
 use Rattle.bands.specs.lagged.Bands.{four, rows_of, BandGiven}
 use Rattle.values.specs.row_values.Waves.{RowTables, Inner}
 use Rattle.values.specs.row_values.Given.{RowGiven}
-use Rattle.values.specs.row_values.Boxes.{Boxed, Standing, RowsGiven, Stored}
+use Rattle.values.specs.row_values.Boxes.{Boxed, RowsGiven, Stored}
 use Rattle.values.proofs.row_values.Margins.{margin_most, fours_banded}
-use Rattle.values.proofs.row_values.Boxes.{wide, row_inside, row_ranked, row_number, row_fits, row_located, moved, standing_moved, box_fours, box_spaced}
+use Rattle.values.proofs.row_values.Boxes.{row_inside, row_ranked, row_number, row_fits, row_located, moved, standing_moved, box_fours, box_spaced}
 use Rattle.values.proofs.row_values.Boxes.{inners, stored_long, stored_none, stored_more, stored_one, stored_four}
 
 module _ (x : Nest) (components lasts back weights margin source memory grid N from at : List ℕ) (r : ℕ)

@@ -21,10 +21,8 @@ use Rattle.plan.specs.Messages.{box_plan}
 use Rattle.plan.specs.Box.{box_size, box_cell}
 use Rattle.plan.proofs.Box.{cells_of_box}
 use Rattle.layout.specs.declared.Bounds.{Bounds}
-use Rattle.layout.specs.Places.{nth, Places, Placed, Inside, Located, Bounded}
+use Rattle.layout.specs.Places.{nth, Bounded}
 use Rattle.layout.specs.CellRows.{row_of}
-use Rattle.layout.proofs.Cells.{four, lengths_places, placed_cell}
-use Rattle.layout.proofs.Advance.{placed_row, placed_inside, rows_places}
 use Rattle.layout.proofs.CellRows.{product_last, row_in, row_next, box_in, box_row}
 use Rattle.kernels.proofs.Orders.{store_append}
 use Rattle.bands.proofs.lagged.Words.{store_row}

@@ -1,28 +1,26 @@
 -- What the distances read in a row: from which cell on, how far back.
-use Prim.Native.Nat.{ℕ, zero, suc, ◌+◌, ◌*◌, ◌-◌, ◌/◌, ◌%◌, ◌^◌, ◌≤◌, ◌<◌, min}
+use Prim.Native.Nat.{ℕ, zero, suc, ◌+◌, ◌*◌, ◌-◌, ◌≤◌, ◌<◌, min}
 use mathlib.Core.Path.{◌≡◌, refl, sym, ap, ◌∙◌}
-use mathlib.Core.Logic.{◌⊎◌, inl, inr}
 use mathlib.Core.Bool.{Bool, true, false}
-use mathlib.Core.List.{List, [], ◌∷◌, ◌++◌}
-use native.Mathlib.Nat.{add-mul, add_assoc, div-add-mod', div-lt_iff_lt-mul, eq-or-lt_of_le, mul-le-mul, mul-le-mul_right, suc-mul}
+use mathlib.Core.List.{List}
+use native.Mathlib.Nat.{mul-le-mul}
 use native.Mathlib.Numerals.{add-one}
 use native.Mathlib.Omega.{arith}
-use lib.ListN.{length, get_or, set, length-set}
-use lib.Seq.{get_or-set_same, get_or-set_other}
+use lib.ListN.{get_or}
 use lib.Dec.{leb}
-use borrow.Author.Tests.{le-leb, lt-leb, leb-true}
-use Rattle.base.specs.Tests.{◌and◌, pick, every, sum, product, tabulate}
-use Rattle.base.proofs.Tests.{every_at, every_not, sum_same, pick_true, pick_false}
+use borrow.Author.Tests.{lt-leb, leb-true}
+use Rattle.base.specs.Tests.{◌and◌, pick, every, product}
+use Rattle.base.proofs.Tests.{every_at, every_not, pick_true, pick_false}
 use Rattle.nest.specs.declared.Nest.{Nest}
 use Rattle.nest.specs.Accepted.{Accepted}
-use Rattle.nest.specs.Nest.{length_of, component, weight, cells}
+use Rattle.nest.specs.Nest.{length_of, component, cells}
 use Rattle.nest.specs.Places.{rank, place, cell_at, cell_place}
-use Rattle.plan.specs.Geometry.{has_read, read_at, value}
-use Rattle.nest.proofs.Rank.{place_last, rank_same}
+use Rattle.plan.specs.Geometry.{has_read, read_at}
+use Rattle.nest.proofs.Rank.{rank_same}
 use Rattle.plan.proofs.Tiles.{cell_place_low, cell_at_cell_place}
 use Rattle.layout.specs.declared.Cell.{Cell}
 use Rattle.layout.specs.Places.{nth, Countable, Located}
-use Rattle.layout.specs.CellRows.{Given, row_of}
+use Rattle.layout.specs.CellRows.{Given}
 use Rattle.layout.proofs.Dims.{rank_add, rank_most, product_prefix}
 use Rattle.layout.proofs.Loops.{every_same, Sofar, sofar_end}
 use Rattle.layout.proofs.CellRows.{row_before, row_last, row_low, every_last}

@@ -11,12 +11,12 @@ use lib.ListN.{length, get_or, set, length-set}
 use lib.Seq.{get_or-set_same, get_or-set_other}
 use lib.Dec.{leb}
 use borrow.Author.Tests.{eq-eqb, ne_eqb, lt-ltb, ltb-true, le-leb, leb-true}
-use Rattle.base.specs.Tests.{◌and◌, every}
+use Rattle.base.specs.Tests.{every}
 use Rattle.base.proofs.Tests.{both, and_true, same_test, every_at, every_all, pick_true, pick_false, is_false}
 use Rattle.nest.specs.declared.Nest.{Nest}
 use Rattle.nest.specs.declared.Interval.{Interval}
 use Rattle.nest.specs.Accepted.{Accepted}
-use Rattle.nest.specs.Nest.{length_of, component, cells}
+use Rattle.nest.specs.Nest.{length_of, component}
 use Rattle.nest.specs.Places.{cell_place}
 use Rattle.nest.specs.Shape.{meets, in_shape}
 use Rattle.nest.specs.Spans.{last, row_place, meets_first, spot, within, Spans, Narrow}

@@ -9,7 +9,7 @@ use native.Mathlib.Decide.{dec_lt}
 use native.Mathlib.Omega.{arith}
 use lib.ListN.{get_or, set, drop}
 use lib.Seq.{get_or-take, get_or-drop}
-use Rattle.base.specs.Tests.{pick, sum, product}
+use Rattle.base.specs.Tests.{pick, product}
 use Rattle.base.specs.Lists.{store_all, sublist}
 use Rattle.base.proofs.Tests.{both, sum_same, pick_false}
 use Rattle.base.proofs.Lists.{piece_fits}

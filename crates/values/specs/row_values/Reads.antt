@@ -1,7 +1,7 @@
 -- For contracts below the calls: no reader needs it.
 -- Where the distances read in a row: from which cell on, and how far back.
 -- No sentence of document 01.
-use Rattle.std.specs.Prelude.{ℕ, ◌+◌, ◌-◌, ◌≤◌, ◌<◌, min, ◌≡◌, List, get_or, leb}
+use Rattle.std.specs.Prelude.{ℕ, ◌-◌, ◌<◌, min, ◌≡◌, List, get_or, leb}
 use Rattle.base.specs.Tests.{pick, every}
 use Rattle.nest.specs.declared.Nest.{Nest}
 use Rattle.nest.specs.Nest.{length_of, component}
