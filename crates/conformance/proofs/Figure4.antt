@@ -1,5 +1,5 @@
 -- Our programs are Figure 4's, tile by tile: what is due is what is sent to the tile, and the list of messages is made of the tiles' sections.
-use Prim.Native.Nat.{ℕ, zero, suc, ◌+◌, ◌*◌, ◌-◌, ◌/◌, ◌%◌, ◌≤◌, ◌<◌}
+use Prim.Native.Nat.{ℕ, zero, suc, ◌+◌, ◌*◌, ◌-◌, ◌/◌, ◌%◌, ◌<◌}
 use mathlib.Core.Path.{◌≡◌, refl, sym, ap, ◌∙◌}
 use mathlib.Core.Logic.{inl, inr, ◌≢◌}
 use mathlib.Core.Bool.{Bool, true, false}
@@ -14,7 +14,7 @@ use Rattle.base.specs.Tests.{◌and◌, not, pick, keep, keep_if, those, tabulat
 use Rattle.base.specs.Lists.{In, put, store_all}
 use Rattle.base.proofs.Select.{keep_in, keep_same}
 use Rattle.machine.specs.Plan.{Message, Plan, no_message, message, sends_of, dues_of, tiles_of}
-use Rattle.machine.specs.Machine.{State, memory_of, carry_out, Action, calculate}
+use Rattle.machine.specs.Machine.{State, memory_of, carry_out, calculate}
 use Rattle.machine.specs.Runs.{program_over, program}
 use Rattle.nest.specs.declared.Nest.{Nest}
 use Rattle.nest.specs.Accepted.{Accepted}
@@ -24,17 +24,16 @@ use Rattle.nest.specs.Shape.{in_shape, exists, existing, tiles}
 use Rattle.plan.specs.declared.Route.{Route}
 use Rattle.plan.specs.declared.Route.TheVariants.{Direct, Indirect}
 use Rattle.plan.specs.Geometry.{cells_of, processor_of, value}
-use Rattle.plan.specs.Messages.{directions, passed, neighbour, ways, slot_tile, slot_cells, slot_taker, at_home, slot_parcel, slot_message, messages_of}
+use Rattle.plan.specs.Messages.{directions, passed, neighbour, slot_tile, slot_cells, slot_taker, at_home, slot_parcel, slot_message, messages_of}
 use Rattle.plan.specs.Messages.{messages_to, box_plan}
-use Rattle.plan.specs.Shaped.{box_tile, shaped_cells, shaped_value, shaped_parcel, shaped_taker, shaped_slot_taker, shaped_home, shaped_slot_parcel, shaped_message}
+use Rattle.plan.specs.Shaped.{box_tile, shaped_cells, shaped_parcel, shaped_taker, shaped_slot_taker, shaped_home, shaped_slot_parcel, shaped_message}
 use Rattle.plan.specs.Shaped.{plan_of}
-use Rattle.plan.specs.Loops.{do_loop, for_each}
+use Rattle.plan.specs.Loops.{for_each}
 use Rattle.plan.proofs.ShapedTiles.{either_default, box_tile_low}
 use Rattle.plan.proofs.Loops.{loops_are_tiles}
 use Rattle.conformance.specs.Report.{Index}
 use Rattle.conformance.specs.Exact.{inner, run_nest}
-use Rattle.conformance.specs.ExactShape.{shape_of}
-use Rattle.conformance.specs.OneBody.{all, value_in}
+use Rattle.conformance.specs.OneBody.{value_in}
 use Rattle.conformance.specs.Figure4.{chosen, chains, is_tile, in_box, indices, within, in_turn, packed, pack_and_send, send_section, all_sent}
 use Rattle.conformance.specs.Figure4.{receive_section, for_tile, Figure4}
 use Rattle.conformance.proofs.Nested.{Each, nested_each, loop_most, tile_in_order, loop_one, run_stores}

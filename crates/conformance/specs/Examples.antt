@@ -1,7 +1,7 @@
 -- Read this.
 -- The table of document 01's recipes A to H: tiles, messages, words and steps, or the refusal; their message lines.
 -- Renders document 01, "Recipes to be met", W-204's row C, W-205's row H, and the places where document 002 says something else.
-use Rattle.std.specs.Prelude.{ℕ, zero, suc, ◌+◌, ◌≡◌, List, [], ◌∷◌, ◌++◌, length}
+use Rattle.std.specs.Prelude.{ℕ, zero, suc, ◌≡◌, List, [], ◌∷◌, ◌++◌, length}
 use Rattle.base.specs.Tests.{keep}
 use Rattle.base.specs.Lists.{member}
 use Rattle.base.specs.Numbers.{first_of}
