@@ -1,0 +1,125 @@
+-- `tables::shaped_table::copy_tile` meets its contract: the lengths of the first parcels of the tile.
+use Prim.Native.Nat.{◌+◌, ◌*◌, ◌-◌, ◌≤◌}
+use mathlib.Core.Path.{sym, refl}
+use native.Mathlib.Nat.{add-zero}
+use native.Mathlib.Omega.{arith}
+use Rattle.plan.specs.Messages.{directions}
+use Rattle.tables.specs.shaped_table.Table.{Filling}
+use Rattle.tables.proofs.shaped_table.Laws as L
+use borrow.Author.Rules.{rules}
+use Rattle.tables.proofs.shaped_table.copy_tile.Goals as goal
+
+pub loop-way-init : goal.loop-way-init
+loop-way-init c = (rw (add-zero (c.args.tile * directions c.args.nest)) c.requires.tile_bound.1, omega arith)
+
+pub length_as-requires : goal.length_as-requires
+length_as-requires c =
+    record { sized = c.requires.sized; tile_bound = (
+        c.requires.tile_bound.0,
+        (
+          omega (
+            arith,
+            c.loop-way-test.true,
+            (L.ways_are c.args.nest c.requires.sized.0.accepted c.args.sizes.ways c.args.sizes.route
+                c.requires.sized.0.ways c.requires.sized.1.0),
+          ),
+          c.loop-way.invariant.0,
+        ),
+      ) }
+
+pub overflow_mul-lens : goal.overflow_mul-lens
+overflow_mul-lens c =
+    let loop = c.loop-way in
+    let loop-test = c.loop-way-test in
+    omega (
+      arith,
+      (L.slot_place c.args.nest c.requires.sized.0.accepted c.args.tile c.args.sizes.ways loop.way
+          (L.ways_are c.args.nest c.requires.sized.0.accepted c.args.sizes.ways c.args.sizes.route c.requires.sized.0.ways
+          c.requires.sized.1.0)
+          c.requires.tile_bound.0 loop-test.true).0,
+      (L.slot_place c.args.nest c.requires.sized.0.accepted c.args.tile c.args.sizes.ways loop.way
+          (L.ways_are c.args.nest c.requires.sized.0.accepted c.args.sizes.ways c.args.sizes.route c.requires.sized.0.ways
+          c.requires.sized.1.0)
+          c.requires.tile_bound.0 loop-test.true).1,
+    )
+
+pub overflow_add-lens : goal.overflow_add-lens
+overflow_add-lens c =
+    let loop = c.loop-way in
+    let loop-test = c.loop-way-test in
+    omega (
+      arith,
+      (L.slot_place c.args.nest c.requires.sized.0.accepted c.args.tile c.args.sizes.ways loop.way
+          (L.ways_are c.args.nest c.requires.sized.0.accepted c.args.sizes.ways c.args.sizes.route c.requires.sized.0.ways
+          c.requires.sized.1.0)
+          c.requires.tile_bound.0 loop-test.true).0,
+      (L.slot_place c.args.nest c.requires.sized.0.accepted c.args.tile c.args.sizes.ways loop.way
+          (L.ways_are c.args.nest c.requires.sized.0.accepted c.args.sizes.ways c.args.sizes.route c.requires.sized.0.ways
+          c.requires.sized.1.0)
+          c.requires.tile_bound.0 loop-test.true).1,
+    )
+
+pub offset_bounds-lens-tile : goal.offset_bounds-lens-tile
+offset_bounds-lens-tile c =
+    let loop = c.loop-way in
+    let loop-test = c.loop-way-test in
+    omega (
+      arith,
+      (L.slot_place c.args.nest c.requires.sized.0.accepted c.args.tile c.args.sizes.ways loop.way
+          (L.ways_are c.args.nest c.requires.sized.0.accepted c.args.sizes.ways c.args.sizes.route c.requires.sized.0.ways
+          c.requires.sized.1.0)
+          c.requires.tile_bound.0 loop-test.true).0,
+      (L.slot_place c.args.nest c.requires.sized.0.accepted c.args.tile c.args.sizes.ways loop.way
+          (L.ways_are c.args.nest c.requires.sized.0.accepted c.args.sizes.ways c.args.sizes.route c.requires.sized.0.ways
+          c.requires.sized.1.0)
+          c.requires.tile_bound.0 loop-test.true).1,
+    )
+
+pub bounds-lens-tile : goal.bounds-lens-tile
+bounds-lens-tile c =
+    let loop = c.loop-way in
+    omega (
+      arith,
+      (L.slot_place c.args.nest c.requires.sized.0.accepted c.args.tile c.args.sizes.ways loop.way
+          (L.ways_are c.args.nest c.requires.sized.0.accepted c.args.sizes.ways c.args.sizes.route c.requires.sized.0.ways
+          c.requires.sized.1.0)
+          c.requires.tile_bound.0 c.loop-way-test.true).1,
+      loop.invariant.0.owned.tiled.numbers.long,
+    )
+
+pub overflow_step-way : goal.overflow_step-way
+overflow_step-way c =
+    let loop = c.loop-way in
+    let loop-test = c.loop-way-test in
+    omega (
+      arith,
+      (L.slot_place c.args.nest c.requires.sized.0.accepted c.args.tile c.args.sizes.ways loop.way
+          (L.ways_are c.args.nest c.requires.sized.0.accepted c.args.sizes.ways c.args.sizes.route c.requires.sized.0.ways
+          c.requires.sized.1.0)
+          c.requires.tile_bound.0 loop-test.true).0,
+      (L.slot_place c.args.nest c.requires.sized.0.accepted c.args.tile c.args.sizes.ways loop.way
+          (L.ways_are c.args.nest c.requires.sized.0.accepted c.args.sizes.ways c.args.sizes.route c.requires.sized.0.ways
+          c.requires.sized.1.0)
+          c.requires.tile_bound.0 loop-test.true).1,
+    )
+
+pub loop-way-smaller : goal.loop-way-smaller
+loop-way-smaller c = omega (arith, c.loop-way-test.true)
+
+pub loop-way-preserved : goal.loop-way-preserved
+loop-way-preserved c =
+    let loop-test = c.loop-way-test in (
+      L.fill_step _ c.requires.sized.0.accepted _ _ _ _ _
+          (L.ways_are c.args.nest c.requires.sized.0.accepted c.args.sizes.ways c.args.sizes.route c.requires.sized.0.ways
+          c.requires.sized.1.0)
+          c.loop-way.invariant.0 c.requires.tile_bound.0 loop-test.true c.length_as.ensures,
+      omega (arith, loop-test.true),
+    )
+
+pub returns : goal.returns
+returns c =
+    let loop = c.loop-way in
+    L.fill_next _ c.requires.sized.0.accepted _ _ _ _
+    (L.ways_are c.args.nest c.requires.sized.0.accepted c.args.sizes.ways c.args.sizes.route c.requires.sized.0.ways
+    c.requires.sized.1.0)
+    loop.invariant.1 c.loop-way-test.false loop.invariant.0

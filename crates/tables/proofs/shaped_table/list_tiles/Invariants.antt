@@ -1,0 +1,15 @@
+-- `tables::shaped_table::list_tiles` meets its contract: the tiles among the first u that are marked are listed.
+use Prim.Native.Nat.{◌-◌, ◌+◌}
+use mathlib.Core.Path.{sym, ◌∙◌}
+use mathlib.Core.Logic.{⊎_elim, inl, inr}
+use Rattle.nest.proofs.Shapes.{box_tiles_most}
+use native.Mathlib.Omega.{arith}
+use borrow.Author.Rules.{rules}
+use Rattle.tables.proofs.shaped_table.Laws as L
+use Rattle.tables.proofs.shaped_table.list_tiles.Given as goal
+
+abbrev pub invariant-loop-u : goal.invariant-loop-u
+invariant-loop-u l = L.Listing l.nest l.lens l.count l.u
+
+abbrev pub decreases-loop-u : goal.decreases-loop-u
+decreases-loop-u l = l.n - l.u

@@ -1,0 +1,20 @@
+-- `tables::shaped_table::nth_at` meets its contract: not among the slots before s.
+use Prim.Native.Nat.{◌-◌, ◌≤◌}
+use mathlib.Core.Path.{◌≡◌, sym, ◌∙◌}
+use mathlib.Core.Logic.{⊎_elim, inl, inr}
+use native.Mathlib.Omega.{arith}
+use Rattle.plan.specs.Shaped.{shaped_message, shaped_slots}
+use Rattle.tables.specs.shaped_table.Table.{end_of}
+use Rattle.tables.proofs.scans.Laws as scan
+use Rattle.tables.proofs.scans.Laws.{not_yet}
+use Rattle.tables.proofs.shaped_table.Laws as L
+use borrow.Author.Rules.{rules}
+use Rattle.tables.proofs.shaped_table.nth_at.Given as goal
+
+abbrev pub invariant-loop-s : goal.invariant-loop-s
+invariant-loop-s l =
+    (l.s ≤ l.end) ×
+    ((l.seen ≤ l.j) × (l.seen ≡ scan.seen (shaped_message l.nest) (shaped_slots l.nest) (end_of l.side) l.tile l.s))
+
+abbrev pub decreases-loop-s : goal.decreases-loop-s
+decreases-loop-s l = l.end - l.s

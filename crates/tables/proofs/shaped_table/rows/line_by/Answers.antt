@@ -1,0 +1,24 @@
+-- `tables::shaped_table::rows::line_by` meets its contract.
+use native.Mathlib.Omega.{arith}
+use borrow.Author.Rules.{rules}
+use Rattle.tables.proofs.shaped_table.Lines as L
+use Rattle.tables.proofs.shaped_table.rows.line_by.Goals as goal
+
+pub overflow_sub-first : goal.overflow_sub-first
+overflow_sub-first c = L.first_low c.args.nest c.requires.sized.0.accepted c.args.tile _ c.requires.sized.1.1
+
+pub overflow_add-result : goal.overflow_add-result
+overflow_add-result c = omega (arith, c.requires.from_bound, c.requires.sized.1.0, L.boxes_few c.args.nest c.requires.sized.0.accepted)
+
+pub overflow_add-result-2 : goal.overflow_add-result-2
+overflow_add-result-2 c = omega (arith, c.requires.from_bound, c.requires.sized.1.0, L.boxes_few c.args.nest c.requires.sized.0.accepted)
+
+pub overflow_add-result-3 : goal.overflow_add-result-3
+overflow_add-result-3 c =
+    omega (
+      arith,
+      c.requires.sized.1.0,
+      L.boxes_few c.args.nest c.requires.sized.0.accepted,
+      L.across_few c.args.nest c.requires.sized.0.accepted _
+          (c.requires.sized.0.across _ (L.inner c.args.nest c.requires.sized.0.accepted)),
+    )
