@@ -10,14 +10,14 @@ returns-then-number-ne0 c = L.reader's _ _ c.read-reading.ensures.value c.read-r
 pub returns-then-nest-eq0 : goal.returns-then-nest-eq0
 returns-then-nest-eq0 c =
     let read = c.read-reading in
-    L.without _ _ read.ensures.value read.ensures.1 c.if-number-ne0.false _ c.if-nest-eq0.true
+    L.without _ _ read.ensures.value read.ensures.bytes c.if-number-ne0.false _ c.if-nest-eq0.true
 
 pub returns-then-route-eq0 : goal.returns-then-route-eq0
 returns-then-route-eq0 c =
     let read = c.read-reading in
-    L.straight _ _ read.ensures.value read.ensures.1 c.if-number-ne0.false _ (route_direct _ c.if-route-eq0.true)
+    L.straight _ _ read.ensures.value read.ensures.bytes c.if-number-ne0.false _ (route_direct _ c.if-route-eq0.true)
 
 pub returns : goal.returns
 returns c =
     let read = c.read-reading in
-    L.barred _ _ read.ensures.value read.ensures.1 c.if-number-ne0.false _ (route_indirect _ c.if-route-eq0.false) c.if-nest-eq0.false
+    L.barred _ _ read.ensures.value read.ensures.bytes c.if-number-ne0.false _ (route_indirect _ c.if-route-eq0.false) c.if-nest-eq0.false
