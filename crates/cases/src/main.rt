@@ -3,11 +3,14 @@
 #![tactic(auto)]
 
 ghost use Rattle.std.specs.Prelude.{◌≡◌, length};
-ghost use Rattle.io.specs.Counts.{IsPrefixLen};
+ghost use Rattle.program_io.specs.Counts.{IsPrefixLen};
 
 mod numbers; // numbers.rt: labelled recipes, each one's number
 mod recipes; // recipes.rt: recipes, each one's plan or its sweeps compared
 mod script; // script.rt: calls on areas, each one's number and a checksum of the areas
+
+use std::rt::Files;
+use std::{fs, io};
 
 // Room for each file that is read whole.
 fn room() -> [u8; 131072]
@@ -17,26 +20,25 @@ fn room() -> [u8; 131072]
 }
 
 // A whole file, as far as the space goes: how many bytes it has.
-fn read_file(path: &[u8], space: &mut [u8]) -> usize
+fn read_file(rt: &(impl Files + Eprint + Alloc), path: &str, space: &mut [u8]) -> usize
     ensures { IsPrefixLen result space.new }
 {
-    let fd = os::open_read(path);
-    if fd < 0 {
-        os::fail(path);
-        return 0;
+    match fs::open(rt, path) {
+        Ok(mut file) => program_io::read_full(&mut file, space),
+        Err(e) => {
+            program_io::fail(rt, path, e);
+            0
+        }
     }
-    let n = io::read_full(fd, space);
-    libc::close(fd);
-    n
 }
 
-fn main() {
+fn main(rt: HostRuntime) -> io::Result<()> {
     let mut space = room();
-    let numbers_end = read_file(b"numbers", &mut space);
-    numbers::show_all(&space[..numbers_end]);
-    let plans_end = read_file(b"plans", &mut space);
-    recipes::print_cases(&space[..plans_end], false);
-    let sweeps_end = read_file(b"sweeps", &mut space);
-    recipes::print_cases(&space[..sweeps_end], true);
-    script::run_file(b"script");
+    let numbers_end = read_file(&rt, "numbers", &mut space);
+    numbers::show_all(&rt, &space[..numbers_end])?;
+    let plans_end = read_file(&rt, "plans", &mut space);
+    recipes::print_cases(&rt, &space[..plans_end], false)?;
+    let sweeps_end = read_file(&rt, "sweeps", &mut space);
+    recipes::print_cases(&rt, &space[..sweeps_end], true)?;
+    script::run_file(&rt, "script")
 }

@@ -1,33 +1,38 @@
 // Prints the plan of each recipe of the file `plans`, and what the second program writes for each of the file `sweeps`. For each recipe two
 // bytes of length, least first, then the recipe. The length's highest bit is the plan's route, 0 direct, 1 indirect; on the indirect one the
 // messages' hops follow.
-use libc::STDOUT_FILENO;
+use std::io;
 
 // The line above what a case prints.
-pub fn print_head(number: u64) {
-    io::write_all(STDOUT_FILENO, b"case ");
-    io::print_decimal(STDOUT_FILENO, number);
-    io::write_all(STDOUT_FILENO, b"\n");
+pub fn print_head(rt: &impl Print, number: u64) -> io::Result<()> {
+    println!(rt; "case {number}")
 }
 
-fn print_plan(route: u32, encoded: &[u8]) {
-    plan_text::print_routed(encoded, route);
+fn print_plan(rt: &impl Print, route: u32, encoded: &[u8]) -> io::Result<()> {
+    plan_text::print_routed(rt, encoded, route)?;
     if route != 0 {
-        plan_text::print_hops(encoded);
+        plan_text::print_hops(rt, encoded)?;
     }
+    Ok(())
 }
 
-fn print_case(number: u64, swept: bool, route: u32, encoded: &[u8]) {
-    print_head(number);
+fn print_case(
+    rt: &impl Print,
+    number: u64,
+    swept: bool,
+    route: u32,
+    encoded: &[u8],
+) -> io::Result<()> {
+    print_head(rt, number)?;
     if swept {
-        comparison::print(encoded);
+        comparison::print(rt, encoded)
     } else {
-        print_plan(route, encoded);
+        print_plan(rt, route, encoded)
     }
 }
 
 // The recipes one after the other, as far as they are whole: swept both ways, or planned.
-pub fn print_cases(all: &[u8], swept: bool) {
+pub fn print_cases(rt: &impl Print, all: &[u8], swept: bool) -> io::Result<()> {
     let mut at = 0;
     let mut number = 0;
     while all.len() - at >= 2 {
@@ -35,11 +40,12 @@ pub fn print_cases(all: &[u8], swept: bool) {
         let head = program_io::half(&all[at..from]);
         let length = head % 32768;
         if length > all.len() - from {
-            return;
+            return Ok(());
         }
         let to = from + length;
-        print_case(number, swept, (head / 32768) as u32, &all[from..to]);
+        print_case(rt, number, swept, (head / 32768) as u32, &all[from..to])?;
         number += 1;
         at = to;
     }
+    Ok(())
 }

@@ -1,10 +1,12 @@
 // Carries out the file `script`, records of 16 bytes, on areas of its own: each call's number is printed with a checksum of every
 // word that was lent. tools/README.md has the format.
-ghost use Rattle.io.specs.Counts.{IsPrefixLen};
+ghost use Rattle.program_io.specs.Counts.{IsPrefixLen};
 
 use crate::recipes::print_head;
-use libc::STDOUT_FILENO;
 use records::RECORD_WORDS;
+use std::io::Read;
+use std::rt::Files;
+use std::{fs, io};
 
 // The areas, and what of each is lent: lent[0] is the recipe's length in bytes, lent[1] to lent[6] those of the areas; lent[7] is the
 // route of calls. They go from function to function by value.
@@ -128,29 +130,23 @@ fn checksum(areas: Areas) -> u32 {
 
 // ---- printing
 
-fn print_end() {
-    io::write_all(STDOUT_FILENO, b"\n");
+fn print_end(rt: &impl Print) -> io::Result<()> {
+    println!(rt)
 }
 
-fn print_answer(number: u32, sum: u32) {
-    io::print_decimal(STDOUT_FILENO, number as u64);
-    io::write_all(STDOUT_FILENO, b" ");
-    io::print_hex(STDOUT_FILENO, sum as u64, 8);
-    print_end();
+fn print_answer(rt: &impl Print, number: u32, sum: u32) -> io::Result<()> {
+    println!(rt; "{number} {sum:08x}")
 }
 
-fn print_word(word: u32) {
-    io::print_decimal(STDOUT_FILENO, word as u64);
-    io::write_all(STDOUT_FILENO, b" ");
+fn print_word(rt: &impl Print, word: u32) -> io::Result<()> {
+    print!(rt; "{word} ")
 }
 
-fn show(words: &[u32]) {
-    let mut i: usize = 0;
-    while i < words.len() {
-        print_word(words[i]);
-        i += 1;
+fn show(rt: &impl Print, words: &[u32]) -> io::Result<()> {
+    for word in words {
+        print_word(rt, *word)?;
     }
-    print_end();
+    print_end(rt)
 }
 
 // ---- records: what each does
@@ -176,61 +172,67 @@ fn record_of(bytes: [u8; 16]) -> Record {
 }
 
 // Records 4, 5 and 11, on the lent words of one area.
-fn change(words: &mut [u32], lent: u32, record: Record) {
+fn change(rt: &impl Print, words: &mut [u32], lent: u32, record: Record) -> io::Result<()> {
     let n = front(words, lent);
     let op = record.op;
     match op {
         4 => fill(&mut words[..n], record.rule, record.a),
         5 => poke(&mut words[..n], record.a, record.b),
-        _ => show(&words[..n]),
+        _ => show(rt, &words[..n])?,
     }
+    Ok(())
 }
 
 // The same on the bytes of status.
-fn changed_bytes(bytes: [u8; 7168], lent: u32, record: Record) -> [u8; 7168] {
+fn changed_bytes(
+    rt: &impl Print,
+    bytes: [u8; 7168],
+    lent: u32,
+    record: Record,
+) -> io::Result<[u8; 7168]> {
     let mut words = widened(bytes);
-    change(&mut words, lent, record);
-    narrowed(words)
+    change(rt, &mut words, lent, record)?;
+    Ok(narrowed(words))
 }
 
 // The same on the area that the record names.
-fn changed(before: Areas, record: Record) -> Areas {
+fn changed(rt: &impl Print, before: Areas, record: Record) -> io::Result<Areas> {
     let mut areas = before;
     let lent = before.lent;
     let area = record.area;
     match area {
         1 => {
             let mut source = before.source;
-            change(&mut source, lent[1], record);
+            change(rt, &mut source, lent[1], record)?;
             areas.source = source;
         }
         2 => {
             let mut memories = before.memories;
-            change(&mut memories, lent[2], record);
+            change(rt, &mut memories, lent[2], record)?;
             areas.memories = memories;
         }
         3 => {
             let mut buffer = before.buffer;
-            change(&mut buffer, lent[3], record);
+            change(rt, &mut buffer, lent[3], record)?;
             areas.buffer = buffer;
         }
         4 => {
             let mut progress = before.progress;
-            change(&mut progress, lent[4], record);
+            change(rt, &mut progress, lent[4], record)?;
             areas.progress = progress;
         }
         5 => {
             let bytes = before.status;
-            let status = changed_bytes(bytes, lent[5], record);
+            let status = changed_bytes(rt, bytes, lent[5], record)?;
             areas.status = status;
         }
         _ => {
             let mut grid = before.grid;
-            change(&mut grid, lent[6], record);
+            change(rt, &mut grid, lent[6], record)?;
             areas.grid = grid;
         }
     }
-    areas
+    Ok(areas)
 }
 
 // Records 8 to 10, which leave memories, buffer and records as they are.
@@ -282,7 +284,7 @@ fn answer(
 }
 
 // A call on the parts that are lent, and the line that tells of it.
-fn called(before: Areas, op: u8, a: u32) -> Areas {
+fn called(rt: &impl Print, before: Areas, op: u8, a: u32) -> io::Result<Areas> {
     let lent = before.lent;
     let recipe = before.recipe;
     let source = before.source;
@@ -316,8 +318,8 @@ fn called(before: Areas, op: u8, a: u32) -> Areas {
     areas.progress = progress;
     areas.status = status;
     areas.grid = grid;
-    print_answer(number, checksum(areas));
-    areas
+    print_answer(rt, number, checksum(areas))?;
+    Ok(areas)
 }
 
 // ---- what is lent
@@ -332,42 +334,47 @@ fn lend(before: Areas, area: u32, words: u32) -> Areas {
 }
 
 // Record 1: a case begins with nothing lent.
-fn begun(before: Areas, number: u32) -> Areas {
+fn begun(rt: &impl Print, before: Areas, number: u32) -> io::Result<Areas> {
     let mut areas = before;
     areas.lent = [0u32; 8];
-    print_head(number as u64);
-    areas
+    print_head(rt, number as u64)?;
+    Ok(areas)
 }
 
 // Record 2: the recipe's bytes follow, filled up to whole records.
-fn with_recipe(fd: i32, before: Areas, length: u32) -> Areas {
+fn with_recipe(file: &mut impl Read, before: Areas, length: u32) -> Areas {
     let mut areas = lend(before, 0, length);
     let mut recipe = before.recipe;
     let padded = (program_io::as_index(length) + 15) / 16 * 16;
     let n = program_io::front_bytes(&recipe, padded);
-    io::read_full(fd, &mut recipe[..n]);
+    program_io::read_full(file, &mut recipe[..n]);
     areas.recipe = recipe;
     areas
 }
 
 // One record.
-fn carried_out(fd: i32, areas: Areas, record: Record) -> Areas {
+fn carried_out(
+    rt: &impl Print,
+    file: &mut impl Read,
+    areas: Areas,
+    record: Record,
+) -> io::Result<Areas> {
     let op = record.op;
     match op {
-        1 => begun(areas, record.a),
-        2 => with_recipe(fd, areas, record.a),
-        3 => lend(areas, record.area, record.a),
-        12 => lend(areas, 7, record.a),
-        4 => changed(areas, record),
-        5 => changed(areas, record),
-        11 => changed(areas, record),
-        _ => called(areas, op, record.a),
+        1 => begun(rt, areas, record.a),
+        2 => Ok(with_recipe(file, areas, record.a)),
+        3 => Ok(lend(areas, record.area, record.a)),
+        12 => Ok(lend(areas, 7, record.a)),
+        4 => changed(rt, areas, record),
+        5 => changed(rt, areas, record),
+        11 => changed(rt, areas, record),
+        _ => called(rt, areas, op, record.a),
     }
 }
 
-// The script's records one by one, on areas of its own. Nothing says that a file ends, so the records are counted, down from a
-// number that no file has.
-fn run(fd: i32) {
+// The script's records one by one, on areas of its own. Nothing says that a file ends, so the records are counted, up to a number that
+// no file has.
+fn run(rt: &impl Print, file: &mut impl Read) -> io::Result<()> {
     let mut areas = Areas {
         recipe: [0u8; 512],
         source: [0u32; 1024],
@@ -379,20 +386,22 @@ fn run(fd: i32) {
         lent: [0u32; 8],
     };
     let mut bytes = [0u8; 16];
-    let mut records = u64::MAX;
-    while records > 0 && io::read_full(fd, &mut bytes) == 16 {
-        records -= 1;
-        areas = carried_out(fd, areas, record_of(bytes));
+    for _ in 0..u64::MAX {
+        if program_io::read_full(file, &mut bytes) != 16 {
+            break;
+        }
+        areas = carried_out(rt, file, areas, record_of(bytes))?;
     }
+    Ok(())
 }
 
 // The whole file.
-pub fn run_file(path: &[u8]) {
-    let fd = os::open_read(path);
-    if fd < 0 {
-        os::fail(path);
-        return;
+pub fn run_file(rt: &(impl Files + Print + Eprint + Alloc), path: &str) -> io::Result<()> {
+    match fs::open(rt, path) {
+        Ok(mut file) => run(rt, &mut file),
+        Err(e) => {
+            program_io::fail(rt, path, e);
+            Ok(())
+        }
     }
-    run(fd);
-    libc::close(fd);
 }

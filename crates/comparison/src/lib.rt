@@ -11,9 +11,9 @@ ghost use Rattle.comparison.specs.Agreement.{ran_and_compared, Within};
 ghost use Rattle.comparison.specs.Lines.{verdict_line, agrees_for, four_lines, comparison_text};
 
 use crate::drive::Order;
-use libc::STDOUT_FILENO;
 use plan::Route;
 use records::RECORD_WORDS;
+use std::io;
 
 pub mod drive; // drive.rt: a run on the direct route, driven to its end by the offered calls
 
@@ -262,15 +262,15 @@ pub fn write_lines(space: &mut [u8], encoded: &[u8]) -> usize
 }
 
 // The lines, made in the space and handed to standard output: whether all of them were written.
-fn print_by(space: &mut [u8], encoded: &[u8]) -> bool
+fn print_by(rt: &impl Print, space: &mut [u8], encoded: &[u8]) -> io::Result<()>
     requires { length space.old ≡ 28 }
 {
     let length = write_lines(space, encoded);
-    io::write_all(STDOUT_FILENO, &space[..length])
+    rt.write_all(&space[..length])
 }
 
 // What the second program writes for these bytes; whether all of it was written.
-pub fn print(encoded: &[u8]) -> bool {
+pub fn print(rt: &impl Print, encoded: &[u8]) -> io::Result<()> {
     let mut space = [0u8; 28];
-    print_by(&mut space, encoded)
+    print_by(rt, &mut space, encoded)
 }

@@ -11,8 +11,8 @@ ghost use Rattle.text.specs.Writing.{pen, write};
 ghost use Rattle.plan_text.specs.PlanText.{number_then, field, figures_text, spaced, lines_text, refused_text, plan_text, printer_text};
 
 use layout::Sizes;
-use libc::STDOUT_FILENO;
 use nest::Nest;
+use std::io;
 use summary::MessageLine;
 use tables::TABLE_WORDS;
 
@@ -128,27 +128,27 @@ pub fn write_recipe(space: &mut [u8], encoded: &[u8], route: u32) -> usize
 }
 
 // What was handed to standard output: so many bytes from the front of the space, and whether all of them were written.
-#[derive(Clone, Copy)]
+#[derive(Drop)]
 pub struct Printed {
     pub length: usize,
-    pub written: bool,
+    pub written: io::Result<()>,
 }
 
 // Hands over a recipe's text and nothing else: whether all of it was written. No contract says what the system writes, so this one says what it is given.
-fn hand_over(text: &[u8], encoded: &[u8], route: u32) -> bool
+fn hand_over(rt: &impl Print, text: &[u8], encoded: &[u8], route: u32) -> io::Result<()>
     requires { text.now ≡ plan_text (route_of route) encoded.now }
 {
-    io::write_all(STDOUT_FILENO, text)
+    rt.write_all(text)
 }
 
 // The plan of a recipe of at most 512 bytes, or why it is refused, made in the space and handed over; a longer one is refused as ragged. The
 // route is 0 for direct passing, any other for indirect.
-pub fn print_by(space: &mut [u8], encoded: &[u8], route: u32) -> Printed
+pub fn print_by(rt: &impl Print, space: &mut [u8], encoded: &[u8], route: u32) -> Printed
     requires { length space.old ≡ 473159 }
     ensures { take result.length space.new ≡ plan_text (route_of route) encoded.now }
 {
     let length = write_recipe(space, encoded, route);
-    let written = hand_over(&space[..length], encoded, route);
+    let written = hand_over(rt, &space[..length], encoded, route);
     Printed {
         length: length,
         written: written,
@@ -156,37 +156,34 @@ pub fn print_by(space: &mut [u8], encoded: &[u8], route: u32) -> Printed
 }
 
 // The same by direct passing, with which the plan printer stays.
-pub fn print_recipe(space: &mut [u8], encoded: &[u8]) -> Printed
+pub fn print_recipe(rt: &impl Print, space: &mut [u8], encoded: &[u8]) -> Printed
     requires { length space.old ≡ 473159 }
     ensures { take result.length space.new ≡ printer_text encoded.now }
 {
-    print_by(space, encoded, 0)
+    print_by(rt, space, encoded, 0)
 }
 
 // The same on any route, in a space of its own: whether all of it was written.
-pub fn print_routed(encoded: &[u8], route: u32) -> bool {
+pub fn print_routed(rt: &impl Print, encoded: &[u8], route: u32) -> io::Result<()> {
     let mut space = [0u8; 473159];
-    let printed = print_by(&mut space, encoded, route);
+    let printed = print_by(rt, &mut space, encoded, route);
     printed.written
 }
 
-fn print_hop(of: summary::HopCount) {
-    io::write_all(STDOUT_FILENO, b" ");
-    io::print_decimal(STDOUT_FILENO, of.hops as u64);
+fn print_hop(rt: &impl Print, of: summary::HopCount) -> io::Result<()> {
+    print!(rt; " {}", of.hops)
 }
 
 // The hops of each message of the direct plan, in one line; nothing where the recipe is refused.
-pub fn print_hops(encoded: &[u8]) {
+pub fn print_hops(rt: &impl Print, encoded: &[u8]) -> io::Result<()> {
     let figures = summary::summary(encoded, 0);
     if figures.number != 0 {
-        return;
+        return Ok(());
     }
     let messages = figures.messages;
-    io::write_all(STDOUT_FILENO, b"hops");
-    let mut m = 0;
-    while m < messages {
-        print_hop(summary::hops(encoded, m));
-        m += 1;
+    print!(rt; "hops")?;
+    for m in 0..messages {
+        print_hop(rt, summary::hops(encoded, m))?;
     }
-    io::write_all(STDOUT_FILENO, b"\n");
+    println!(rt)
 }
