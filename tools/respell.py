@@ -20,7 +20,7 @@ TOKEN = r"[^\s(){}.;,@\"«»\[\]\\:`]+"
 DECLARED = (
     r"(?m)^(?:(?:abbrev|unfoldable|pub) )*(%s)(?: \{[^}]*\}| \([^)]*\))* :(?= |$)" % TOKEN,
     r"(?m)^(?:(?:abbrev|unfoldable|pub) )*(?:record|data) (%s)" % TOKEN,
-    r"(?m)^ +(?:pub )?(%s)(?: \{[^}]*\}| \([^)]*\))* : " % TOKEN,
+    r"(?m)^ +(?:(?:abbrev|unfoldable|pub) )*(%s)(?: \{[^}]*\}| \([^)]*\))* : " % TOKEN,
 )
 USE = re.compile(r"(?m)^(?:pub )?use ([^\s{]+?)(?:\.\{([^}]*)\}| as (\S+))?\s*$", re.S)
 GHOST_USE = re.compile(r"ghost use ([^\s{;]+?)(?:\.\{([^}]*)\})?(?: as (\S+))?;", re.S)
@@ -35,6 +35,7 @@ BESIDE = {
     "row-values": "row_values_lem",
     "bit-or": "bit_or_lem",
     "turn_at": "turn_at_lem",
+    "left_by": "left_by_lem",
     "handed-over": "handed_over_once",
     "in-shape": "is_in_shape",
     "own-cells": "cells_are_own",
@@ -99,6 +100,8 @@ def renamed(root):
         if os.path.basename(path) not in KEPT_FILES:
             by_module[path] = declared(text)
             names |= by_module[path]
+        # what has a hump is respelled wherever it stands: in a module with parameters, as a constructor, in a proof
+        names |= {it for it in re.findall(TOKEN, re.sub(r"--[^\n]*|\"[^\"]*\"", "", text)) if re.match("[a-z]", it) and re.search("[a-z0-9][A-Z]", it)}
     for path in texts(root, (".rt",)):
         theirs |= foreign(read(path), crates)
     table = {it: snake(it) for it in names if is_word(it) and it not in theirs and snake(it) != it}

@@ -1,0 +1,16 @@
+-- `summary::line_of` meets its contract.
+use mathlib.Core.Path.{ap, ◌∙◌}
+use Rattle.summary.proofs.Answers as L
+use Rattle.plan.specs.Shaped.{plan_of}
+use Rattle.summary.specs.Summary.{line_of}
+use borrow.Author.Rules.{rules}
+use Rattle.summary.proofs.line_of.Goals as goal
+
+pub nth-place-requires : goal.nth-place-requires
+nth-place-requires c = (c.requires.sized.0, (c.requires.sized.1, c.requires.m_bound))
+
+pub line_at-requires : goal.line_at-requires
+line_at-requires c = record { sized = c.requires.sized; found_in = L.found_self _ _ _ _ c.requires.sized.0.accepted c.nth-place.ensures }
+
+pub returns : goal.returns
+returns c = c.line_at.ensures ∙ ap (line_of (plan_of c.args.sizes.route c.args.nest)) c.nth-place.ensures.number
