@@ -8,7 +8,7 @@ use mathlib.Core.List.{List, []}
 use lib.ListN.{length}
 use Rattle.machine.specs.Plan.{Plan, Sound}
 use Rattle.machine.specs.Machine.{State, Answered, tiles_left, collect, fresh}
-use Rattle.machine.specs.Runs.{Event, turn_of, deliveryOf, act, state_after, total}
+use Rattle.machine.specs.Runs.{Event, turn_of, delivery_of, act, state_after, total}
 use Rattle.machine.specs.AnyCalls.{whole, mixed, either, steps_of, WordsIn}
 use Rattle.machine.proofs.Kept.{Inv}
 use Rattle.machine.proofs.Fresh.{inv_fresh}
@@ -77,7 +77,7 @@ module _ (p : Plan) (so : Sound p) (source : List ℕ) where
         let w = opens b q.0 q.1 in
         SomeStep.by_turn b w.0 w.1 w.2
         (gives (inr (turn_at (moment_of calendar w.0) b)) (turn_allowed calendar w.0 b f w.1 w.2) z)
-    at_open calendar f opens (deliveryOf m) z = SomeStep.by_mail m (gives (inr (mail_of m)) (mail-allowed m) z)
+    at_open calendar f opens (delivery_of m) z = SomeStep.by_mail m (gives (inr (mail_of m)) (mail-allowed m) z)
 
     pub mixed212_for : (collects : State → List ℕ → Answered (List ℕ))
         → ((s : State) → Inv p source s → (grid : List ℕ) → length grid ≡ p.cells → collects s grid ≡ collect p s grid)
@@ -113,26 +113,26 @@ module _ (p : Plan) (so : Sound p) (sources : Sources) where
     abbrev G : Sharing → Type 0
     G = SharingInv p sources
 
-    abbrev actsFor : Sharing → MixedCall → Answered Sharing
-    actsFor = mixed plain timed
+    abbrev acts_for : Sharing → MixedCall → Answered Sharing
+    acts_for = mixed plain timed
 
     abbrev AllowsFor : MixedCall → Type 0
     AllowsFor = Both G (act_on p sources) plain timed (λ c. c) call_of (λ c. Unit {0}) allowed
 
-    both_for : Guards G (act_on p sources) actsFor mixed_call AllowsFor
+    both_for : Guards G (act_on p sources) acts_for mixed_call AllowsFor
     both_for = guards_mixed G (act_on p sources) plain timed (λ c. c) call_of (λ c. Unit {0}) allowed gd gd'
 
     abbrev sharing : Sharing
-    sharing = state_after actsFor (fresh_sharing p) calls
+    sharing = state_after acts_for (fresh_sharing p) calls
 
-    gives_for : (x : MixedCall) → AllowsFor x → (act_on p sources sharing (mixed_call x)).number ≡ 0 → (actsFor sharing x).number ≡ 0
+    gives_for : (x : MixedCall) → AllowsFor x → (act_on p sources sharing (mixed_call x)).number ≡ 0 → (acts_for sharing x).number ≡ 0
     gives_for x a z =
-        guarded_zero G (act_on p sources) actsFor mixed_call AllowsFor both_for (inv_next p so sources) sharing
-        (good_at p so sources mixed_call actsFor AllowsFor both_for calls) x a z
+        guarded_zero G (act_on p sources) acts_for mixed_call AllowsFor both_for (inv_next p so sources) sharing
+        (good_at p so sources mixed_call acts_for AllowsFor both_for calls) x a z
 
     at_open_for : (calendar : List ℕ) → Faultless p calendar
         → ((o b : ℕ) → o ≤ 1 → b < p.processors → tiles_left p (own_of sharing o) b ≡ true → OpensSometime calendar b)
-        → (o : ℕ) (e : Event) → (act_on p sources sharing (record { tenant = o; event = e })).number ≡ 0 → SomeCall (λ r c. actsFor r (inr c)) sharing [] calendar
+        → (o : ℕ) (e : Event) → (act_on p sources sharing (record { tenant = o; event = e })).number ≡ 0 → SomeCall (λ r c. acts_for r (inr c)) sharing [] calendar
     unfolding state_after either call_of event_of
     at_open_for calendar f opens o (turn_of b) z =
         let low = call_tenant p sources sharing (record { tenant = o; event = turn_of b }) z in
@@ -140,19 +140,19 @@ module _ (p : Plan) (so : Sound p) (sources : Sources) where
         let w = opens o b low q.0 q.1 in
         SomeCall.by_turn o b w.0 w.1 w.2
         (gives_for (inr (turn_at_by o (moment_of calendar w.0) b)) (turn_allowed calendar w.0 o b f w.1 w.2) z)
-    at_open_for calendar f opens o (deliveryOf m) z = SomeCall.by_mail o m (gives_for (inr (mail_by o m)) (mail-allowed o m) z)
+    at_open_for calendar f opens o (delivery_of m) z = SomeCall.by_mail o m (gives_for (inr (mail_by o m)) (mail-allowed o m) z)
 
     pub mixed212_on : (collects : Sharing → ℕ → List ℕ → Answered (List ℕ))
         → ((r : Sharing) → G r → (o : ℕ) (grid : List ℕ) → length grid ≡ p.cells → collects r o grid ≡ collect_on p r o grid)
-        → Mixed212For actsFor (fresh_sharing p) p sources collects calls
+        → Mixed212For acts_for (fresh_sharing p) p sources collects calls
     unfolding either
     mixed212_on collects same-grid =
         record {
-          demand = demand3_for p so sources mixed_call actsFor AllowsFor both_for collects same-grid calls;
-          words = words208 p so sources mixed_call actsFor AllowsFor both_for;
-          goes_on = goes_on_for p so sources mixed_call actsFor AllowsFor both_for calls inl (λ c. refl) (λ c. tt);
+          demand = demand3_for p so sources mixed_call acts_for AllowsFor both_for collects same-grid calls;
+          words = words208 p so sources mixed_call acts_for AllowsFor both_for;
+          goes_on = goes_on_for p so sources mixed_call acts_for AllowsFor both_for calls inl (λ c. refl) (λ c. tt);
           goes_on_at = λ calendar f opens h.
-              let g = goes_plain p so sources mixed_call actsFor AllowsFor both_for calls h in
+              let g = goes_plain p so sources mixed_call acts_for AllowsFor both_for calls h in
               at_open_for calendar f opens g.0.tenant g.0.event g.1;
         }
 

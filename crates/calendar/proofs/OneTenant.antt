@@ -8,7 +8,7 @@ use lib.ListN.{length}
 use borrow.Author.Tests.{ltb-true}
 use Rattle.machine.specs.Plan.{Plan, Sound}
 use Rattle.machine.specs.Machine.{State, Answered, tiles_left, collect, fresh}
-use Rattle.machine.specs.Runs.{Event, turn_of, deliveryOf, act, state_after, answers_to, total, turns_of, CarriedOut, Demand3, answers, last, steps}
+use Rattle.machine.specs.Runs.{Event, turn_of, delivery_of, act, state_after, answers_to, total, turns_of, CarriedOut, Demand3, answers, last, steps}
 use Rattle.machine.proofs.Turns.{turn_lines}
 use Rattle.machine.proofs.Kept.{Inv}
 use Rattle.machine.proofs.Fresh.{inv_fresh}
@@ -92,7 +92,7 @@ module _ (p : Plan) (so : Sound p) (source : List ℕ) (acts : State → Timed �
         OnlyHours.when_open b q.0 q.1
         (λ minute low h. guarded_zero (Inv p source) (act p source) acts event_of allowed gd good_next ended inv (turn_at (moment_of calendar minute) b)
         (turn_allowed calendar minute b f low h) z)
-    with_hours calendar f (deliveryOf m) z =
+    with_hours calendar f (delivery_of m) z =
         OnlyHours.by_mail m (guarded_zero (Inv p source) (act p source) acts event_of allowed gd good_next ended inv (mail_of m) (mail-allowed m) z)
 
     only_hours : (calendar : List ℕ) → Faultless p calendar → steps acts (fresh p) ts < total p → OnlyHours acts (fresh p) ts p calendar

@@ -12,19 +12,19 @@ use borrow.Author.Tests.{eq-eqb, ne_eqb, ltb-true}
 use Rattle.base.specs.Tests.{pick}
 use Rattle.machine.specs.Plan.{Plan, Sound}
 use Rattle.machine.specs.Machine.{State, Answered, tiles_left}
-use Rattle.machine.specs.Runs.{Event, turn_of, deliveryOf, act, total, turns_of, deliveries_of, answers_to, last, state_after}
+use Rattle.machine.specs.Runs.{Event, turn_of, delivery_of, act, total, turns_of, deliveries_of, answers_to, last, state_after}
 use Rattle.machine.proofs.RunLaws.{after_of, Passed, ends, steps_same, turns_same, brings_same, one_end}
 use Rattle.machine.proofs.Once.{once_like, collects_like}
 use Rattle.machine.proofs.Guards.{Guards, is_plain, plain_zero, guarded_zero, good_end, passes}
 use Rattle.tenants.specs.Tenants.{Sharing, Sources, source_for, own_of, other_of, lent_to, fresh_sharing, Call, act_for, act_on, collect_on}
-use Rattle.tenants.specs.Demand208.{events_of, answers_of, CarriedOutFor, stepsFor as callSteps, TenantDemand, Demand208}
+use Rattle.tenants.specs.Demand208.{events_of, answers_of, CarriedOutFor, steps_for as call_steps, TenantDemand, Demand208}
 use Rattle.tenants.proofs.OneCall.{call_away, call_tenant}
 use Rattle.tenants.proofs.Engaged.{SharingInv, inv_start, inv_next}
 use Rattle.tenants.proofs.TenantTurns.{turn_open}
 use Rattle.tenants.proofs.OneTenant.{step_number, step_own}
 use Rattle.tenants.proofs.Theorem208.{theorem208}
 use Rattle.calendar.specs.Windows.{week, open_at, Moment, moment_of, event_of, TimedCall, call_of, act_at_on}
-use Rattle.calendar.specs.Demands212.{Faultless, OpensSometime, turn_at_by, mail_by, eventsFor, answersFor, stepsFor, SomeCall, OnlyHoursFor}
+use Rattle.calendar.specs.Demands212.{Faultless, OpensSometime, turn_at_by, mail_by, events_for, answers_for, steps_for, SomeCall, OnlyHoursFor}
 use Rattle.calendar.specs.Demands212.{TenantDemand212, Demand212For, IsolatedAt}
 use Rattle.calendar.proofs.Allowed.{Allowed, open_allowed, guards_for}
 
@@ -109,15 +109,15 @@ module _ (p : Plan) (so : Sound p) (sources : Sources) (acts : Sharing → Timed
       abbrev numbers : List ℕ
       numbers = answers_of o passed (answers_to (act_on p sources) (fresh_sharing p) passed)
 
-      same_steps : stepsFor acts (fresh_sharing p) cs o ≡ callSteps (act_on p sources) (fresh_sharing p) passed o
+      same_steps : steps_for acts (fresh_sharing p) cs o ≡ call_steps (act_on p sources) (fresh_sharing p) passed o
       same_steps = let w = both_matched p sources o low ran in sym (steps_same (act p (source_for sources o)) w.1) ∙ steps_same
           (act p (source_for sources o)) w.2
 
-      same_turns : (b : ℕ) → turns_of b (eventsFor acts (fresh_sharing p) cs o) (answersFor acts (fresh_sharing p) cs o) ≡ turns_of b (events_of o passed) numbers
+      same_turns : (b : ℕ) → turns_of b (events_for acts (fresh_sharing p) cs o) (answers_for acts (fresh_sharing p) cs o) ≡ turns_of b (events_of o passed) numbers
       same_turns b = let w = both_matched p sources o low ran in turns_same (act p (source_for sources o)) b w.1 ∙ sym
           (turns_same (act p (source_for sources o)) b w.2)
 
-      same_brings : (m : ℕ) → deliveries_of m (eventsFor acts (fresh_sharing p) cs o) (answersFor acts (fresh_sharing p) cs o) ≡ deliveries_of m
+      same_brings : (m : ℕ) → deliveries_of m (events_for acts (fresh_sharing p) cs o) (answers_for acts (fresh_sharing p) cs o) ≡ deliveries_of m
           (events_of o passed) numbers
       same_brings m = let w = both_matched p sources o low ran in brings_same (act p (source_for sources o)) m w.1 ∙ sym
           (brings_same (act p (source_for sources o)) m w.2)
@@ -125,7 +125,7 @@ module _ (p : Plan) (so : Sound p) (sources : Sources) (acts : Sharing → Timed
       -- a turn that gave 0 is the next of its program
       carried : (h : Moment) (b : ℕ) → (acts ended (turn_at_by o h b)).number ≡ 0
           → CarriedOutFor p (source_for sources o) ended (acts ended (turn_at_by o h b)).after o b
-          (turns_of b (eventsFor acts (fresh_sharing p) cs o) (answersFor acts (fresh_sharing p) cs o))
+          (turns_of b (events_for acts (fresh_sharing p) cs o) (answers_for acts (fresh_sharing p) cs o))
       unfolding call_of event_of
       carried h b z =
           rw (
@@ -146,16 +146,16 @@ module _ (p : Plan) (so : Sound p) (sources : Sources) (acts : Sharing → Timed
         OnlyHoursFor.when_open o b (call_tenant p sources ended (record { tenant = o; event = turn_of b }) z) q.0 q.1
         (λ minute low h. guarded_zero (SharingInv p sources) (act_on p sources) acts call_of allowed gd good_next ended inv
         (turn_at_by o (moment_of calendar minute) b) (turn_allowed calendar minute o b f low h) z)
-    with_hours calendar f o (deliveryOf m) z =
+    with_hours calendar f o (delivery_of m) z =
         OnlyHoursFor.by_mail o m (guarded_zero (SharingInv p sources) (act_on p sources) acts call_of allowed gd good_next ended inv (mail_by o m)
         (mail-allowed o m) z)
 
     -- either tenant has fewer steps, in one list and in the other
     abbrev Fewer : Type 0
-    Fewer = (stepsFor acts (fresh_sharing p) cs 0 < total p) ⊎ (stepsFor acts (fresh_sharing p) cs 1 < total p)
+    Fewer = (steps_for acts (fresh_sharing p) cs 0 < total p) ⊎ (steps_for acts (fresh_sharing p) cs 1 < total p)
 
     abbrev FewerThere : Type 0
-    FewerThere = (callSteps (act_on p sources) (fresh_sharing p) passed 0 < total p) ⊎ (callSteps (act_on p sources) (fresh_sharing p) passed 1 < total p)
+    FewerThere = (call_steps (act_on p sources) (fresh_sharing p) passed 0 < total p) ⊎ (call_steps (act_on p sources) (fresh_sharing p) passed 1 < total p)
 
     there : Fewer → FewerThere
     there (inl h) = inl (rw (same_steps 0 (omega arith)) at h)
@@ -195,7 +195,7 @@ module _ (p : Plan) (so : Sound p) (sources : Sources) (acts : Sharing → Timed
           record {
             once = once_like p _ _ _ _ same (same_turns o low) (same_brings o low) D.once;
             collecting =
-                collects_like p (source_for sources o) (stepsFor acts (fresh_sharing p) cs o ≡ total p) _ (collects ended o) _ (λ e. sym same ∙ e)
+                collects_like p (source_for sources o) (steps_for acts (fresh_sharing p) cs o ≡ total p) _ (collects ended o) _ (λ e. sym same ∙ e)
                 (λ e. same ∙ e) (grid_is o) D.collecting;
             carried_out = λ before after h b e z. carry before h b z;
           }
@@ -203,7 +203,7 @@ module _ (p : Plan) (so : Sound p) (sources : Sources) (acts : Sharing → Timed
           D : TenantDemand (act_on p sources) (fresh_sharing p) passed p o (source_for sources o) (collect_on p)
           D = plainly.each o low
 
-          same : stepsFor acts (fresh_sharing p) cs o ≡ callSteps (act_on p sources) (fresh_sharing p) passed o
+          same : steps_for acts (fresh_sharing p) cs o ≡ call_steps (act_on p sources) (fresh_sharing p) passed o
           same = same_steps o low
 
   pub demand212_for : (cs : List TimedCall) (collects : Sharing → ℕ → List ℕ → Answered (List ℕ))
@@ -231,7 +231,7 @@ theorem212_for p so sources calls =
 module _ (p : Plan) (so : Sound p) (o : ℕ) (low : o ≤ 1) (sources : Sources) (acts : Sharing → TimedCall → Answered Sharing) (allowed : TimedCall → Type 0)
     (gd : Guards (SharingInv p sources) (act_on p sources) acts call_of allowed) (calls : List TimedCall) where
   alone : (ps : List Event)
-      × Passed (act p (source_for sources o)) (own_of (fresh_sharing p) o) (eventsFor acts (fresh_sharing p) calls o) (answersFor acts (fresh_sharing p) calls o) ps
+      × Passed (act p (source_for sources o)) (own_of (fresh_sharing p) o) (events_for acts (fresh_sharing p) calls o) (answers_for acts (fresh_sharing p) calls o) ps
       (own_of (last acts (fresh_sharing p) calls) o)
   alone =
       let w = passes (SharingInv p sources) (act_on p sources) acts call_of allowed gd (inv_next p so sources) calls (fresh_sharing p) (inv_start p sources) in

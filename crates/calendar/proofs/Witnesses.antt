@@ -12,9 +12,9 @@ use Rattle.base.proofs.Tests.{never_both}
 use Rattle.machine.specs.Plan.{offset}
 use Rattle.machine.specs.Machine.{set_progress, tiles_left, fit_record, fit, unpack_all, after_sends, carry_out, action_at, waiting, turn, deliver, fresh}
 use Rattle.machine.specs.Machine.{gather, send, collect, sweep}
-use Rattle.machine.specs.Runs.{turn_of, deliveryOf, act, state_after, answers_to, program_over, turns_of, total}
+use Rattle.machine.specs.Runs.{turn_of, delivery_of, act, state_after, answers_to, program_over, turns_of, total}
 use Rattle.machine.specs.Words.{word_at}
-use Rattle.machine.specs.AnyCalls.{events_in, numbers_in, whole, mixed, either, steps_of, ownThen, ownAfter, DidIn}
+use Rattle.machine.specs.AnyCalls.{events_in, numbers_in, whole, mixed, either, steps_of, own_then, own_after, DidIn}
 use Rattle.machine.proofs.ComputedCalls.{small, source}
 use Rattle.machine.proofs.Witnesses.{sound}
 use Rattle.tenants.specs.Tenants.{stage_agrees, fit_word, fit_for, held_by_other, freed_after, engaged_after, carry_out_for, turn_for, deliver_for, act_for, act_on}
@@ -22,7 +22,7 @@ use Rattle.tenants.specs.Tenants.{of_tenant, sources_of, returned, fresh_sharing
 use Rattle.tenants.specs.AnyCalls.{tenant_view}
 use Rattle.calendar.specs.Windows.{is_window, is_faulty, faulty_board, faulty_table, faulty_minute, covers, open_at, Moment, moment_of, faulty_for, closed}
 use Rattle.calendar.specs.Windows.{timed_turn, timed_turn_for, turn_at, mail_of, event_of, act_at, call_of, act_at_for, act_at_on}
-use Rattle.calendar.specs.Demands212.{turn_at_by as timedBy}
+use Rattle.calendar.specs.Demands212.{turn_at_by as timed_by}
 use Rattle.calendar.specs.Fit.{OpenAt, FaultyHours}
 use Rattle.calendar.specs.AnyCalls.{Mixed, mixed_event, act_mixed, MixedCall, mixed_call, act_mixed_on}
 use Rattle.calendar.proofs.Fit.{hours_tests}
@@ -37,11 +37,11 @@ unfoldable before : List Mixed
 before = inl (turn_of 0) ∷ inr (turn_at (hours 4) 0) ∷ inr (turn_at (hours 5) 0) ∷ []
 
 unfoldable then : List Mixed
-then = inr (mail_of 0) ∷ inl (deliveryOf 0) ∷ []
+then = inr (mail_of 0) ∷ inl (delivery_of 0) ∷ []
 
 unfoldable calls : List Mixed
 calls =
-    before ++ (inl (turn_of 0) ∷ (then ++ (inr (turn_at (hours 10000) 1) ∷ inl (turn_of 1) ∷ inr (turn_at (hours 3) 1) ∷ inl (turn_of 1) ∷ inl (deliveryOf 1)
+    before ++ (inl (turn_of 0) ∷ (then ++ (inr (turn_at (hours 10000) 1) ∷ inl (turn_of 1) ∷ inr (turn_at (hours 3) 1) ∷ inl (turn_of 1) ∷ inl (delivery_of 1)
     ∷ inl (turn_of 0) ∷ inr (turn_at (hours 9) 0) ∷ inl (turn_of 0) ∷ [])))
 
 numbers : answers_to (act_mixed small source) (fresh small) calls ≡ 0 ∷ 24 ∷ 0 ∷ 0 ∷ 0 ∷ 14 ∷ 0 ∷ 0 ∷ 24 ∷ 0 ∷ 0 ∷ 0 ∷ 0 ∷ 13 ∷ []
@@ -75,15 +75,15 @@ unfolding before then hours small source program_over turns_of events_in numbers
 gathered = record { turn = record { ours = refl; turn = refl; gave = refl }; named = refl }
 
 -- so the claim says that processor 1 then has cell 1's word as processor 0 had it at the send
-arrives : word_at small (ownThen (whole mixed_event) (act_mixed small source) (fresh small) (before ++ (inl (turn_of 0) ∷ then)) (inr (turn_at (hours 10000) 1))) 1 1
-    ≡ word_at small (ownAfter (whole mixed_event) (act_mixed small source) (fresh small) before) 0 1
+arrives : word_at small (own_then (whole mixed_event) (act_mixed small source) (fresh small) (before ++ (inl (turn_of 0) ∷ then)) (inr (turn_at (hours 10000) 1))) 1 1
+    ≡ word_at small (own_after (whole mixed_event) (act_mixed small source) (fresh small) before) 0 1
 unfolding small
 arrives =
     ((mixed212 small sound source calls).words.posted before (inl (turn_of 0)) 0 0 sent).arrives then (inr (turn_at (hours 10000) 1)) 1 0 (omega arith) gathered
 
 -- ---- two tenants: tenant 0 does tile 0 on processor 0 by plain and timed turns; then tenant 1 gathers there at minute 9
 unfoldable first : List MixedCall
-first = inl (turn_by 0 0) ∷ inr (timedBy 1 (hours 5) 0) ∷ inr (timedBy 0 (hours 6) 0) ∷ inl (turn_by 1 0) ∷ inl (turn_by 0 0) ∷ []
+first = inl (turn_by 0 0) ∷ inr (timed_by 1 (hours 5) 0) ∷ inr (timed_by 0 (hours 6) 0) ∷ inl (turn_by 1 0) ∷ inl (turn_by 0 0) ∷ []
 
 first_numbers : answers_to (act_mixed_on small (sources_of source source)) (fresh_sharing small) first ≡ 0 ∷ 19 ∷ 0 ∷ 19 ∷ 0 ∷ []
 unfolding first hours small source mixed timed_turn_for act_at_for act_at_on is_window is_faulty faulty_board faulty_table faulty_minute covers open_at faulty_for closed
@@ -92,7 +92,7 @@ unfolding first hours small source mixed timed_turn_for act_at_for act_at_on is_
     action_at waiting state_after answers_to fresh
 first_numbers = refl
 
-gathered_for : DidIn (tenant_view mixed_call 1) (act_mixed_on small (sources_of source source)) (fresh_sharing small) small first (inr (timedBy 1 (hours 9) 0)) 0
+gathered_for : DidIn (tenant_view mixed_call 1) (act_mixed_on small (sources_of source source)) (fresh_sharing small) small first (inr (timed_by 1 (hours 9) 0)) 0
     (gather 0)
 unfolding first hours small source program_over turns_of events_in numbers_in mixed either event_of call_of timed_turn_for act_at_for act_at_on is_window is_faulty
     faulty_board faulty_table faulty_minute covers open_at faulty_for closed stage_agrees fit_word fit_for held_by_other freed_after engaged_after carry_out_for turn_for

@@ -84,15 +84,15 @@ mail_by o m = record { tenant = o; event = mail_of m }
 
 module _ (acts : Sharing → TimedCall → Answered Sharing) (start : Sharing) (calls : List TimedCall) where
   -- tenant o's events without their hours, and the numbers that they got
-  abbrev pub eventsFor : ℕ → List Event
-  eventsFor o = events_of o (map call_of calls)
+  abbrev pub events_for : ℕ → List Event
+  events_for o = events_of o (map call_of calls)
 
-  abbrev pub answersFor : ℕ → List ℕ
-  answersFor o = answers_of o (map call_of calls) (answers acts start calls)
+  abbrev pub answers_for : ℕ → List ℕ
+  answers_for o = answers_of o (map call_of calls) (answers acts start calls)
 
   -- a step of tenant o is a call of it that gave 0
-  abbrev pub stepsFor : ℕ → ℕ
-  stepsFor o = steps_in (answersFor o)
+  abbrev pub steps_for : ℕ → ℕ
+  steps_for o = steps_in (answers_for o)
 
   -- with this table some delivery of one of the two, or some turn at a minute at which its processor is open, would give 0
   pub data SomeCall (calendar : List ℕ) : Type 0 where
@@ -109,8 +109,8 @@ module _ (acts : Sharing → TimedCall → Answered Sharing) (start : Sharing) (
 
   -- one tenant's part
   pub record TenantDemand212 (p : Plan) (o : ℕ) (source : List ℕ) (collects : Sharing → ℕ → List ℕ → Answered (List ℕ)) : Type 0 where
-    pub once : Once p (eventsFor o) (answersFor o)
-    pub collecting : Collects p source (stepsFor o ≡ total p) (collects (last acts start calls) o)
+    pub once : Once p (events_for o) (answers_for o)
+    pub collecting : Collects p source (steps_for o ≡ total p) (collects (last acts start calls) o)
     pub carried_out : (before after : List TimedCall) (h : Moment) (b : ℕ) → calls ≡ before ++ (turn_at_by o h b ∷ after)
         → (acts (state_after acts start before) (turn_at_by o h b)).number ≡ 0
         → CarriedOutFor p source (state_after acts start before) (acts (state_after acts start before) (turn_at_by o h b)).after o b
@@ -121,13 +121,13 @@ module _ (acts : Sharing → TimedCall → Answered Sharing) (start : Sharing) (
     -- progress: if every processor with tiles left for either tenant is open at some minute
     pub goes_on : (calendar : List ℕ) → Faultless p calendar
         → ((o b : ℕ) → o ≤ 1 → b < p.processors → tiles_left p (own_of (last acts start calls) o) b ≡ true → OpensSometime calendar b)
-        → (stepsFor 0 < total p) ⊎ (stepsFor 1 < total p) → SomeCall calendar
-    pub then_fewer : (c : TimedCall) → (acts (last acts start calls) c).number ≡ 0 → (stepsFor 0 < total p) ⊎ (stepsFor 1 < total p)
-    pub only_hours : (calendar : List ℕ) → Faultless p calendar → (stepsFor 0 < total p) ⊎ (stepsFor 1 < total p) → OnlyHoursFor p calendar
+        → (steps_for 0 < total p) ⊎ (steps_for 1 < total p) → SomeCall calendar
+    pub then_fewer : (c : TimedCall) → (acts (last acts start calls) c).number ≡ 0 → (steps_for 0 < total p) ⊎ (steps_for 1 < total p)
+    pub only_hours : (calendar : List ℕ) → Faultless p calendar → (steps_for 0 < total p) ⊎ (steps_for 1 < total p) → OnlyHoursFor p calendar
 
 -- W-208's isolation, with hours: two runs that agree on tenant o's events, at whatever hours, and the numbers they got leave the same words in
 -- its own areas, whatever the other tenant's source, calls and hours were. The shared words are no part of it.
 pub record IsolatedAt (o : ℕ) (acts acts' : Sharing → TimedCall → Answered Sharing) (start start' : Sharing) : Type 0 where
   pub same_words : (calls calls' : List TimedCall) → events_of o (map call_of calls) ≡ events_of o (map call_of calls')
-      → answersFor acts start calls o ≡ answersFor acts' start' calls' o
+      → answers_for acts start calls o ≡ answers_for acts' start' calls' o
       → own_of (last acts start calls) o ≡ own_of (last acts' start' calls') o

@@ -8,7 +8,7 @@ use Rattle.calendar.specs.declared.Opening.{Opening}
 use Rattle.calendar.specs.declared.Opening.TheVariants.{OpensIn, Never}
 use Rattle.machine.specs.Plan.{Plan}
 use Rattle.machine.specs.Machine.{State, fit, tiles_left, waiting, carry_out, next_action, Answered, answered, deliver}
-use Rattle.machine.specs.Runs.{Event, turn_of, deliveryOf}
+use Rattle.machine.specs.Runs.{Event, turn_of, delivery_of}
 use Rattle.tenants.specs.Tenants.{TenantAreas, fit_for, held_by_other, carry_out_for, deliver_for, Sharing, Sources, source_for, other_of, lent_to, Call, put_back}
 
 -- ---- the table
@@ -111,7 +111,7 @@ pub data Timed : Type 0 where
 -- the event without its hours: two turns of one processor are the same event at any minutes
 unfoldable pub event_of : Timed → Event
 event_of (turn_at h b) = turn_of b
-event_of (mail_of m) = deliveryOf m
+event_of (mail_of m) = delivery_of m
 
 unfoldable pub act_at : Plan → List ℕ → State → Timed → Answered State
 act_at p source s (turn_at h b) = timed_turn p source h s b

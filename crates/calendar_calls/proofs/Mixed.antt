@@ -56,18 +56,18 @@ module _ (bytes : List ℕ) (route : ℕ) (sources : Sources) (ok : first_of (li
   pub run_words_for : Words212For (sharing_calls_at bytes route sources) (fresh_sharing q) q sources
   run_words_for = words208 q so sources call_of (sharing_calls_at bytes route sources) Open (guards_for bytes route sources ok long)
 
-  abbrev actsFor : Sharing → MixedCall → Answered Sharing
-  actsFor = mixed_sharing_calls bytes route sources
+  abbrev acts_for : Sharing → MixedCall → Answered Sharing
+  acts_for = mixed_sharing_calls bytes route sources
 
   abbrev pub AllowsFor : MixedCall → Type 0
   AllowsFor = Both G (act_on q sources) (sharing_calls bytes route sources) (sharing_calls_at bytes route sources) (λ c. c) call_of (λ c. Unit {0}) Open
 
-  pub both_for : Guards G (act_on q sources) actsFor mixed_call AllowsFor
+  pub both_for : Guards G (act_on q sources) acts_for mixed_call AllowsFor
   both_for =
       guards_mixed G (act_on q sources) (sharing_calls bytes route sources) (sharing_calls_at bytes route sources) (λ c. c) call_of (λ c. Unit {0}) Open
       (plain.guards bytes route sources ok long) (guards_for bytes route sources ok long)
 
-  pub run_mixed_for : (calls : List MixedCall) → Mixed212For actsFor (fresh_sharing q) q sources (sharing_collects bytes route sources) calls
+  pub run_mixed_for : (calls : List MixedCall) → Mixed212For acts_for (fresh_sharing q) q sources (sharing_collects bytes route sources) calls
   run_mixed_for calls =
       mixed212_on q so sources (sharing_calls bytes route sources) (plain.guards bytes route sources ok long) (sharing_calls_at bytes route sources) Open
       (guards_for bytes route sources ok long) (λ o m. tt) (λ calendar minute o b f low h. (f.long, open_allowed q calendar minute b f low h)) calls

@@ -125,30 +125,30 @@ module _ {n : ℕ} where
 
   -- ---- their locals
 
-  abbrev localType : Param n → Ty
-  localType number32 = ty_int w32
-  localType number64 = ty_int w64
-  localType flat = S'.mir
-  localType (reads j ok T) = slice_ty (ty_ref (named j) imm (pointee T.written))
-  localType (changes j ok T) = slice_ty (ty_ref (named j) mut (pointee T.written))
+  abbrev local_type : Param n → Ty
+  local_type number32 = ty_int w32
+  local_type number64 = ty_int w64
+  local_type flat = S'.mir
+  local_type (reads j ok T) = slice_ty (ty_ref (named j) imm (pointee T.written))
+  local_type (changes j ok T) = slice_ty (ty_ref (named j) mut (pointee T.written))
 
   -- in the order of the locals, before others
   abbrev pub env : List (Param n) → List ℕ → List (Ty × ℕ) → List (Ty × ℕ)
   env [] ls more = more
   env (p ∷ ps) [] more = more
-  env (p ∷ ps) (l ∷ ls) more = (localType p, l) ∷ env ps ls more
+  env (p ∷ ps) (l ∷ ls) more = (local_type p, l) ∷ env ps ls more
 
   -- from the last on, before others
   abbrev pub held : (ps : List (Param n)) (κs : Lfts n) → Lent κs ps → List ℕ → List ((Ty × ℕ) × Val) → List ((Ty × ℕ) × Val)
   held [] κs a ls more = more
   held (p ∷ ps) κs a [] more = more
-  held (p ∷ ps) κs a (l ∷ ls) more = held ps κs a.1 ls (((localType p, l), only (spell p κs a.0)) ∷ more)
+  held (p ∷ ps) κs a (l ∷ ls) more = held ps κs a.1 ls (((local_type p, l), only (spell p κs a.0)) ∷ more)
 
   -- in the order of the locals
   abbrev pub taken : (ps : List (Param n)) (κs : Lfts n) → Lent κs ps → List ℕ → List ((Ty × ℕ) × Val)
   taken [] κs a ls = []
   taken (p ∷ ps) κs a [] = []
-  taken (p ∷ ps) κs a (l ∷ ls) = ((localType p, l), only (spell p κs a.0)) ∷ taken ps κs a.1 ls
+  taken (p ∷ ps) κs a (l ∷ ls) = ((local_type p, l), only (spell p κs a.0)) ∷ taken ps κs a.1 ls
 
   -- each number, and how many elements a slice has, is within its width
   abbrev pub Fitting : (ps : List (Param n)) (κs : Lfts n) → Lent κs ps → Type 0

@@ -40,13 +40,13 @@ module _ {M : Type 1} {𝓤 : Ura M} (𝓛 : Logic 𝓤) (mem : Memory → SProp
   PutAll = triple_of 𝓛 stores.signature (stores.spec 𝓛 mem run)
 
   module _ (κ : Lft) (q : Share) (x : MutBor (List Progress)) where
-    abbrev pub to-store : ℕ → Flat → PutAll.Ghost
-    to-store n f = (((κ, tt), (q, tt), tt, (x, (n, (f, tt))), (slice x ∷ [], (vint w32 n ∷ [], (low f ∷ [], tt)))), tt)
+    abbrev pub to_store : ℕ → Flat → PutAll.Ghost
+    to_store n f = (((κ, tt), (q, tt), tt, (x, (n, (f, tt))), (slice x ∷ [], (vint w32 n ∷ [], (low f ∷ [], tt)))), tt)
 
     goes_store : (ℓ : Lifetime) (n : ℕ) (f : Flat)
         → ent 𝓤 (⋆ 𝓛 ((‵ (flft κ q) ⊛ ‵ ftrue)
         ∷ ‵ (fsep_all ((MutSlice ℓ κ R).own_val x (slice x ∷ []) ∷ u32.own_val n (vint w32 n ∷ []) ∷ F.own f (low f ∷ []) ∷ [])) ∷ []))
-        (PutAll.pre (to-store n f))
+        (PutAll.pre (to_store n f))
     goes_store ℓ n f =
         qed 𝓛 ((‵ (flft κ q) ⊛ ‵ ftrue)
         ∷ ‵ (fsep_all ((MutSlice ℓ κ R).own_val x (slice x ∷ []) ∷ u32.own_val n (vint w32 n ∷ []) ∷ F.own f (low f ∷ []) ∷ [])) ∷ []) ∵
@@ -59,7 +59,7 @@ module _ {M : Type 1} {𝓤 : Ura M} {𝓛 : Logic 𝓤} {K : Type 0} (mem : Mem
 
   pub stores_at : {xs : List Operand} → K → FmC 𝓤 H 𝓛.laws C → Triple 𝓤 (C #records·put-all) (PutAll 𝓛 mem run) → (ℓ : Lifetime)
       (n : ℕ) (f : Flat) → n < 2 ^ 32 → Is F f (low f ∷ [])
-      → Opds K 𝓛 (raw ((PutAll 𝓛 mem run).pre (to-store 𝓛 mem run κ q x n f)) ∷ Γ) En xs
+      → Opds K 𝓛 (raw ((PutAll 𝓛 mem run).pre (to_store 𝓛 mem run κ q x n f)) ∷ Γ) En xs
       (slice x ∷ vint w32 n ∷ low f ∷ [])
       → ((ws : List Progress) → length ws ≡ length x.now → ws ≡ put_all n f x.now
       → Seq K 𝓛 (‵ (flft κ q) ∷ ‵ (finally R x.ghost_name ws) ∷ Γ) (lands C Λ En d vunit rest p))
@@ -70,9 +70,9 @@ module _ {M : Type 1} {𝓤 : Ura M} {𝓛 : Logic 𝓤} {K : Type 0} (mem : Mem
       owned t F (Is F) (LL.makes S.the_type S'.the_plain 𝓛) f _ is $ fjoin t $
       owned t u32 (Is u32) (uint_Makes 𝓛 w32) n _ (refl, n-fits) $ fjoin t $
       move t (2 ∷ 0 ∷ []) $ fjoin t $ nothing t $ move t (2 ∷ 0 ∷ []) $ join t $
-      use2 𝓛 (raw ((PutAll 𝓛 mem run).pre (to-store 𝓛 mem run κ q x n f)))
+      use2 𝓛 (raw ((PutAll 𝓛 mem run).pre (to_store 𝓛 mem run κ q x n f)))
       (goes_store 𝓛 mem run κ q x ℓ n f) $
-      calls_at t fm (PutAll 𝓛 mem run) known (to-store 𝓛 mem run κ q x n f) os (λ w.
+      calls_at t fm (PutAll 𝓛 mem run) known (to_store 𝓛 mem run κ q x n f) os (λ w.
       use1 𝓛 (later (some (λ (u : Unit {0}). ((‵ (flft κ q) ⊛ ‵ ftrue) ⊛ ‵ (Nothing.own u (w ∷ [])))
       ⊛ raw (ensured 𝓛 stores.ended (stores.clauses 𝓛 mem run) (κ, tt) (x, (n, (f, tt))) tt u)))) (id⊢ 𝓤 _) $
       await t tt $ pick t (λ u. split t $ move t (1 ∷ []) $

@@ -169,11 +169,11 @@ module _ {M : Type 1} {𝓤 : Ura M} (𝓛 : Logic 𝓤) (mem : Memory → SProp
   Clear = triple_of 𝓛 clears.signature (clears.spec 𝓛 mem run)
 
   module _ (κ : Lft) (q : Share) (x : Bor (List Progress)) where
-    abbrev pub to-flatten : Flatten.Ghost
-    to-flatten = (((κ, tt), (q, tt), tt, (x, tt), (slice x ∷ [], tt)), tt)
+    abbrev pub to_flatten : Flatten.Ghost
+    to_flatten = (((κ, tt), (q, tt), tt, (x, tt), (slice x ∷ [], tt)), tt)
 
-    abbrev pub to-put : ℕ → ℕ → Progress → Put.Ghost
-    to-put n i p =
+    abbrev pub to_put : ℕ → ℕ → Progress → Put.Ghost
+    to_put n i p =
         (((κ, tt), (q, tt), tt, (x, (n, (i, (p, tt)))), (slice x ∷ [], (vint w32 n ∷ [], (vint w32 i ∷ [], (one p ∷ [], tt))))), tt)
 
     abbrev pub to_clear : ℕ → Clear.Ghost
@@ -184,7 +184,7 @@ module _ {M : Type 1} {𝓤 : Ura M} (𝓛 : Logic 𝓤) (mem : Memory → SProp
     flatten_of f = ex_e 𝓤 _ (λ ws. snd∗ 𝓤 (sem 𝓛 (lasts flatten.ended (κ, tt) (x, tt) ws)) (fact 𝓤 (Flattens f (flat_words x.now))))
 
     goes_flatten : (ℓ : Lifetime)
-        → ent 𝓤 (sep 𝓤 (A.lft κ q) (sem 𝓛 ((ShrSlice ℓ κ R).own_val x (slice x ∷ [])))) (Flatten.pre to-flatten)
+        → ent 𝓤 (sep 𝓤 (A.lft κ q) (sem 𝓛 ((ShrSlice ℓ κ R).own_val x (slice x ∷ [])))) (Flatten.pre to_flatten)
     goes_flatten ℓ =
         qed 𝓛 (‵ (flft κ q) ∷ ‵ ((ShrSlice ℓ κ R).own_val x (slice x ∷ [])) ∷ []) ∵
         nothing ! $ move ! (1 ∷ 0 ∷ []) $ join ! $ nothing ! $ move ! (2 ∷ 0 ∷ []) $ fjoin ! $
@@ -194,7 +194,7 @@ module _ {M : Type 1} {𝓤 : Ura M} (𝓛 : Logic 𝓤) (mem : Memory → SProp
         → ent 𝓤 (⋆ 𝓛 ((‵ (flft κ q) ⊛ ‵ ftrue)
         ∷ ‵ (fsep_all ((MutSlice ℓ κ R).own_val x (slice x ∷ []) ∷ u32.own_val n (vint w32 n ∷ []) ∷ u32.own_val i (vint w32 i ∷ [])
         ∷ R.own p (one p ∷ []) ∷ [])) ∷ []))
-        (Put.pre (to-put n i p))
+        (Put.pre (to_put n i p))
     goes_put ℓ n i p c =
         qed 𝓛 ((‵ (flft κ q) ⊛ ‵ ftrue)
         ∷ ‵ (fsep_all ((MutSlice ℓ κ R).own_val x (slice x ∷ []) ∷ u32.own_val n (vint w32 n ∷ []) ∷ u32.own_val i (vint w32 i ∷ [])
@@ -215,12 +215,12 @@ module _ {M : Type 1} {𝓤 : Ura M} {𝓛 : Logic 𝓤} {K : Type 0} (mem : Mem
   open 𝓛 use {H}
 
   pub flattens : K → FmC 𝓤 H 𝓛.laws C → Triple 𝓤 (C #records·flatten) (Flatten 𝓛 mem run) → (ℓ : Lifetime)
-      → Opds K 𝓛 (raw ((Flatten 𝓛 mem run).pre (to-flatten 𝓛 mem run κ q x)) ∷ Γ) En xs (slice x ∷ [])
+      → Opds K 𝓛 (raw ((Flatten 𝓛 mem run).pre (to_flatten 𝓛 mem run κ q x)) ∷ Γ) En xs (slice x ∷ [])
       → ((f : Flat) → Is F f (low f ∷ []) → Flattens f (flat_words x.now) → Seq K 𝓛 (‵ (flft κ q) ∷ Γ) (lands C Λ En d (low f) rest p))
       → Seq K 𝓛 (‵ (flft κ q) ∷ ‵ ((ShrSlice ℓ κ R).own_val x (slice x ∷ [])) ∷ Γ) (runs C Λ En (seq (call #records·flatten xs d) rest) p)
   flattens t fm known ℓ os k =
-      use2 𝓛 (raw ((Flatten 𝓛 mem run).pre (to-flatten 𝓛 mem run κ q x))) (goes_flatten 𝓛 mem run κ q x ℓ) $
-      calls_at t fm (Flatten 𝓛 mem run) known (to-flatten 𝓛 mem run κ q x) os (λ w.
+      use2 𝓛 (raw ((Flatten 𝓛 mem run).pre (to_flatten 𝓛 mem run κ q x))) (goes_flatten 𝓛 mem run κ q x ℓ) $
+      calls_at t fm (Flatten 𝓛 mem run) known (to_flatten 𝓛 mem run κ q x) os (λ w.
       use1 𝓛 (later (some (λ (f : Flat). ((‵ (flft κ q) ⊛ ‵ ftrue) ⊛ ‵ (F.own f (w ∷ [])))
       ⊛ raw (ensured 𝓛 flatten.ended (flatten.clauses 𝓛 mem run) (κ, tt) (x, tt) tt f)))) (id⊢ 𝓤 _) $
       await t tt $ pick t (λ f. split t $ move t (1 ∷ []) $
@@ -239,7 +239,7 @@ module _ {M : Type 1} {𝓤 : Ura M} {𝓛 : Logic 𝓤} {K : Type 0} (mem : Mem
   pub flattens_lent : {xs : List Operand} → K → FmC 𝓤 H 𝓛.laws C → Triple 𝓤 (C #records·flatten) (Flatten 𝓛 mem run)
       → (ℓ : Lifetime) → Room R (length x.now)
       → ((ν : ℕ) (δ : GName)
-      → Opds K 𝓛 (raw ((Flatten 𝓛 mem run).pre (to-flatten 𝓛 mem run (ν ∷ []) full_share (renamed δ x)))
+      → Opds K 𝓛 (raw ((Flatten 𝓛 mem run).pre (to_flatten 𝓛 mem run (ν ∷ []) full_share (renamed δ x)))
       ∷ ‵ (LentShared R κ (ν ∷ []) q x.ghost_name x.ref_ptr.0 x.ref_ptr.1 x.now) ∷ Γ)
       En xs (slice x ∷ []))
       → ((f : Flat) → Is F f (low f ∷ []) → Flattens f (flat_words x.now)
@@ -271,7 +271,7 @@ module _ {M : Type 1} {𝓤 : Ura M} {𝓛 : Logic 𝓤} {K : Type 0} (mem : Mem
   pub puts_at : {xs : List Operand} → K → FmC 𝓤 H 𝓛.laws C → Triple 𝓤 (C #records·put) (Put 𝓛 mem run)
       → (ℓ : Lifetime) (n i : ℕ) (r : Progress)
       → n < 2 ^ 32 → i < 2 ^ 32 → Is R r (one r ∷ []) → (n ≡ 0 → i < length x.now)
-      → Opds K 𝓛 (raw ((Put 𝓛 mem run).pre (to-put 𝓛 mem run κ q x n i r)) ∷ Γ) En xs
+      → Opds K 𝓛 (raw ((Put 𝓛 mem run).pre (to_put 𝓛 mem run κ q x n i r)) ∷ Γ) En xs
       (slice x ∷ vint w32 n ∷ vint w32 i ∷ one r ∷ [])
       → ((ws : List Progress) → length ws ≡ length x.now → ws ≡ put_at n i r x.now
       → Seq K 𝓛 (‵ (flft κ q) ∷ ‵ (finally R x.name ws) ∷ Γ) (lands C Λ En d vunit rest p))
@@ -283,9 +283,9 @@ module _ {M : Type 1} {𝓤 : Ura M} {𝓛 : Logic 𝓤} {K : Type 0} (mem : Mem
       owned t u32 (Is u32) (uint_Makes 𝓛 w32) i _ (refl, i-fits) $ fjoin t $
       owned t u32 (Is u32) (uint_Makes 𝓛 w32) n _ (refl, n-fits) $ fjoin t $
       move t (2 ∷ 0 ∷ []) $ fjoin t $ nothing t $ move t (2 ∷ 0 ∷ []) $ join t $
-      use2 𝓛 (raw ((Put 𝓛 mem run).pre (to-put 𝓛 mem run κ q x n i r)))
+      use2 𝓛 (raw ((Put 𝓛 mem run).pre (to_put 𝓛 mem run κ q x n i r)))
       (goes_put 𝓛 mem run κ q x ℓ n i r there) $
-      calls_at t fm (Put 𝓛 mem run) known (to-put 𝓛 mem run κ q x n i r) os (λ w.
+      calls_at t fm (Put 𝓛 mem run) known (to_put 𝓛 mem run κ q x n i r) os (λ w.
       use1 𝓛 (later (some (λ (u : Unit {0}). ((‵ (flft κ q) ⊛ ‵ ftrue) ⊛ ‵ (Nothing.own u (w ∷ [])))
       ⊛ raw (ensured 𝓛 puts.ended (puts.clauses 𝓛 mem run) (κ, tt) (x, (n, (i, (r, tt)))) tt u)))) (id⊢ 𝓤 _) $
       await t tt $ pick t (λ u. split t $ move t (1 ∷ []) $

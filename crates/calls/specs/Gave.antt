@@ -5,7 +5,7 @@
 -- what is lent for reading alone is left as it was. Board records are structs.
 use Rattle.core.specs.Prelude.{◌≡◌, ℕ, List, [], ℤ}
 use Rattle.machine.specs.Machine.{State, state_of}
-use Rattle.machine.specs.Runs.{Event, turn_of, deliveryOf}
+use Rattle.machine.specs.Runs.{Event, turn_of, delivery_of}
 use Rattle.tenants.specs.Tenants.{TenantAreas, tenant_areas, Sharing, sharing_of, Sources}
 use Rattle.calendar.specs.Windows.{Moment, Timed, turn_at, mail_of}
 use Rattle.records.specs.declared.Progress.{Progress}
@@ -100,7 +100,7 @@ module _ (bytes : List ℕ) (route : ℕ) (source : List ℕ) where
 
   abbrev pub EventGave : Areas → Event → ℕ → Areas → Type 0
   EventGave a (turn_of p) n b = answer n (in_words b) ≡ turn_call bytes route source (in_words a) p
-  EventGave a (deliveryOf m) n b = answer n (in_words b) ≡ deliver_call bytes route source (in_words a) m
+  EventGave a (delivery_of m) n b = answer n (in_words b) ≡ deliver_call bytes route source (in_words a) m
 
   -- lent the words `old` too, left as `grid`
   abbrev pub CollectGave : Areas → List ℕ → ℕ → List ℕ → Type 0
@@ -136,7 +136,7 @@ module _ (bytes : List ℕ) (route : ℕ) where
   -- tenant o, lent the other's records `theirs` only to read
   abbrev pub TenantGave : List ℕ → ℕ → List Progress → LentAreas → Event → ℕ → LentAreas → Type 0
   TenantGave source o theirs a (turn_of p) n b = answer n (lent_words b) ≡ turn_call_for bytes route source o (lent_words a) (flat_words theirs) p
-  TenantGave source o theirs a (deliveryOf m) n b =
+  TenantGave source o theirs a (delivery_of m) n b =
       answer n (lent_words b) ≡ deliver_call_for bytes route source o (lent_words a) (flat_words theirs) m
 
   -- lent the words `old` too, left as `grid`
@@ -156,13 +156,13 @@ module _ (bytes : List ℕ) (route : ℕ) where
   -- mail has no hours: its contract is that of src/lib.rt
   abbrev pub TimedGave : List ℕ → Areas → Timed → ℕ → Areas → Type 0
   TimedGave source a (turn_at h p) n b = answer n (in_words b) ≡ turn_call_at bytes route source h (in_words a) p
-  TimedGave source a (mail_of m) n b = EventGave bytes route source a (deliveryOf m) n b
+  TimedGave source a (mail_of m) n b = EventGave bytes route source a (delivery_of m) n b
 
   -- tenant o, lent the other's records `theirs` only to read
   abbrev pub TenantTimedGave : List ℕ → ℕ → List Progress → LentAreas → Timed → ℕ → LentAreas → Type 0
   TenantTimedGave source o theirs a (turn_at h p) n b =
       answer n (lent_words b) ≡ turn_call_at_for bytes route source o h (lent_words a) (flat_words theirs) p
-  TenantTimedGave source o theirs a (mail_of m) n b = TenantGave bytes route source o theirs a (deliveryOf m) n b
+  TenantTimedGave source o theirs a (mail_of m) n b = TenantGave bytes route source o theirs a (delivery_of m) n b
 
 abbrev pub OpensGave : List ℕ → Moment → ℕ → NextOpening → Type 0
 OpensGave bytes h b told = told ≡ opens_of bytes h b

@@ -5,7 +5,7 @@
 // Two steps, either way round (W-214), have no code: specs/Demands214 states them of the calls on bytes, specs/OverRecords214 of these.
 #![tactic(auto)]
 
-ghost use Rattle.machine.specs.Runs.{turn_of, deliveryOf};
+ghost use Rattle.machine.specs.Runs.{turn_of, delivery_of};
 ghost use Rattle.writer.specs.Fields.{fields};
 ghost use Rattle.calls.specs.Gave.{areas_of, FreshGave, EventGave, CollectGave, SweepGave, SummaryGave, MessageGave, HopsGave};
 ghost use Rattle.calls.specs.Gave.{ReadGave, WriteGave, SoundingsGave};
@@ -80,7 +80,7 @@ pub extern "C" fn rolwyddac_deliver(
     message: u32,
 ) -> u32
     ensures { EventGave encoded.now route source.now
-        (areas_of memories.now buffer.now progress.now status.old) (deliveryOf message)
+        (areas_of memories.now buffer.now progress.now status.old) (delivery_of message)
         result (areas_of memories.now buffer.now progress.now status.new) }
 {
     let flat = records::flatten(progress);

@@ -2,7 +2,7 @@
 // and collecting for one of them, to which the other's records are lent only to read; and the view of a processor's
 // memory.
 ghost use Rattle.core.specs.Prelude.{◌≡◌};
-ghost use Rattle.machine.specs.Runs.{turn_of, deliveryOf};
+ghost use Rattle.machine.specs.Runs.{turn_of, delivery_of};
 ghost use Rattle.tenants.specs.Tenants.{sources_of};
 ghost use Rattle.calls.specs.Gave.{areas_of, lent_areas_of, sharing_areas_of, TenantGave, TenantCollectGave, FreshBothGave, ViewGave};
 ghost use Rattle.calls.specs.View.{no_view};
@@ -55,7 +55,7 @@ pub extern "C" fn rolwyddac_tenant_deliver(
 ) -> u32
     ensures { TenantGave encoded.now route source.now tenant other.now
         (lent_areas_of (areas_of memories.now buffer.now progress.now status.old) engaged.now)
-        (deliveryOf message)
+        (delivery_of message)
         result (lent_areas_of (areas_of memories.now buffer.now progress.now status.new) engaged.now) }
 {
     let own = records::flatten(progress);

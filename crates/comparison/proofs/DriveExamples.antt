@@ -7,7 +7,7 @@ use Rattle.base.specs.Lists.{sublist, put, set_all, store_all, all_at, unpack, p
 use Rattle.base.specs.Numbers.{first_of}
 use Rattle.machine.specs.Plan.{Plan, offset}
 use Rattle.machine.specs.Machine.{set_progress, tiles_left, fit_record, fit, unpack_all, after_sends, carry_out, action_at, waiting, turn, deliver, fresh}
-use Rattle.machine.specs.Runs.{Event, turn_of, deliveryOf, act, state_after, answers_to}
+use Rattle.machine.specs.Runs.{Event, turn_of, delivery_of, act, state_after, answers_to}
 use Rattle.nest.specs.declared.Nest.{Nest}
 use Rattle.nest.specs.Nest.{tile_count, cells, box_tiles, processors}
 use Rattle.nest.specs.Places.{rank, place, cell_at, cell_place, tile_at, tile_place, box_tile_of}
@@ -38,10 +38,10 @@ abbrev events : Plan → Bool → List Event
 events p falling = rounds_of (act p (source_of true 4)) (two falling) 6 (fresh p)
 
 computed : (events (plan_of Direct nest_d) false
-    ≡ turn_of 0 ∷ turn_of 1 ∷ turn_of 0 ∷ turn_of 1 ∷ turn_of 0 ∷ turn_of 1 ∷ turn_of 0 ∷ turn_of 1 ∷ deliveryOf 0
+    ≡ turn_of 0 ∷ turn_of 1 ∷ turn_of 0 ∷ turn_of 1 ∷ turn_of 0 ∷ turn_of 1 ∷ turn_of 0 ∷ turn_of 1 ∷ delivery_of 0
     ∷ turn_of 0 ∷ turn_of 1 ∷ turn_of 0 ∷ turn_of 1 ∷ [])
     × (events (plan_of Direct nest_d) true
-    ≡ turn_of 1 ∷ turn_of 0 ∷ turn_of 1 ∷ turn_of 0 ∷ turn_of 1 ∷ turn_of 0 ∷ turn_of 1 ∷ turn_of 0 ∷ deliveryOf 0
+    ≡ turn_of 1 ∷ turn_of 0 ∷ turn_of 1 ∷ turn_of 0 ∷ turn_of 1 ∷ turn_of 0 ∷ turn_of 1 ∷ turn_of 0 ∷ delivery_of 0
     ∷ turn_of 1 ∷ turn_of 0 ∷ turn_of 1 ∷ turn_of 0 ∷ [])
 unfolding nest_d source_of in_order turns_to deliveries_to took round_of rounds_of act state_after answers_to count_if one turn deliver fresh first_of set_progress tiles_left
     fit_record fit unpack_all after_sends carry_out action_at waiting offset sublist put set_all store_all all_at unpack pack tabulate sum not ◌and◌ ◌or◌ pick every

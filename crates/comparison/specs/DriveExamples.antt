@@ -3,7 +3,7 @@
 -- taken. Ruled out: a second source that counts from 0, turns of one order in both, deliveries while a turn can be taken.
 use Rattle.std.specs.Prelude.{ℕ, ◌≡◌, Bool, true, false, List, [], ◌∷◌}
 use Rattle.machine.specs.Machine.{fresh}
-use Rattle.machine.specs.Runs.{Event, turn_of, deliveryOf, act}
+use Rattle.machine.specs.Runs.{Event, turn_of, delivery_of, act}
 use Rattle.nest.specs.Recipes.{row_d}
 use Rattle.engine.specs.Calls.{recipe}
 use Rattle.comparison.specs.declared.drive.Order.{Order}
@@ -26,11 +26,11 @@ pub record DriveExamples : Type 0 where
   pub numbers : source_of true 4 ≡ 1 ∷ 2 ∷ 3 ∷ 4 ∷ []
   pub rising : turns (three false) ≡ turn_of 0 ∷ turn_of 1 ∷ turn_of 2 ∷ []
   pub falling : turns (three true) ≡ turn_of 2 ∷ turn_of 1 ∷ turn_of 0 ∷ []
-  pub mail : deliveries_to 3 ≡ deliveryOf 0 ∷ deliveryOf 1 ∷ deliveryOf 2 ∷ []
+  pub mail : deliveries_to 3 ≡ delivery_of 0 ∷ delivery_of 1 ∷ delivery_of 2 ∷ []
   -- processor 0's three steps, a round with no step, behind which the message is delivered, then processor 1's two
   pub D-rising : events_of true false
-      ≡ turn_of 0 ∷ turn_of 1 ∷ turn_of 0 ∷ turn_of 1 ∷ turn_of 0 ∷ turn_of 1 ∷ turn_of 0 ∷ turn_of 1 ∷ deliveryOf 0
+      ≡ turn_of 0 ∷ turn_of 1 ∷ turn_of 0 ∷ turn_of 1 ∷ turn_of 0 ∷ turn_of 1 ∷ turn_of 0 ∷ turn_of 1 ∷ delivery_of 0
       ∷ turn_of 0 ∷ turn_of 1 ∷ turn_of 0 ∷ turn_of 1 ∷ []
   pub D-falling : events_of true true
-      ≡ turn_of 1 ∷ turn_of 0 ∷ turn_of 1 ∷ turn_of 0 ∷ turn_of 1 ∷ turn_of 0 ∷ turn_of 1 ∷ turn_of 0 ∷ deliveryOf 0
+      ≡ turn_of 1 ∷ turn_of 0 ∷ turn_of 1 ∷ turn_of 0 ∷ turn_of 1 ∷ turn_of 0 ∷ turn_of 1 ∷ turn_of 0 ∷ delivery_of 0
       ∷ turn_of 1 ∷ turn_of 0 ∷ turn_of 1 ∷ turn_of 0 ∷ []

@@ -5,7 +5,7 @@ use Rattle.std.specs.Prelude.{ℕ, ◌≡◌, List, [], ◌∷◌, ◌++◌, rep
 use Rattle.base.specs.Numbers.{first_of}
 use Rattle.machine.specs.Plan.{Message, dues_of}
 use Rattle.machine.specs.Machine.{fresh, collect, sweep}
-use Rattle.machine.specs.Runs.{Event, turn_of, deliveryOf, act, last, answers}
+use Rattle.machine.specs.Runs.{Event, turn_of, delivery_of, act, last, answers}
 use Rattle.nest.specs.Reader.{nest_of, read_lines}
 use Rattle.nest.specs.Recipes.{dimension, bound, distance, close}
 use Rattle.nest.specs.Shape.{existing}
@@ -55,7 +55,7 @@ abbrev pub ones : List ℕ
 ones = 1 ∷ 1 ∷ 1 ∷ 1 ∷ []
 
 abbrev pub turns : List Event
-turns = turn_of 0 ∷ turn_of 0 ∷ turn_of 1 ∷ turn_of 0 ∷ turn_of 0 ∷ turn_of 0 ∷ deliveryOf 0 ∷ turn_of 1 ∷ turn_of 1 ∷ turn_of 1 ∷ []
+turns = turn_of 0 ∷ turn_of 0 ∷ turn_of 1 ∷ turn_of 0 ∷ turn_of 0 ∷ turn_of 0 ∷ delivery_of 0 ∷ turn_of 1 ∷ turn_of 1 ∷ turn_of 1 ∷ []
 
 pub record ShapedExamples : Type 0 where
   -- cell (1,0) is outside: three tiles, of which the last is the box's 3; tile 0 plus v is empty, so tile 2 takes its message

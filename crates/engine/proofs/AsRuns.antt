@@ -7,7 +7,7 @@ use Rattle.base.specs.Numbers.{first_of}
 use Rattle.base.proofs.Tests.{and_true}
 use Rattle.machine.specs.Plan.{Plan, Sound, taker_of}
 use Rattle.machine.specs.Machine.{State, Answered, Action, gather, send, collect, fresh}
-use Rattle.machine.specs.Runs.{Event, turn_of, deliveryOf, act, state_after, answers_to, turns_of, CarriedOut, Demand3}
+use Rattle.machine.specs.Runs.{Event, turn_of, delivery_of, act, state_after, answers_to, turns_of, CarriedOut, Demand3}
 use Rattle.machine.specs.Words.{word_at, cell_of, Did, Posted}
 use Rattle.machine.specs.StatusTells.{StatusTells}
 use Rattle.machine.proofs.Kept.{Inv}
@@ -39,7 +39,7 @@ module _ (bytes : List ℕ) (route : ℕ) (source : List ℕ) (ok : first_of (li
   pub same : (s : State) → Inv p source s → (e : Event) → calls bytes route source s e ≡ act p source s e
   unfolding calls act
   same s inv (turn_of b) = turn_is bytes route source s ok (inv_areas s inv) b
-  same s inv (deliveryOf m) = deliver_is bytes route source s ok (inv_areas s inv) m
+  same s inv (delivery_of m) = deliver_is bytes route source s ok (inv_areas s inv) m
 
   same_state : (es : List Event) (s : State) → Inv p source s → state_after (calls bytes route source) s es ≡ state_after (act p source) s es
   unfolding state_after

@@ -8,7 +8,7 @@ use Rattle.machine.specs.Plan.{Plan, Sound, count, held_by, dues_of, words}
 use Rattle.machine.specs.Machine as machine
 use Rattle.machine.specs.Machine.{State, Answered, state_of, gather, send, carry_out, next_action, collected}
 use Rattle.machine.specs.Words.{word_at, mail_at, cell_of, Does, Did, Posted}
-use Rattle.machine.specs.Runs.{Event, turn_of, deliveryOf, last, answers, Demand3}
+use Rattle.machine.specs.Runs.{Event, turn_of, delivery_of, last, answers, Demand3}
 use Rattle.machine.specs.StatusTells.{StatusTells}
 use Rattle.nest.specs.Nest.{cells}
 use Rattle.nest.specs.Shape.{in_shape}
@@ -65,7 +65,7 @@ pub record Demand1 (bytes : List ℕ) (route : ℕ) (source : List ℕ) (s : Sta
 -- the events of a run, each a call, all given one route
 unfoldable pub calls : List ℕ → ℕ → List ℕ → State → Event → Answered State
 calls bytes route source s (turn_of b) = turn_call bytes route source s b
-calls bytes route source s (deliveryOf m) = deliver_call bytes route source s m
+calls bytes route source s (delivery_of m) = deliver_call bytes route source s m
 
 -- demand 2: schedule, message cell sets and sequential sweep are the report's, and packing and unpacking move exactly these; with bounds,
 -- on the direct route, those of the shape

@@ -13,7 +13,7 @@ use Rattle.base.specs.Lists.{count_if}
 use Rattle.base.proofs.Tests.{pick_true, pick_false}
 use Rattle.machine.specs.Plan.{Plan, Sound, held_by}
 use Rattle.machine.specs.Machine.{State, state_of, memory_of, place_of, tiles_left, fit_record, Answered}
-use Rattle.machine.specs.Runs.{turn_of, deliveryOf, state_after, answers_to, steps_in}
+use Rattle.machine.specs.Runs.{turn_of, delivery_of, state_after, answers_to, steps_in}
 use Rattle.machine.proofs.RunLaws.{number_of, after_of}
 use Rattle.records.specs.Records.{flat_words}
 use Rattle.records.proofs.Words.{length_words}
@@ -295,30 +295,30 @@ module _ (bytes : List ℕ) (route : ℕ) where
   part_takes a b m ws = can_answer (part_arrive_call bytes route (in_words a) b m ws) (arrive_whole bytes route a b m ws)
 
   module _ (sources : Sources) (x : Boards) where
-    abbrev boards-there : ℕ
-    boards-there = (recipe bytes route).processors
+    abbrev boards_there : ℕ
+    boards_there = (recipe bytes route).processors
 
-    can_give : (e : BoardEvent) → board_of e < boards-there → (n : ℕ) × ((y : Boards) × BoardGave bytes route sources x e n y)
+    can_give : (e : BoardEvent) → board_of e < boards_there → (n : ℕ) × ((y : Boards) × BoardGave bytes route sources x e n y)
     can_give (turn_at b) h =
         let r = (over_records bytes route (sources b)).one.can_event (x.areas b) (turn_of b) in
-        (r.0, put_board boards-there b (λ a k c. EventGave bytes route (sources b) a (turn_of b) k c) [] x r.0 r.1.0 h r.1.1)
+        (r.0, put_board boards_there b (λ a k c. EventGave bytes route (sources b) a (turn_of b) k c) [] x r.0 r.1.0 h r.1.1)
     can_give (post_at b m) h =
-        let r = (over_records bytes route (sources b)).one.can_event (x.areas b) (deliveryOf m) in
-        (r.0, put_board boards-there b (λ a k c. EventGave bytes route (sources b) a (deliveryOf m) k c) _ x r.0 r.1.0 h r.1.1)
+        let r = (over_records bytes route (sources b)).one.can_event (x.areas b) (delivery_of m) in
+        (r.0, put_board boards_there b (λ a k c. EventGave bytes route (sources b) a (delivery_of m) k c) _ x r.0 r.1.0 h r.1.1)
     can_give (brought_to b m ws) h =
         let r = take_answers (sources b) (x.areas b) b m ws in
-        (r.0, put_board boards-there b (λ a. TakeInGave bytes route (sources b) a b m ws) [] x r.0 r.1.0 h r.1.1)
+        (r.0, put_board boards_there b (λ a. TakeInGave bytes route (sources b) a b m ws) [] x r.0 r.1.0 h r.1.1)
 
-    can_give_parts : (e : BoardEvent) → board_of e < boards-there → (n : ℕ) × ((y : Boards) × PartGave bytes route sources x e n y)
+    can_give_parts : (e : BoardEvent) → board_of e < boards_there → (n : ℕ) × ((y : Boards) × PartGave bytes route sources x e n y)
     can_give_parts (turn_at b) h =
         let r = part_turns (sources b) (x.areas b) b in
-        (r.0, put_board boards-there b (PartTurnGave bytes route (sources b) b) [] x r.0 r.1.0 h r.1.1)
+        (r.0, put_board boards_there b (PartTurnGave bytes route (sources b) b) [] x r.0 r.1.0 h r.1.1)
     can_give_parts (post_at b m) h =
         let r = part_posts (x.areas b) b m in
-        (r.0, put_board boards-there b (PartPostGave bytes route b m) _ x r.0 r.1.0 h r.1.1)
+        (r.0, put_board boards_there b (PartPostGave bytes route b m) _ x r.0 r.1.0 h r.1.1)
     can_give_parts (brought_to b m ws) h =
         let r = part_takes (x.areas b) b m ws in
-        (r.0, put_board boards-there b (PartArriveGave bytes route b m ws) [] x r.0 r.1.0 h r.1.1)
+        (r.0, put_board boards_there b (PartArriveGave bytes route b m ws) [] x r.0 r.1.0 h r.1.1)
 
 pub over_boards : (bytes : List ℕ) (route : ℕ) (source : List ℕ) (sources : Sources) (lent : ℕ → Areas) (start : Boards)
     → OverBoards bytes route source sources lent start

@@ -6,7 +6,7 @@ use mathlib.Core.List.{List, map}
 use lib.ListN.{length}
 use Rattle.base.specs.Lists.{Bytes}
 use Rattle.machine.specs.Machine.{State, tiles_left}
-use Rattle.machine.specs.Runs.{deliveryOf, state_after, answers_to}
+use Rattle.machine.specs.Runs.{delivery_of, state_after, answers_to}
 use Rattle.machine.proofs.RunLaws.{number_of, after_of}
 use Rattle.tenants.specs.Tenants.{TenantAreas, Sharing, Sources, source_for, lent_to, own_of, put_back, carry_out_for}
 use Rattle.tenants.specs.Demand208.{events_of, answers_of}
@@ -86,7 +86,7 @@ module _ (bytes : List ℕ) (route : ℕ) where
 
   can_event : (source : List ℕ) (a : Areas) (x : Timed) → (n : ℕ) × ((b : Areas) × TimedGave bytes route source a x n b)
   can_event source a (turn_at h p) = can_answer (turn_call_at bytes route source h (in_words a) p) (whole_at source a h p)
-  can_event source a (mail_of m) = (over_records bytes route source).one.can_event a (deliveryOf m)
+  can_event source a (mail_of m) = (over_records bytes route source).one.can_event a (delivery_of m)
 
   module _ (source : List ℕ) (o : ℕ) (theirs : List Progress) (a : LentAreas) where
     whole_turn : (h : Moment) (p : ℕ) → Whole (turn_call_at_for bytes route source o h (lent_words a) (flat_words theirs) p).after.own.progress
@@ -106,7 +106,7 @@ module _ (bytes : List ℕ) (route : ℕ) where
             ap (λ (s : State). answer r.number (record { own = s; engaged = r.after.engaged })) s,
           ),
         )
-    can_tenant_at (mail_of m) = can_tenant bytes route source o theirs a (deliveryOf m)
+    can_tenant_at (mail_of m) = can_tenant bytes route source o theirs a (delivery_of m)
 
   can_call : (sources : Sources) (a : SharingAreas) (c : TimedCall) → (n : ℕ) × ((b : SharingAreas) × TimedCallGave bytes route sources a c n b)
   can_call sources a c = (

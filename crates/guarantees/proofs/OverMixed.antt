@@ -147,30 +147,30 @@ module _ (bytes : List ℕ) (route : ℕ) where
   -- ---- two tenants
   module _ (sources : Sources) (a start b : SharingAreas) (calls : List MixedCall) (numbers : List ℕ)
       (fresh : FreshBothGave bytes route sources a 0 start) (gave : Gave (MixedCallGave bytes route sources) start calls numbers b) where
-    abbrev sharingActs : Sharing → MixedCall → Answered Sharing
-    sharingActs = mixed_sharing_calls bytes route sources
+    abbrev sharing_acts : Sharing → MixedCall → Answered Sharing
+    sharing_acts = mixed_sharing_calls bytes route sources
 
-    sharing_ns : numbers ≡ answers_to sharingActs (sharing_words start) calls
-    sharing_ns = run_numbers _ sharing_words sharingActs (mixed_sharing_call sources) gave
+    sharing_ns : numbers ≡ answers_to sharing_acts (sharing_words start) calls
+    sharing_ns = run_numbers _ sharing_words sharing_acts (mixed_sharing_call sources) gave
 
-    sharing_ws : sharing_words b ≡ state_after sharingActs (sharing_words start) calls
-    sharing_ws = run_words _ sharing_words sharingActs (mixed_sharing_call sources) gave
+    sharing_ws : sharing_words b ≡ state_after sharing_acts (sharing_words start) calls
+    sharing_ws = run_words _ sharing_words sharing_acts (mixed_sharing_call sources) gave
 
-    own_ws : (o : ℕ) → in_words (own_areas b o) ≡ own_of (state_after sharingActs (sharing_words start) calls) o
+    own_ws : (o : ℕ) → in_words (own_areas b o) ≡ own_of (state_after sharing_acts (sharing_words start) calls) o
     own_ws o = tenant_words o b.first b.second ∙ ap (λ (r : Sharing). own_of r o) sharing_ws
 
     module _ (small : Bytes bytes) where
-      sharing_demand : Mixed212For sharingActs (sharing_words start) (recipe bytes route) sources (sharing_collects bytes route sources) calls
+      sharing_demand : Mixed212For sharing_acts (sharing_words start) (recipe bytes route) sources (sharing_collects bytes route sources) calls
       sharing_demand =
-          subst (λ (r : Sharing). Mixed212For sharingActs r (recipe bytes route) sources (sharing_collects bytes route sources) calls) (sym (after_of fresh))
+          subst (λ (r : Sharing). Mixed212For sharing_acts r (recipe bytes route) sources (sharing_collects bytes route sources) calls) (sym (after_of fresh))
           (timed_demands.tenant_mixed_runs bytes route sources (sharing_words a) small (sym (number_of fresh)) calls)
 
       sharing_next_number : (x : MixedCall) (n : ℕ) (c : SharingAreas) → MixedCallGave bytes route sources b x n c
-          → n ≡ (sharingActs (state_after sharingActs (sharing_words start) calls) x).number
-      sharing_next_number x n c h = number_of (mixed_sharing_call sources b x n c h) ∙ ap (λ (r : Sharing). (sharingActs r x).number) sharing_ws
+          → n ≡ (sharing_acts (state_after sharing_acts (sharing_words start) calls) x).number
+      sharing_next_number x n c h = number_of (mixed_sharing_call sources b x n c h) ∙ ap (λ (r : Sharing). (sharing_acts r x).number) sharing_ws
 
       sharing_collect_is : (o : ℕ) (old grid : List ℕ) (n : ℕ) → CollectGaveFor bytes route sources b o old n grid
-          → answer n grid ≡ sharing_collects bytes route sources (state_after sharingActs (sharing_words start) calls) o old
+          → answer n grid ≡ sharing_collects bytes route sources (state_after sharing_acts (sharing_words start) calls) o old
       sharing_collect_is o old grid n h =
           collect_words bytes route sources b o old grid n h ∙ ap (λ (r : Sharing). sharing_collects bytes route sources r o old) sharing_ws
 

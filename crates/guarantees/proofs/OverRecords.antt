@@ -16,7 +16,7 @@ use Rattle.base.proofs.Numbers.{none_first, none_behind}
 use Rattle.machine.specs.Plan.{Plan, taker_of, held_by}
 use Rattle.machine.specs.Machine as machine
 use Rattle.machine.specs.Machine.{State, Answered, state_of, set_progress, after_sends, Action, gather, calculate, send, carry_out, next_action, collect_lines}
-use Rattle.machine.specs.Runs.{Event, turn_of, deliveryOf, state_after, answers_to, Demand3}
+use Rattle.machine.specs.Runs.{Event, turn_of, delivery_of, state_after, answers_to, Demand3}
 use Rattle.machine.specs.Words.{word_at, mail_at, cell_of, Does, Did, Posted}
 use Rattle.machine.proofs.RunLaws.{number_of, after_of}
 use Rattle.nest.specs.Reader.{nest_of, read_lines}
@@ -120,7 +120,7 @@ module _ (bytes : List ℕ) (route : ℕ) (source : List ℕ) (a : Areas) where
   whole_call (turn_of b) =
       let e = length_carry (recipe bytes route) source (in_words a) b _ ∙ length_words a.progress in
       whole_pick _ _ (in_words a) (length a.progress, e) whole
-  whole_call (deliveryOf m) = whole_pick _ _ (in_words a) whole whole
+  whole_call (delivery_of m) = whole_pick _ _ (in_words a) whole whole
 
 -- ---- demand 1
 
@@ -165,13 +165,13 @@ module _ (bytes : List ℕ) (route : ℕ) (source : List ℕ) where
       → answer n (in_words b) ≡ calls bytes route source (in_words a) e
   unfolding calls
   event_call a (turn_of p) n b h = h
-  event_call a (deliveryOf m) n b h = h
+  event_call a (delivery_of m) n b h = h
 
   call_event : (a b : Areas) (e : Event) (n : ℕ) → answer n (in_words b) ≡ calls bytes route source (in_words a) e
       → EventGave bytes route source a e n b
   unfolding calls
   call_event a b (turn_of p) n h = h
-  call_event a b (deliveryOf m) n h = h
+  call_event a b (delivery_of m) n h = h
 
   can_event : (a : Areas) (e : Event) → (n : ℕ) × ((b : Areas) × EventGave bytes route source a e n b)
   can_event a e =

@@ -12,9 +12,9 @@ use Rattle.base.proofs.Tests.{pick_false}
 use Rattle.machine.specs.Plan.{Plan}
 use Rattle.machine.specs.Machine as machine
 use Rattle.machine.specs.Machine.{State, Answered}
-use Rattle.machine.specs.Runs.{Event, turn_of, deliveryOf, state_after, answers_to}
+use Rattle.machine.specs.Runs.{Event, turn_of, delivery_of, state_after, answers_to}
 use Rattle.machine.proofs.RunLaws.{number_of, after_of}
-use Rattle.rounds.specs.Rounds.{Told, told, drive, rounds, roundFrom, roundsFrom, stateThen, RoundsHold}
+use Rattle.rounds.specs.Rounds.{Told, told, drive, rounds, round_from, rounds_from, state_then, RoundsHold}
 use Rattle.records.proofs.Words.{length_words}
 use Rattle.engine.specs.Calls.{answer, recipe, turn_call, deliver_call, collect_call}
 use Rattle.engine.specs.Demands.{calls}
@@ -56,7 +56,7 @@ module _ (bytes source : List ℕ) where
   call_long : (s : State) (e : Event) → length (acts s e).after.progress ≡ length s.progress
   unfolding calls turn_call deliver_call
   call_long s (turn_of b) = picked _ _ s (length_carry p source s b _)
-  call_long s (deliveryOf m) = picked _ _ s refl
+  call_long s (delivery_of m) = picked _ _ s refl
 
   run_long : (es : List Event) (s : State) → length (state_after acts s es).progress ≡ length s.progress
   unfolding state_after
@@ -67,7 +67,7 @@ module _ (bytes source : List ℕ) where
   unfolding drive
   drive_long zero r s = refl
   drive_long (suc most) r s =
-      told_long _ _ _ (length s.progress) (drive_long most (suc r) (state_after acts s (roundFrom acts p s)) ∙ run_long (roundFrom acts p s) s) refl
+      told_long _ _ _ (length s.progress) (drive_long most (suc r) (state_after acts s (round_from acts p s)) ∙ run_long (round_from acts p s) s) refl
 
   module _ (a : Areas) where
     whole_driven : Whole (rounds_call bytes source (in_words a)).after.after.progress
@@ -131,7 +131,7 @@ module _ (bytes source : List ℕ) (small : Bytes bytes) (a b : Areas) (d : Driv
   left = after_of gave
 
   abbrev then : State
-  then = stateThen (calls bytes 0 source) (collect_call bytes 0 source) (recipe bytes 0) source (rounds (recipe bytes 0))
+  then = state_then (calls bytes 0 source) (collect_call bytes 0 source) (recipe bytes 0) source (rounds (recipe bytes 0))
 
   -- the areas of a fresh start
   begun : (start : Areas) → FreshGave bytes 0 source a 0 start → in_words start ≡ machine.fresh (recipe bytes 0)
@@ -159,7 +159,7 @@ module _ (bytes source : List ℕ) (small : Bytes bytes) (a b : Areas) (d : Driv
         words_are = words_are;
         demand = hold;
         as_calls = λ start c numbers f g. (
-          all_zero numbers (length (roundsFrom (calls bytes 0 source) (recipe bytes 0) (rounds (recipe bytes 0))))
+          all_zero numbers (length (rounds_from (calls bytes 0 source) (recipe bytes 0) (rounds (recipe bytes 0))))
               (ns start c _ numbers f g ∙ hold.all_done (rounds (recipe bytes 0))),
           areas_fixed c b (ws start c _ numbers f g ∙ sym words_are),
         );

@@ -15,7 +15,7 @@ use Rattle.base.proofs.Tests.{both, true_not, pick_true, pick_false}
 use Rattle.base.proofs.Numbers.{none_first, none_behind}
 use Rattle.machine.specs.Machine as machine
 use Rattle.machine.specs.Machine.{State, Answered}
-use Rattle.machine.specs.Runs.{Event, turn_of, deliveryOf, state_after, answers_to}
+use Rattle.machine.specs.Runs.{Event, turn_of, delivery_of, state_after, answers_to}
 use Rattle.machine.proofs.RunLaws.{number_of, after_of}
 use Rattle.tenants.specs.Tenants.{TenantAreas, tenant_areas, Sharing, sharing_of, Sources, source_for, of_tenant, own_of, other_of, lent_to, returned, put_back}
 use Rattle.tenants.specs.Tenants.{carry_out_for, fresh_sharing, Call, collect_lines_for}
@@ -101,21 +101,21 @@ module _ (bytes : List ℕ) (route : ℕ) where
         → answer n (lent_words b) ≡ call_for bytes route source o (lent_words a) (flat_words theirs) e
     unfolding call_for
     tenant_call a (turn_of p) n b h = h
-    tenant_call a (deliveryOf m) n b h = h
+    tenant_call a (delivery_of m) n b h = h
 
     call_tenant : (a : LentAreas) (e : Event) (n : ℕ) (b : LentAreas)
         → answer n (lent_words b) ≡ call_for bytes route source o (lent_words a) (flat_words theirs) e
         → TenantGave bytes route source o theirs a e n b
     unfolding call_for
     call_tenant a (turn_of p) n b h = h
-    call_tenant a (deliveryOf m) n b h = h
+    call_tenant a (delivery_of m) n b h = h
 
     whole_call : (a : LentAreas) (e : Event) → Whole (call_for bytes route source o (lent_words a) (flat_words theirs) e).after.own.progress
     unfolding call_for turn_call_for deliver_call_for carry_out_for
     whole_call a (turn_of p) =
         let e = length_carry (recipe bytes route) source (in_words a.own) p _ ∙ length_words a.own.progress in
         whole_lent _ _ (lent_words a) (length a.own.progress, e) (length a.own.progress, length_words a.own.progress)
-    whole_call a (deliveryOf m) =
+    whole_call a (delivery_of m) =
         let w : Whole (flat_words a.own.progress) = (length a.own.progress, length_words a.own.progress) in
         whole_lent _ _ (lent_words a) w w
 

@@ -10,7 +10,7 @@ use Rattle.base.specs.Lists.{member, sublist, put, set_all, all_at, unpack, pack
 use Rattle.base.specs.Numbers.{first_of}
 use Rattle.machine.specs.Plan.{Plan, offset}
 use Rattle.machine.specs.Machine.{State, Answered, set_progress, tiles_left, fit_record, fit, unpack_all, after_sends, carry_out, action_at, waiting, fresh}
-use Rattle.machine.specs.Runs.{Event, turn_of, deliveryOf, state_after}
+use Rattle.machine.specs.Runs.{Event, turn_of, delivery_of, state_after}
 use Rattle.machine.proofs.Fresh.{inv_fresh}
 use Rattle.machine.proofs.RunLaws.{number_of, same_end}
 use Rattle.tenants.specs.Tenants.{stage_agrees, fit_word, fit_for, held_by_other, freed_after, engaged_after, carry_out_for, turn_for, deliver_for, act_for, act_on}
@@ -135,7 +135,7 @@ gives c z =
 
 unfoldable is_turn : Event → Bool
 is_turn (turn_of b) = true
-is_turn (deliveryOf m) = false
+is_turn (delivery_of m) = false
 
 different : (r : Sharing) → DifferentFor wholly p r (delivery_by 0 0) (turn_by 1 0)
 unfolding is_turn

@@ -7,7 +7,7 @@ use Rattle.base.specs.Lists.{Bytes, sublist, pack}
 use Rattle.base.specs.Numbers.{first_of}
 use Rattle.machine.specs.Plan.{Plan, count, held_by}
 use Rattle.machine.specs.Machine.{place_of, Answered}
-use Rattle.machine.specs.Runs.{turn_of, deliveryOf, last, answers, steps_in}
+use Rattle.machine.specs.Runs.{turn_of, delivery_of, last, answers, steps_in}
 use Rattle.layout.specs.RouteWords.{route_of}
 use Rattle.recipe.specs.Routes.{lines_for}
 use Rattle.engine.specs.Calls.{answer, recipe, collect_call}
@@ -74,7 +74,7 @@ module _ (bytes : List ℕ) (route : ℕ) where
   BoardGave sources x (turn_at b) n y =
       CallAt plan.processors b (λ a k c. EventGave bytes route (sources b) a (turn_of b) k c) [] x n y
   BoardGave sources x (post_at b m) n y =
-      CallAt plan.processors b (λ a k c. EventGave bytes route (sources b) a (deliveryOf m) k c)
+      CallAt plan.processors b (λ a k c. EventGave bytes route (sources b) a (delivery_of m) k c)
       (new_packet n m (place_of plan (x.areas b).buffer m)) x n y
   BoardGave sources x (brought_to b m ws) n y = CallAt plan.processors b (λ a. TakeInGave bytes route (sources b) a b m ws) [] x n y
 

@@ -95,8 +95,8 @@ module _ (bytes : List ℕ) (route : ℕ) (source : List ℕ) (start : Areas) (e
 -- calls of both tenants in any order, each turn with hours of its own
 module _ (bytes : List ℕ) (route : ℕ) (sources : Sources) (start : SharingAreas) (calls : List TimedCall) (numbers : List ℕ) (b : SharingAreas) where
   -- how many steps of tenant o there were
-  abbrev pub stepsAtOf : ℕ → ℕ
-  stepsAtOf o = steps_in (answers_of o (map call_of calls) numbers)
+  abbrev pub steps_at_of : ℕ → ℕ
+  steps_at_of o = steps_in (answers_of o (map call_of calls) numbers)
 
   pub data NextCall (table : List ℕ) : Type 0 where
     by_mail : (o m : ℕ) → Gives (TimedCallGave bytes route sources) b (mail_by o m) → NextCall table
@@ -119,13 +119,13 @@ module _ (bytes : List ℕ) (route : ℕ) (sources : Sources) (start : SharingAr
     pub goes_on : (table : List ℕ) → Faultless (recipe bytes route) table
         → ((o p : ℕ) → o ≤ 1 → p < (recipe bytes route).processors → tiles_left (recipe bytes route) (in_words (own_areas b o)) p ≡ true
         → OpensSometime table p)
-        → (stepsAtOf 0 < total (recipe bytes route)) ⊎ (stepsAtOf 1 < total (recipe bytes route)) → NextCall table
+        → (steps_at_of 0 < total (recipe bytes route)) ⊎ (steps_at_of 1 < total (recipe bytes route)) → NextCall table
     pub then_fewer : (c : TimedCall) (d : SharingAreas) → TimedCallGave bytes route sources b c 0 d
-        → (stepsAtOf 0 < total (recipe bytes route)) ⊎ (stepsAtOf 1 < total (recipe bytes route))
+        → (steps_at_of 0 < total (recipe bytes route)) ⊎ (steps_at_of 1 < total (recipe bytes route))
     pub only_hours : (table : List ℕ) → Faultless (recipe bytes route) table
-        → (stepsAtOf 0 < total (recipe bytes route)) ⊎ (stepsAtOf 1 < total (recipe bytes route)) → NextOpenFor table
+        → (steps_at_of 0 < total (recipe bytes route)) ⊎ (steps_at_of 1 < total (recipe bytes route)) → NextOpenFor table
     pub collects : (o : ℕ) → o ≤ 1 → (old grid : List ℕ) (n : ℕ) → length old ≡ (recipe bytes route).cells
-        → CollectGaveFor bytes route sources b o old n grid → (n ≡ 0) ↔ (stepsAtOf o ≡ total (recipe bytes route))
+        → CollectGaveFor bytes route sources b o old n grid → (n ≡ 0) ↔ (steps_at_of o ≡ total (recipe bytes route))
     pub grid : (o : ℕ) → o ≤ 1 → (old grid : List ℕ) → CollectGaveFor bytes route sources b o old 0 grid
         → grid ≡ machine.sweep (recipe bytes route) (source_for sources o)
 

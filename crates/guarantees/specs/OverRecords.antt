@@ -7,7 +7,7 @@ use Rattle.base.specs.Numbers.{Line, first_of}
 use Rattle.machine.specs.Plan.{taker_of, held_by, dues_of}
 use Rattle.machine.specs.Machine as machine
 use Rattle.machine.specs.Machine.{State, Action, gather, send, state_of, carry_out, next_action, collected}
-use Rattle.machine.specs.Runs.{Event, turn_of, deliveryOf, last, answers, total, program, turns_of, steps_in, Demand3}
+use Rattle.machine.specs.Runs.{Event, turn_of, delivery_of, last, answers, total, program, turns_of, steps_in, Demand3}
 use Rattle.machine.specs.Words.{word_at, mail_at, cell_of, Does}
 use Rattle.nest.specs.Nest.{cells}
 use Rattle.nest.specs.Shape.{in_shape}
@@ -53,7 +53,7 @@ pub record FixedCalls (bytes : List ℕ) (route : ℕ) (source : List ℕ) : Typ
   pub turn : (a b : Areas) (p n : ℕ) → EventGave bytes route source a (turn_of p) n b
       → FixedAreas (turn_call_lines bytes route source (in_words a) p)
       (carry_out (recipe bytes route) source (in_words a) p (next_action (recipe bytes route) (in_words a) p)) a n b
-  pub deliver : (a b : Areas) (m n : ℕ) → EventGave bytes route source a (deliveryOf m) n b
+  pub deliver : (a b : Areas) (m n : ℕ) → EventGave bytes route source a (delivery_of m) n b
       → FixedAreas (deliver_call_lines bytes route source (in_words a) m)
       (state_of a.memories a.buffer (flat_words a.progress) (set a.status m 2)) a n b
   pub collect : (a : Areas) (old grid : List ℕ) (n : ℕ) → CollectGave bytes route source a old n grid

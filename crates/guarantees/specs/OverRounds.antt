@@ -5,7 +5,7 @@ use Rattle.std.specs.Prelude.{ℕ, ◌≤◌, ◌<◌, ◌≡◌, ◌≢◌, Boo
 use Rattle.base.specs.Lists.{Bytes}
 use Rattle.machine.specs.Machine as machine
 use Rattle.machine.specs.Runs.{total, steps_in}
-use Rattle.rounds.specs.Rounds.{told, drive, rounds, rounds_to, tile_round, roundsFrom, roundsOfOther, stateThen, RoundsHold}
+use Rattle.rounds.specs.Rounds.{told, drive, rounds, rounds_to, tile_round, rounds_from, rounds_of_other, state_then, RoundsHold}
 use Rattle.engine.specs.Calls.{answer, recipe, fresh_call_lines, collect_call}
 use Rattle.engine.specs.Demands.{Fixed, calls}
 use Rattle.schedule.specs.declared.Driven.{Driven}
@@ -38,15 +38,15 @@ module _ (bytes source : List ℕ) (a b : Areas) (d : Driven) where
     -- said of rounds holds
     pub tells : d.rounds ≡ rounds (recipe bytes 0)
     pub words_are : in_words b
-        ≡ stateThen (calls bytes 0 source) (collect_call bytes 0 source) (recipe bytes 0) source (rounds (recipe bytes 0))
+        ≡ state_then (calls bytes 0 source) (collect_call bytes 0 source) (recipe bytes 0) source (rounds (recipe bytes 0))
     pub demand : RoundsHold (calls bytes 0 source) (collect_call bytes 0 source) (recipe bytes 0) source
     -- the same rounds as single calls from a fresh start: each gives 0, and they leave the very areas
     pub as_calls : (start c : Areas) (numbers : List ℕ) → FreshGave bytes 0 source a 0 start
-        → EventsGave bytes 0 source start (roundsFrom (calls bytes 0 source) (recipe bytes 0) (rounds (recipe bytes 0))) numbers c
+        → EventsGave bytes 0 source start (rounds_from (calls bytes 0 source) (recipe bytes 0) (rounds (recipe bytes 0))) numbers c
         → (numbers ≡ replicate (length numbers) 0) × (c ≡ b)
     -- another driver by whole tiles, with single calls, that ends the run takes no fewer rounds
     pub no_sooner : (who : ℕ → ℕ → Bool) (r : ℕ) (start c : Areas) (numbers : List ℕ) → FreshGave bytes 0 source a 0 start
-        → EventsGave bytes 0 source start (roundsOfOther (calls bytes 0 source) (recipe bytes 0) who r) numbers c
+        → EventsGave bytes 0 source start (rounds_of_other (calls bytes 0 source) (recipe bytes 0) who r) numbers c
         → steps_in numbers ≡ total (recipe bytes 0) → rounds (recipe bytes 0) ≤ r
     -- collecting then gives the sweep
     pub collects : (old grid : List ℕ) (n : ℕ) → length old ≡ (recipe bytes 0).cells → CollectGave bytes 0 source b old n grid

@@ -6,7 +6,7 @@ use Rattle.base.specs.Lists.{Bytes, sublist}
 use Rattle.base.specs.Numbers.{Line}
 use Rattle.machine.specs.Machine as machine
 use Rattle.machine.specs.Machine.{next_action, collected}
-use Rattle.machine.specs.Runs.{turn_of, deliveryOf, last, answers, total, steps_in}
+use Rattle.machine.specs.Runs.{turn_of, delivery_of, last, answers, total, steps_in}
 use Rattle.tenants.specs.Tenants.{TenantAreas, Sharing, Sources, source_for, of_tenant, carry_out_for, delivered_for, fresh_sharing, Call}
 use Rattle.tenants.specs.Demand208.{events_of, answers_of, Demand208}
 use Rattle.records.specs.declared.Progress.{Progress}
@@ -63,7 +63,7 @@ pub record FixedTenant (bytes : List ℕ) (route : ℕ) : Type 0 where
       → FixedLent (turn_call_lines_for bytes route source o (lent_words a) (flat_words theirs) p)
       (carry_out_for (recipe bytes route) source o (lent_words a) p (next_action (recipe bytes route) (lent_words a).own p)) a n b
   pub deliver : (source : List ℕ) (o : ℕ) (theirs : List Progress) (a b : LentAreas) (m n : ℕ)
-      → TenantGave bytes route source o theirs a (deliveryOf m) n b
+      → TenantGave bytes route source o theirs a (delivery_of m) n b
       → FixedLent (deliver_call_lines_for bytes route source o (lent_words a) (flat_words theirs) m) (delivered_for (lent_words a) m) a n b
   pub collect : (source : List ℕ) (o : ℕ) (theirs : List Progress) (a : LentAreas) (old grid : List ℕ) (n : ℕ)
       → TenantCollectGave bytes route source o theirs a old n grid

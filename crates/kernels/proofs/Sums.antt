@@ -236,13 +236,13 @@ made_line n firsts backs weights boundary shift source c a from all k f l y =
 
 -- ---- the taps that are left where some read nowhere
 
-pub record Resting (n : ℕ) (firsts backs weights : List ℕ) (boundary : ℕ) (leftBacks leftWeights : List ℕ) (outside k : ℕ) : Type 0 where
+pub record Resting (n : ℕ) (firsts backs weights : List ℕ) (boundary : ℕ) (left_backs left_weights : List ℕ) (outside k : ℕ) : Type 0 where
   pub low : k ≤ n
-  pub long_backs : length leftBacks ≡ 8
-  pub long_weights : length leftWeights ≡ 8
-  pub no_backs : (i : ℕ) → k ≤ i → get_or leftBacks i 0 ≡ 0
-  pub no_weights : (i : ℕ) → k ≤ i → get_or leftWeights i 0 ≡ 0
-  pub so : Rested k firsts backs weights boundary leftBacks leftWeights outside
+  pub long_backs : length left_backs ≡ 8
+  pub long_weights : length left_weights ≡ 8
+  pub no_backs : (i : ℕ) → k ≤ i → get_or left_backs i 0 ≡ 0
+  pub no_weights : (i : ℕ) → k ≤ i → get_or left_weights i 0 ≡ 0
+  pub so : Rested k firsts backs weights boundary left_backs left_weights outside
 
 -- one place more of a list is as it should be
 next_is : (g : ℕ → ℕ) (l : List ℕ) (k : ℕ) → get_or l k 0 ≡ g k → ((i : ℕ) → i < k → get_or l i 0 ≡ g i) → (i : ℕ) → i < k + 1 → get_or l i 0 ≡ g i
@@ -270,13 +270,13 @@ module _ (n : ℕ) (firsts backs weights : List ℕ) (boundary : ℕ) where
         so = record { back = λ k h. absurd (omega arith); weight = λ k h. absurd (omega arith); few = omega arith; is = refl };
       }
 
-  module _ (leftBacks leftWeights : List ℕ) (outside k : ℕ) (s : Resting n firsts backs weights boundary leftBacks leftWeights outside k) (low : n ≤ 8)
+  module _ (left_backs left_weights : List ℕ) (outside k : ℕ) (s : Resting n firsts backs weights boundary left_backs left_weights outside k) (low : n ≤ 8)
       (h : k < n) where
     pub resting_fits : get_or weights k 0 < 65536 → boundary < 4294967296 → outside + get_or weights k 0 * boundary ≤ (k + 1) * 281470681677825
     resting_fits light beyond = omega (arith, s.so.few, weighs (get_or weights k 0) boundary light beyond)
 
     pub resting_skip : get_or firsts k 0 ≡ 1024 → get_or weights k 0 < 65536 → boundary < 4294967296
-        → Resting n firsts backs weights boundary leftBacks leftWeights (outside + get_or weights k 0 * boundary) (k + 1)
+        → Resting n firsts backs weights boundary left_backs left_weights (outside + get_or weights k 0 * boundary) (k + 1)
     unfolding sum
     resting_skip e light beyond =
         let t = eq-eqb (get_or firsts k 0) 1024 e in
@@ -290,18 +290,18 @@ module _ (n : ℕ) (firsts backs weights : List ℕ) (boundary : ℕ) where
           no_weights = λ i q. s.no_weights i (omega arith);
           so = record {
             back =
-                next_is (λ i. pick (eqb (get_or firsts i 0) 1024) 0 (get_or backs i 0)) leftBacks k (s.no_backs k (omega arith)
+                next_is (λ i. pick (eqb (get_or firsts i 0) 1024) 0 (get_or backs i 0)) left_backs k (s.no_backs k (omega arith)
                 ∙ sym (pick_true (eqb (get_or firsts k 0) 1024) 0 (get_or backs k 0) t)) s.so.back;
             weight =
-                next_is (λ i. pick (eqb (get_or firsts i 0) 1024) 0 (get_or weights i 0)) leftWeights k (s.no_weights k (omega arith)
+                next_is (λ i. pick (eqb (get_or firsts i 0) 1024) 0 (get_or weights i 0)) left_weights k (s.no_weights k (omega arith)
                 ∙ sym (pick_true (eqb (get_or firsts k 0) 1024) 0 (get_or weights k 0) t)) s.so.weight;
             few = resting_fits light beyond;
             is = rw (add-one k) (ap (λ (a : ℕ). outside + a * boundary) (sym z) ∙ omega (arith, s.so.is));
           };
         }
 
-    pub resting_take : get_or firsts k 0 ≢ 1024 → Resting n firsts backs weights boundary (set leftBacks k (get_or backs k 0))
-        (set leftWeights k (get_or weights k 0)) outside (k + 1)
+    pub resting_take : get_or firsts k 0 ≢ 1024 → Resting n firsts backs weights boundary (set left_backs k (get_or backs k 0))
+        (set left_weights k (get_or weights k 0)) outside (k + 1)
     unfolding sum
     resting_take ne =
         let t = ne_eqb (get_or firsts k 0) 1024 ne in
@@ -311,27 +311,27 @@ module _ (n : ℕ) (firsts backs weights : List ℕ) (boundary : ℕ) where
         ∙ zero-mul boundary in
         record {
           low = omega arith;
-          long_backs = length-set leftBacks k (get_or backs k 0) ∙ s.long_backs;
-          long_weights = length-set leftWeights k (get_or weights k 0) ∙ s.long_weights;
-          no_backs = λ i q. get_or-set_other leftBacks k i (get_or backs k 0) 0 (λ e. omega arith) ∙ s.no_backs i (omega arith);
-          no_weights = λ i q. get_or-set_other leftWeights k i (get_or weights k 0) 0 (λ e. omega arith) ∙ s.no_weights i (omega arith);
+          long_backs = length-set left_backs k (get_or backs k 0) ∙ s.long_backs;
+          long_weights = length-set left_weights k (get_or weights k 0) ∙ s.long_weights;
+          no_backs = λ i q. get_or-set_other left_backs k i (get_or backs k 0) 0 (λ e. omega arith) ∙ s.no_backs i (omega arith);
+          no_weights = λ i q. get_or-set_other left_weights k i (get_or weights k 0) 0 (λ e. omega arith) ∙ s.no_weights i (omega arith);
           so = record {
-            back = next_is (λ i. pick (eqb (get_or firsts i 0) 1024) 0 (get_or backs i 0)) (set leftBacks k (get_or backs k 0)) k
-                (get_or-set_same leftBacks k (get_or backs k 0) 0 (omega (arith, s.long_backs))
+            back = next_is (λ i. pick (eqb (get_or firsts i 0) 1024) 0 (get_or backs i 0)) (set left_backs k (get_or backs k 0)) k
+                (get_or-set_same left_backs k (get_or backs k 0) 0 (omega (arith, s.long_backs))
                 ∙ sym (pick_false (eqb (get_or firsts k 0) 1024) 0 (get_or backs k 0) t))
-                (λ i q. get_or-set_other leftBacks k i (get_or backs k 0) 0 (λ e. omega arith) ∙ s.so.back i q);
-            weight = next_is (λ i. pick (eqb (get_or firsts i 0) 1024) 0 (get_or weights i 0)) (set leftWeights k (get_or weights k 0)) k
-                (get_or-set_same leftWeights k (get_or weights k 0) 0 (omega (arith, s.long_weights))
+                (λ i q. get_or-set_other left_backs k i (get_or backs k 0) 0 (λ e. omega arith) ∙ s.so.back i q);
+            weight = next_is (λ i. pick (eqb (get_or firsts i 0) 1024) 0 (get_or weights i 0)) (set left_weights k (get_or weights k 0)) k
+                (get_or-set_same left_weights k (get_or weights k 0) 0 (omega (arith, s.long_weights))
                 ∙ sym (pick_false (eqb (get_or firsts k 0) 1024) 0 (get_or weights k 0) t))
-                (λ i q. get_or-set_other leftWeights k i (get_or weights k 0) 0 (λ e. omega arith) ∙ s.so.weight i q);
+                (λ i q. get_or-set_other left_weights k i (get_or weights k 0) 0 (λ e. omega arith) ∙ s.so.weight i q);
             few = omega (arith, s.so.few);
             is = rw (add-one k) (omega (arith, s.so.is, y));
           };
         }
 
-  pub resting_end : (leftBacks leftWeights : List ℕ) (outside k : ℕ) → Resting n firsts backs weights boundary leftBacks leftWeights outside k → n ≤ k
-      → Rested n firsts backs weights boundary leftBacks leftWeights outside
-  resting_end leftBacks leftWeights outside k s h = let z : k ≡ n = omega (arith, s.low) in rw z at s.so
+  pub resting_end : (left_backs left_weights : List ℕ) (outside k : ℕ) → Resting n firsts backs weights boundary left_backs left_weights outside k → n ≤ k
+      → Rested n firsts backs weights boundary left_backs left_weights outside
+  resting_end left_backs left_weights outside k s h = let z : k ≡ n = omega (arith, s.low) in rw z at s.so
 
 -- what tap gives, in the two parts
 tap_split : (t : Bool) (f w b a boundary c : ℕ) (m : List ℕ) → eqb f 1024 ≡ t → a < 1024 → (f ≢ 1024 → f ≤ a)
@@ -346,8 +346,8 @@ tap_split false f w b a boundary c m e h l =
     let y : w - w ≡ 0 = omega arith in
     rw (pick_true (leb f a) (get_or m (c - b) 0) boundary (le-leb f a (l z)), y, zero-mul) (omega arith)
 
-module _ (n : ℕ) (firsts backs weights : List ℕ) (boundary shift : ℕ) (source leftBacks leftWeights : List ℕ) (outside : ℕ)
-    (r : Rested n firsts backs weights boundary leftBacks leftWeights outside)
+module _ (n : ℕ) (firsts backs weights : List ℕ) (boundary shift : ℕ) (source left_backs left_weights : List ℕ) (outside : ℕ)
+    (r : Rested n firsts backs weights boundary left_backs left_weights outside)
     (from : ℕ) (all : AllOrNone n firsts from) where
   reads_there : (a k : ℕ) → from ≤ a → k < n → get_or firsts k 0 ≢ 1024 → get_or firsts k 0 ≤ a
   reads_there a k h l ne = go (all k l)
@@ -356,15 +356,15 @@ module _ (n : ℕ) (firsts backs weights : List ℕ) (boundary shift : ℕ) (sou
       go (inl q) = omega arith
       go (inr q) = absurd (ne q)
 
-  rest_mixed : (a : ℕ) → from ≤ a → a < 1024 → (m : List ℕ) (c : ℕ) → made n leftBacks leftWeights outside shift source m c ≡ mixed n firsts backs weights
+  rest_mixed : (a : ℕ) → from ≤ a → a < 1024 → (m : List ℕ) (c : ℕ) → made n left_backs left_weights outside shift source m c ≡ mixed n firsts backs weights
       boundary shift source a m c
   unfolding made mixed
   rest_mixed a h l m c = ap (λ (b : ℕ). b / 2 ^ shift % 4294967296) total
     where
-      left : sum (λ k. get_or leftWeights k 0 * get_or m (c - get_or leftBacks k 0) 0) n
+      left : sum (λ k. get_or left_weights k 0 * get_or m (c - get_or left_backs k 0) 0) n
           ≡ sum (λ k. pick (eqb (get_or firsts k 0) 1024) 0 (get_or weights k 0) * get_or m (c - pick (eqb (get_or firsts k 0) 1024) 0 (get_or backs k 0)) 0) n
       left =
-          sum_same _ _ n (λ k i. ap (λ (b : ℕ). b * get_or m (c - get_or leftBacks k 0) 0) (r.weight k i)
+          sum_same _ _ n (λ k i. ap (λ (b : ℕ). b * get_or m (c - get_or left_backs k 0) 0) (r.weight k i)
           ∙ ap (λ (b : ℕ). pick (eqb (get_or firsts k 0) 1024) 0 (get_or weights k 0) * get_or m (c - b) 0) (r.back k i))
 
       each : sum (λ k. (get_or weights k 0 - pick (eqb (get_or firsts k 0) 1024) 0 (get_or weights k 0)) * boundary
@@ -374,7 +374,7 @@ module _ (n : ℕ) (firsts backs weights : List ℕ) (boundary shift : ℕ) (sou
           sum_same _ _ n (λ k i. tap_split (eqb (get_or firsts k 0) 1024) (get_or firsts k 0) (get_or weights k 0) (get_or backs k 0) a boundary c m refl l
           (reads_there a k h i))
 
-      total : outside + get_or source c 0 + sum (λ k. get_or leftWeights k 0 * get_or m (c - get_or leftBacks k 0) 0) n
+      total : outside + get_or source c 0 + sum (λ k. get_or left_weights k 0 * get_or m (c - get_or left_backs k 0) 0) n
           ≡ get_or source c 0 + sum (λ k. get_or weights k 0 * pick (leb (get_or firsts k 0) a) (get_or m (c - get_or backs k 0) 0) boundary) n
       total = omega (
         arith,
@@ -386,12 +386,12 @@ module _ (n : ℕ) (firsts backs weights : List ℕ) (boundary shift : ℕ) (sou
       )
 
   pub rest_line : (c a width : ℕ) → a + width ≤ 1024 → (k : ℕ) → from ≤ a + k → (l : List ℕ) (y : ℕ) → y < width - k
-      → made n leftBacks leftWeights outside shift source l (c + k + y) ≡ in_line n firsts backs weights boundary shift source c a l (c + k + y)
+      → made n left_backs left_weights outside shift source l (c + k + y) ≡ in_line n firsts backs weights boundary shift source c a l (c + k + y)
   rest_line c a width w k f l y i = rest_mixed (a + (c + k + y - c)) (omega arith) (omega arith) l (c + k + y)
 
   pub rest_fits : (c a span sources words : ℕ) → Mixes n firsts backs weights boundary shift c a span sources words → (y words' : ℕ) → y < span
       → from ≤ a + y → words' ≡ words
-      → Fits n leftBacks leftWeights outside shift (c + y) (span - y) sources words'
+      → Fits n left_backs left_weights outside shift (c + y) (span - y) sources words'
   rest_fits c a span sources words p y words' h f e =
       record {
         few = p.few;

@@ -61,9 +61,9 @@ abbrev pub Light : ℕ → List ℕ → Type 0
 Light n weights = (k : ℕ) → k < n → get_or weights k 0 < 65536
 
 -- taps that read nowhere weigh nothing; what they add is besides
-pub record Rested (n : ℕ) (firsts backs weights : List ℕ) (boundary : ℕ) (leftBacks leftWeights : List ℕ) (outside : ℕ) : Type 0 where
-  pub back : (k : ℕ) → k < n → get_or leftBacks k 0 ≡ pick (eqb (get_or firsts k 0) 1024) 0 (get_or backs k 0)
-  pub weight : (k : ℕ) → k < n → get_or leftWeights k 0 ≡ pick (eqb (get_or firsts k 0) 1024) 0 (get_or weights k 0)
+pub record Rested (n : ℕ) (firsts backs weights : List ℕ) (boundary : ℕ) (left_backs left_weights : List ℕ) (outside : ℕ) : Type 0 where
+  pub back : (k : ℕ) → k < n → get_or left_backs k 0 ≡ pick (eqb (get_or firsts k 0) 1024) 0 (get_or backs k 0)
+  pub weight : (k : ℕ) → k < n → get_or left_weights k 0 ≡ pick (eqb (get_or firsts k 0) 1024) 0 (get_or weights k 0)
   pub few : outside ≤ n * 281470681677825
   pub is : outside ≡ sum (λ k. (get_or weights k 0 - pick (eqb (get_or firsts k 0) 1024) 0 (get_or weights k 0)) * boundary) n
 

@@ -152,10 +152,10 @@ module _ (x : Nest) (ok : Accepted x) where
   -- ---- the direct route
 
   module _ (t v c : ℕ) (lt : t < box_tiles x) (lc : c < cells x) where
-    abbrev directTest : Bool
-    directTest = among x (direct_box x t) (cell_place x c) and comes_into x (direct_window x t v) (cell_place x c)
+    abbrev direct_test : Bool
+    direct_test = among x (direct_box x t) (cell_place x c) and comes_into x (direct_window x t v) (cell_place x c)
 
-    direct_there : crosses x t v c ≡ true → directTest ≡ true
+    direct_there : crosses x t v c ≡ true → direct_test ≡ true
     direct_there h =
         let k = crosses_held x t v c lc h in
         let g = k.1 in
@@ -166,7 +166,7 @@ module _ (x : Nest) (ok : Accepted x) where
         (comes_by x (direct_window x t v) _ k.0 g.distance
         (window_all _ _ _ g.stays (λ j s. (omega (arith, g.steps j s), omega (arith, g.steps j s)))))
 
-    direct_back : directTest ≡ true → crosses x t v c ≡ true
+    direct_back : direct_test ≡ true → crosses x t v c ≡ true
     direct_back h =
         let b = both h in
         let k = comes_at x (direct_window x t v) (cell_place x c) b.1 in
@@ -178,8 +178,8 @@ module _ (x : Nest) (ok : Accepted x) where
           steps = λ j s. let p = window_at _ _ _ k.2 j s in omega (arith, p.0, p.1);
         })
 
-    pub direct_test : crosses x t v c ≡ directTest
-    direct_test = same_test direct_there direct_back
+    pub direct_test_lem : crosses x t v c ≡ direct_test
+    direct_test_lem = same_test direct_there direct_back
 
   -- ---- the indirect route
 
@@ -209,16 +209,16 @@ module _ (x : Nest) (ok : Accepted x) where
       moved_least : (j : ℕ) → j < x.spread → tile_place x t j + one (eqb j q) ≤ (cell_place x c j + component x e j) / tile_length x j
       moved_most : (j : ℕ) → j < x.spread → (cell_place x c j + component x e j) / tile_length x j ≤ tile_place x t j + one (leb q j)
 
-    abbrev indirectTest : Bool
-    indirectTest = among x (indirect_box x t q) (cell_place x c) and comes_into x (indirect_window x t q) (cell_place x c)
+    abbrev indirect_test : Bool
+    indirect_test = among x (indirect_box x t q) (cell_place x c) and comes_into x (indirect_window x t q) (cell_place x c)
 
-    spans_there : (e : ℕ) → e < x.distances → Spans e → indirectTest ≡ true
+    spans_there : (e : ℕ) → e < x.distances → Spans e → indirect_test ≡ true
     spans_there e le s =
         and_true
         (box_all _ _ (cell_place x c) (cell_place_low x ok c) (λ j l. (s.least j l, s.most j l)))
         (comes_by x (indirect_window x t q) _ e le (window_all _ _ _ s.moved (λ j k. (s.moved_least j k, s.moved_most j k))))
 
-    spans_back : indirectTest ≡ true → (e : ℕ) × (e < x.distances) × Spans e
+    spans_back : indirect_test ≡ true → (e : ℕ) × (e < x.distances) × Spans e
     spans_back h =
         let b = both h in
         let k = comes_at x (indirect_window x t q) (cell_place x c) b.1 in (
@@ -333,8 +333,8 @@ module _ (x : Nest) (ok : Accepted x) where
             });
           }
 
-    pub indirect_test : some (passes x t q c) (directions x + 1) ≡ indirectTest
-    indirect_test =
+    pub indirect_test_lem : some (passes x t q c) (directions x + 1) ≡ indirect_test
+    indirect_test_lem =
         same_test
         (λ h. let k = some_at (passes x t q c) (directions x + 1) h in
         let p = passes_passed x t q c k.0 lc (omega (arith, k.1)) k.2 in
@@ -349,9 +349,9 @@ module _ (x : Nest) (ok : Accepted x) where
       → slot_cells r x s ≡ keep (λ c. among x (slot_box r x s) (cell_place x c) and comes_into x (slot_window r x s) (cell_place x c)) (cells x)
   unfolding slot_cells parcel passed
   slot_among Direct s l = keep_same _ _ (cells x)
-      (λ c h. direct_test (slot_tile Direct x s) (slot_direction x s) c (slot_tile_low x Direct s l) h)
+      (λ c h. direct_test_lem (slot_tile Direct x s) (slot_direction x s) c (slot_tile_low x Direct s l) h)
   slot_among Indirect s l = keep_same _ _ (cells x)
-      (λ c h. indirect_test (slot_tile Indirect x s) (slot_dimension x s) c (slot_tile_low x Indirect s l) (slot_dimension_low x s l) h)
+      (λ c h. indirect_test_lem (slot_tile Indirect x s) (slot_dimension x s) c (slot_tile_low x Indirect s l) (slot_dimension_low x s l) h)
 
   -- a slot's box has a cell, and lies inside the nest
   pub slot_box_fits : (r : Route) (s j : ℕ) → s < slots r x → j < x.dimensions

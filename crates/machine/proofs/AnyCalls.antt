@@ -11,9 +11,9 @@ use Rattle.base.specs.Tests.{pick}
 use Rattle.base.proofs.Tests.{never_both}
 use Rattle.machine.specs.Plan.{Plan, Sound, taker_of}
 use Rattle.machine.specs.Machine.{State, Answered, Action, gather, send, next_action, collect, fresh}
-use Rattle.machine.specs.Runs.{Event, turn_of, deliveryOf, act, state_after, answers_to, total, program, turns_of, CarriedOut, Demand3, steps}
+use Rattle.machine.specs.Runs.{Event, turn_of, delivery_of, act, state_after, answers_to, total, program, turns_of, CarriedOut, Demand3, steps}
 use Rattle.machine.specs.Words.{Does, Did, Posted}
-use Rattle.machine.specs.AnyCalls.{View, events_in, numbers_in, whole, mixed, either, numbers_of, steps_of, ownAfter, ownThen, turnsIn}
+use Rattle.machine.specs.AnyCalls.{View, events_in, numbers_in, whole, mixed, either, numbers_of, steps_of, own_after, own_then, turns_in}
 use Rattle.machine.specs.AnyCalls.{TurnIn, DidIn, Demand3In, PostedIn, WordsIn, Alone}
 use Rattle.machine.proofs.Fit.{numbers}
 use Rattle.machine.proofs.Kept.{Inv}
@@ -72,19 +72,19 @@ module _ {S X : Type 0} (p : Plan) (so : Sound p) (source : List ℕ) (Good : S 
       passed : List Event
       passed = (seen calls start Good-start).0
 
-      ran : M (fresh p) (events_in v calls) (numbers_of v acts start calls) passed (ownAfter v acts start calls)
+      ran : M (fresh p) (events_in v calls) (numbers_of v acts start calls) passed (own_after v acts start calls)
       unfolding passed
       ran =
-          subst (λ (y : State). M y (events_in v calls) (numbers_of v acts start calls) (seen calls start Good-start).0 (ownAfter v acts start calls))
+          subst (λ (y : State). M y (events_in v calls) (numbers_of v acts start calls) (seen calls start Good-start).0 (own_after v acts start calls))
           fresh_start (seen calls start Good-start).1
 
-      led_to : state_after (act p source) (fresh p) passed ≡ ownAfter v acts start calls
+      led_to : state_after (act p source) (fresh p) passed ≡ own_after v acts start calls
       led_to = ends (act p source) ran
 
       same_steps : steps (act p source) (fresh p) passed ≡ steps_of v acts start calls
       same_steps = steps_same (act p source) ran
 
-      same_turns : (b : ℕ) → turnsIn v acts start calls b ≡ turns_of b passed (answers_to (act p source) (fresh p) passed)
+      same_turns : (b : ℕ) → turns_in v acts start calls b ≡ turns_of b passed (answers_to (act p source) (fresh p) passed)
       same_turns b = turns_same (act p source) b ran
 
       single : Demand3 (act p source) (fresh p) passed p source (collect p)
@@ -95,10 +95,10 @@ module _ {S X : Type 0} (p : Plan) (so : Sound p) (source : List ℕ) (Good : S 
         gives : (act p source (state_after (act p source) (fresh p) passed) (turn_of b)).number ≡ 0
         gives = rw (led_to, sym t.turn) (fo.number _ good x t.ours t.gave)
 
-        leaves : ownThen v acts start calls x ≡ (act p source (state_after (act p source) (fresh p) passed) (turn_of b)).after
+        leaves : own_then v acts start calls x ≡ (act p source (state_after (act p source) (fresh p) passed) (turn_of b)).after
         leaves = rw (led_to, sym t.turn) (fo.after _ good x t.ours t.gave)
 
-        carried : CarriedOut p source (ownAfter v acts start calls) (ownThen v acts start calls x) b (turnsIn v acts start calls b)
+        carried : CarriedOut p source (own_after v acts start calls) (own_then v acts start calls x) b (turns_in v acts start calls b)
         carried =
             rw (same_turns b, leaves, sym led_to) ((theorem p so source (passed ++ (turn_of b ∷ []))).carried_out passed [] b refl gives)
 
@@ -106,7 +106,7 @@ module _ {S X : Type 0} (p : Plan) (so : Sound p) (source : List ℕ) (Good : S 
         as_did : Did (act p source) (fresh p) p passed b a
         as_did = record { gave = gives x b d.turn; named = ap (λ (k : ℕ). get_or (program p b) k (gather 0)) (sym (same_turns b)) ∙ d.named }
 
-        does : Does p source (ownAfter v acts start calls) (ownThen v acts start calls x) b a
+        does : Does p source (own_after v acts start calls) (own_then v acts start calls x) b a
         does = rw (leaves x b d.turn, sym led_to) (did p so source passed b a as_did)
 
     -- ---- message m, sent by the call x after the calls `before`
@@ -128,7 +128,7 @@ module _ {S X : Type 0} (p : Plan) (so : Sound p) (source : List ℕ) (Good : S 
         abbrev events : List Event
         events = passed before ++ (turn_of b ∷ rest)
 
-        there : state_after (act p source) (fresh p) events ≡ ownAfter v acts start all
+        there : state_after (act p source) (fresh p) events ≡ own_after v acts start all
         unfolding rest state_after
         there =
             after_append (act p source) (fresh p) (passed before) (turn_of b ∷ rest)
@@ -184,7 +184,7 @@ module _ {S X : Type 0} (p : Plan) (so : Sound p) (source : List ℕ) (Good : S 
         grid_is grid len = rw (led_to calls) (same-grid _ (good calls) grid len)
 
     -- while steps are left the machine has an event that would give 0
-    pub goes_on : (calls : List X) → steps_of v acts start calls < total p → (e : Event) × ((act p source (ownAfter v acts start calls) e).number ≡ 0)
+    pub goes_on : (calls : List X) → steps_of v acts start calls < total p → (e : Event) × ((act p source (own_after v acts start calls) e).number ≡ 0)
     goes_on calls h = let g = (single calls).goes_on (omega (arith, same_steps calls)) in (g.0, (rw (led_to calls) at g).1)
 
 -- ---- two runs
@@ -215,7 +215,7 @@ follows p so source calls event allowed gd =
 machine_refuses : (p : Plan) (source : List ℕ) (s : State) (e : Event) → (act p source s e).number ≢ 0 → (act p source s e).after ≡ s
 unfolding act
 machine_refuses p source s (turn_of b) n = (numbers p source s).turn_refused b n
-machine_refuses p source s (deliveryOf m) n = (numbers p source s).delivery_refused m n
+machine_refuses p source s (delivery_of m) n = (numbers p source s).delivery_refused m n
 
 pub likewise : (p : Plan) (source : List ℕ) (calls : State → Event → Answered State)
     → ((s : State) → Inv p source s → (e : Event) → calls s e ≡ act p source s e)

@@ -11,7 +11,7 @@ use Rattle.base.proofs.Select.{in_those}
 use Rattle.base.proofs.Entries.{part_at, at_in, set_pos, set_all_pos}
 use Rattle.machine.specs.Plan.{Plan, Sound, count, taker_of, held_by, dues_of, offset}
 use Rattle.machine.specs.Machine.{State, Answered, Action, gather, send, next_action, carry_out, fresh}
-use Rattle.machine.specs.Runs.{Event, turn_of, deliveryOf, act, state_after}
+use Rattle.machine.specs.Runs.{Event, turn_of, delivery_of, act, state_after}
 use Rattle.machine.specs.Words.{word_at, mail_at, cell_of, Packs, Unpacks, Does, Did, Posted}
 use Rattle.machine.proofs.Turns.{Turned, turned, by_next, Delivered, delivered}
 use Rattle.machine.proofs.Kept.{Inv, swept, status_of}
@@ -48,7 +48,7 @@ module _ (p : Plan) (so : Sound p) (source : List ℕ) where
     event_sent : (s : State) (e : Event) → 1 ≤ status_of s m → 1 ≤ status_of (act p source s e).after m
     unfolding act
     event_sent s (turn_of b) k = turn_sent s b _ (turned p source s b) k
-    event_sent s (deliveryOf n) k = delivery_sent s n _ (delivered p s n) k
+    event_sent s (delivery_of n) k = delivery_sent s n _ (delivered p s n) k
 
     run_sent : (es : List Event) (s : State) → 1 ≤ status_of s m → 1 ≤ status_of (state_after (act p source) s es) m
     unfolding state_after

@@ -18,7 +18,7 @@ use Rattle.base.proofs.Lists.{count_append, set_all_same, set_all_other}
 use Rattle.base.proofs.Select.{those_in, in_those}
 use Rattle.machine.specs.Plan.{Plan, Sound, count, taker_of, dues_of}
 use Rattle.machine.specs.Machine.{State, Answered, Action, gather, calculate, send, current_tile, next_action, carry_out, turn, deliver, fresh}
-use Rattle.machine.specs.Runs.{Event, turn_of, deliveryOf, act, state_after, answers_to, program, turns_of, times_of, deliveries_of, sends, takes}
+use Rattle.machine.specs.Runs.{Event, turn_of, delivery_of, act, state_after, answers_to, program, turns_of, times_of, deliveries_of, sends, takes}
 use Rattle.machine.specs.StatusTells.{Among, Standing, Tells, StatusTells}
 use Rattle.machine.proofs.Turns.{Turned, turned, can, next_zero, next_one, next_two, delivered}
 use Rattle.machine.proofs.Invariant.{pending}
@@ -60,12 +60,12 @@ module _ {A : Type 0} (f : A → Bool) (d : A) where
 
 -- ---- how often an action of a kind is left, over all processors
 module _ (p : Plan) (f : Action → Bool) where
-  abbrev leftTimes : State → ℕ
-  leftTimes s = sum (λ b. count_if f (rest_of p s b)) p.processors
+  abbrev left_times : State → ℕ
+  left_times s = sum (λ b. count_if f (rest_of p s b)) p.processors
 
   -- a turn that gives 0 takes its action off
   turn_off : (source : List ℕ) (s : State) → Inv p source s → (b : ℕ) → (turn p source s b).number ≡ 0
-      → leftTimes s ≡ one (f (next_action p s b)) + leftTimes (turn p source s b).after
+      → left_times s ≡ one (f (next_action p s b)) + left_times (turn p source s b).after
   unfolding count_if
   turn_off source s inv b z = go _ refl
     where
@@ -78,7 +78,7 @@ module _ (p : Plan) (f : Action → Bool) where
       away : (c : ℕ) → (c ≡ b → ⊥) → count_if f (rest_of p (turn p source s b).after c) ≡ count_if f (rest_of p s c)
       away c n = ap (count_if f) (turn_leaves p s b source c n)
 
-      go : (t : Bool) → f (next_action p s b) ≡ t → leftTimes s ≡ one (f (next_action p s b)) + leftTimes (turn p source s b).after
+      go : (t : Bool) → f (next_action p s b) ≡ t → left_times s ≡ one (f (next_action p s b)) + left_times (turn p source s b).after
       go true e =
           let k = one_true e in
           let a = sum_less (λ c. count_if f (rest_of p s c)) (λ c. count_if f (rest_of p (turn p source s b).after c)) p.processors b
@@ -194,7 +194,7 @@ module _ (p : Plan) (so : Sound p) (source : List ℕ) (m : ℕ) (lo : m < count
 
   -- what is left and what is past the mark j are together 1
   abbrev Balanced : (Action → Bool) → ℕ → State → Type 0
-  Balanced f j s = leftTimes p f s + one (ltb j (status_of s m)) ≡ 1
+  Balanced f j s = left_times p f s + one (ltb j (status_of s m)) ≡ 1
 
   -- an event keeps it, for the two pairs of f and j
   pub record Both (s : State) : Type 0 where
@@ -217,7 +217,7 @@ module _ (p : Plan) (so : Sound p) (source : List ℕ) (m : ℕ) (lo : m < count
       mark r (yes e) = inr (rw e (r.was, r.now))
       mark r (no n) = inl (r.others m n)
 
-      same : (f : Action → Bool) → leftTimes p f (deliver p s k).after ≡ leftTimes p f s
+      same : (f : Action → Bool) → left_times p f (deliver p s k).after ≡ left_times p f s
       same f = sum_same _ _ p.processors (λ b h. ap (count_if f) (delivery_leaves p s k b))
 
       go : (((deliver p s k).number ≡ 0) × Brought p source s (deliver p s k).after k) ⊎ Refused s (deliver p s k) → Both (deliver p s k).after
@@ -237,14 +237,14 @@ module _ (p : Plan) (so : Sound p) (source : List ℕ) (m : ℕ) (lo : m < count
           → Both (turn p source s b).after
       go (inl r) = both_turn s inv b r.0 q
       go (inr r) = rw r.1 q
-  both_next s inv (deliveryOf k) q = both_delivery s inv k q
+  both_next s inv (delivery_of k) q = both_delivery s inv k q
 
   both_run : (es : List Event) (s : State) → Inv p source s → Both s → Both (state_after (act p source) s es)
   unfolding state_after
   both_run [] s inv q = q
   both_run (e ∷ es) s inv q = both_run es _ (next_inv p so source s inv e) (both_next s inv e q)
 
-  left_whole : (f : Action → Bool) → leftTimes p f (fresh p) ≡ sum (λ b. count_if f (program p b)) p.processors
+  left_whole : (f : Action → Bool) → left_times p f (fresh p) ≡ sum (λ b. count_if f (program p b)) p.processors
   left_whole f = sum_same _ _ p.processors (λ b h. ap (count_if f) (rest_fresh p b))
 
   both_fresh : Both (fresh p)
@@ -269,7 +269,7 @@ module _ (p : Plan) (so : Sound p) (source : List ℕ) (m : ℕ) (lo : m < count
     both = both_run es (fresh p) (inv_fresh p source) both_fresh
 
     -- what was done and what is left are the programs
-    done_left : (f : Action → Bool) → times_of p es xs f + leftTimes p f ended ≡ sum (λ b. count_if f (program p b)) p.processors
+    done_left : (f : Action → Bool) → times_of p es xs f + left_times p f ended ≡ sum (λ b. count_if f (program p b)) p.processors
     done_left f =
         sym (sum_add (λ b. count_if f (take (turns_of b es xs) (program p b))) (λ b. count_if f (rest_of p ended b)) p.processors)
         ∙ sum_same _ _ p.processors

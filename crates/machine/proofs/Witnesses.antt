@@ -12,18 +12,18 @@ use Rattle.base.specs.Numbers.{first_of}
 use Rattle.machine.specs.Plan.{Sound, offset}
 use Rattle.machine.specs.Machine.{set_progress, tiles_left, fit_record, fit, unpack_all, after_sends, carry_out, action_at, waiting, turn, deliver, fresh}
 use Rattle.machine.specs.Machine.{gather, send, state_of}
-use Rattle.machine.specs.Runs.{Event, turn_of, deliveryOf, act, state_after, answers_to, program_over, turns_of}
+use Rattle.machine.specs.Runs.{Event, turn_of, delivery_of, act, state_after, answers_to, program_over, turns_of}
 use Rattle.machine.specs.Words.{word_at, Did}
 use Rattle.machine.specs.Fit.{Fit, FitRecord, Waits}
 use Rattle.machine.specs.StatusTells.{Among}
-use Rattle.machine.proofs.SoundTest.{all_in, is_rising, knows, cellTest, ownTest, tileTest, heldTest, messageTest, soundTest, tested}
+use Rattle.machine.proofs.SoundTest.{all_in, is_rising, knows, cell_test, own_test, tile_test, held_test, message_test, sound_test, tested}
 use Rattle.machine.proofs.Posted.{posted}
 use Rattle.machine.proofs.Fit.{tests}
 use Rattle.machine.proofs.ComputedCalls.{reads_at, value_at, small, source}
 
 -- ---- Plan.Sound
-test : soundTest small ≡ true
-unfolding small soundTest cellTest ownTest tileTest heldTest messageTest all_in is_rising knows every some member ◌and◌ ◌or◌ not
+test : sound_test small ≡ true
+unfolding small sound_test cell_test own_test tile_test held_test message_test all_in is_rising knows every some member ◌and◌ ◌or◌ not
 test = refl
 
 value_local : (source m n : List ℕ) (c : ℕ) → ((r : ℕ) → In r (reads_at c) → get_or m r 0 ≡ get_or n r 0) → value_at source m c ≡ value_at source n c
@@ -39,7 +39,7 @@ unfoldable before : List Event
 before = turn_of 0 ∷ turn_of 0 ∷ []
 
 unfoldable then : List Event
-then = deliveryOf 0 ∷ []
+then = delivery_of 0 ∷ []
 
 sent : Did (act small source) (fresh small) small before 0 (send 0)
 unfolding before small source program_over turns_of those keep offset sublist put unpack unpack_all set_all store_all pack all_at every some one not pick ◌and◌

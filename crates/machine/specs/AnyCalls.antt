@@ -49,15 +49,15 @@ module _ {S X : Type 0} (v : View S X) (acts : S → X → Answered S) (start : 
   abbrev pub steps_of : List X → ℕ
   steps_of calls = steps_in (numbers_of calls)
 
-  abbrev pub ownAfter : List X → State
-  ownAfter calls = v.own (state_after acts start calls)
+  abbrev pub own_after : List X → State
+  own_after calls = v.own (state_after acts start calls)
 
   -- and the areas after one call more
-  abbrev pub ownThen : List X → X → State
-  ownThen calls x = v.own (acts (state_after acts start calls) x).after
+  abbrev pub own_then : List X → X → State
+  own_then calls x = v.own (acts (state_after acts start calls) x).after
 
-  abbrev pub turnsIn : List X → ℕ → ℕ
-  turnsIn calls b = turns_of b (events_in v calls) (numbers_of calls)
+  abbrev pub turns_in : List X → ℕ → ℕ
+  turns_in calls b = turns_of b (events_in v calls) (numbers_of calls)
 
   -- after the calls `before`, x is a turn of processor b for these areas and gives 0
   pub record TurnIn (before : List X) (x : X) (b : ℕ) : Type 0 where
@@ -68,7 +68,7 @@ module _ {S X : Type 0} (v : View S X) (acts : S → X → Answered S) (start : 
   -- and the action is the one that b's program names next
   pub record DidIn (p : Plan) (before : List X) (x : X) (b : ℕ) (a : Action) : Type 0 where
     pub turn : TurnIn before x b
-    pub named : get_or (program p b) (turnsIn before b) (gather 0) ≡ a
+    pub named : get_or (program p b) (turns_in before b) (gather 0) ≡ a
 
   -- demand 3, but for progress, which is a matter of what else the calls refuse
   pub record Demand3In (p : Plan) (source : List ℕ) (collects : S → List ℕ → Answered (List ℕ)) (calls : List X) : Type 0 where
@@ -76,22 +76,22 @@ module _ {S X : Type 0} (v : View S X) (acts : S → X → Answered S) (start : 
     pub then_fewer : (x : X) → v.ours x ≡ true → (acts (state_after acts start calls) x).number ≡ 0 → steps_of calls < total p
     pub collecting : Collects p source (steps_of calls ≡ total p) (collects (state_after acts start calls))
     pub carried_out : (before after : List X) (x : X) (b : ℕ) → calls ≡ before ++ (x ∷ after) → TurnIn before x b
-        → CarriedOut p source (ownAfter before) (ownThen before x) b (turnsIn before b)
+        → CarriedOut p source (own_after before) (own_then before x) b (turns_in before b)
 
   -- processor b sends message m by the call x after the calls `before`; whatever calls come then. Field by field as in Words
   pub record PostedIn (p : Plan) (before : List X) (x : X) (b m : ℕ) : Type 0 where
     pub stays : (then : List X) (q : ℕ) → q < length (held_by p m)
-        → mail_at p (ownAfter (before ++ (x ∷ then))) m q ≡ word_at p (ownAfter before) b (cell_of p m q)
+        → mail_at p (own_after (before ++ (x ∷ then))) m q ≡ word_at p (own_after before) b (cell_of p m q)
     pub arrives : (then : List X) (y : X) (c q : ℕ) → q < length (held_by p m)
         → DidIn p (before ++ (x ∷ then)) y c (gather (taker_of p m))
-        → word_at p (ownThen (before ++ (x ∷ then)) y) c (cell_of p m q) ≡ word_at p (ownAfter before) b (cell_of p m q)
+        → word_at p (own_then (before ++ (x ∷ then)) y) c (cell_of p m q) ≡ word_at p (own_after before) b (cell_of p m q)
 
   -- demand 2's words, and the marks
   pub record WordsIn (p : Plan) (source : List ℕ) : Type 0 where
     -- each turn that gives 0 writes and leaves what its action does
-    pub does : (before : List X) (x : X) (b : ℕ) (a : Action) → DidIn p before x b a → Does p source (ownAfter before) (ownThen before x) b a
+    pub does : (before : List X) (x : X) (b : ℕ) (a : Action) → DidIn p before x b a → Does p source (own_after before) (own_then before x) b a
     pub posted : (before : List X) (x : X) (b m : ℕ) → DidIn p before x b (send m) → PostedIn p before x b m
-    pub marks : (calls : List X) → StatusTells p (ownAfter calls) (events_in v calls) (numbers_of calls)
+    pub marks : (calls : List X) → StatusTells p (own_after calls) (events_in v calls) (numbers_of calls)
 
 -- two runs, of whatever calls, that agree on their events and the numbers they got leave the same words in these areas: a tenant's own, whatever the other
 -- tenant did; and those of one tenant alone
@@ -99,4 +99,4 @@ pub record Alone {S X S' X' : Type 0} (v : View S X) (acts : S → X → Answere
     : Type 0 where
   pub same_words : (calls : List X) (calls' : List X') → events_in v calls ≡ events_in v' calls'
       → numbers_of v acts start calls ≡ numbers_of v' acts' start' calls'
-      → ownAfter v acts start calls ≡ ownAfter v' acts' start' calls'
+      → own_after v acts start calls ≡ own_after v' acts' start' calls'

@@ -9,11 +9,11 @@ use Rattle.machine.specs.Machine.{State, Answered, Action, gather, calculate, se
 
 -- a turn of a processor, or the delivery of a message; numbers of any size
 pub data Event : Type 0 where
-  turn_of deliveryOf : ℕ → Event
+  turn_of delivery_of : ℕ → Event
 
 unfoldable pub act : Plan → List ℕ → State → Event → Answered State
 act p source s (turn_of b) = turn p source s b
-act p source s (deliveryOf m) = deliver p s m
+act p source s (delivery_of m) = deliver p s m
 
 -- ---- a run of anything: S is the machine's state, E its events, or other states and events that answer alike
 
@@ -55,7 +55,7 @@ unfoldable pub turns_of : ℕ → List Event → List ℕ → ℕ
 turns_of b [] xs = 0
 turns_of b (e ∷ es) [] = 0
 turns_of b (turn_of c ∷ es) (x ∷ xs) = one (eqb c b and eqb x 0) + turns_of b es xs
-turns_of b (deliveryOf m ∷ es) (x ∷ xs) = turns_of b es xs
+turns_of b (delivery_of m ∷ es) (x ∷ xs) = turns_of b es xs
 
 -- the first of them did the first of its program, the second the next; how many deeds of all processors are such
 abbrev pub times_of : Plan → List Event → List ℕ → (Action → Bool) → ℕ
@@ -83,7 +83,7 @@ unfoldable pub deliveries_of : ℕ → List Event → List ℕ → ℕ
 deliveries_of m [] xs = 0
 deliveries_of m (e ∷ es) [] = 0
 deliveries_of m (turn_of b ∷ es) (x ∷ xs) = deliveries_of m es xs
-deliveries_of m (deliveryOf k ∷ es) (x ∷ xs) = one (eqb k m and eqb x 0) + deliveries_of m es xs
+deliveries_of m (delivery_of k ∷ es) (x ∷ xs) = one (eqb k m and eqb x 0) + deliveries_of m es xs
 
 -- ---- what demand 3 asks of every kind of run: one list of events and the numbers that they got, and collecting
 

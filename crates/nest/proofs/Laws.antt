@@ -461,13 +461,13 @@ module _ (x : Nest) where
   large_no p e h = le-ltb 16384 _ (rw e at h)
 
   -- a spread dimension after the unspread dimension j
-  abbrev pub spreadAfter : ℕ → Bool
-  spreadAfter j = not (is_spread x j) and is_spread x (j + 1)
+  abbrev pub spread_after : ℕ → Bool
+  spread_after j = not (is_spread x j) and is_spread x (j + 1)
 
-  pub after_spread : (j : ℕ) → processor_count x j ≢ 0 → spreadAfter j ≡ false
+  pub after_spread : (j : ℕ) → processor_count x j ≢ 0 → spread_after j ≡ false
   after_spread j h = and_false _ _ (not-true (lt-ltb 0 (processor_count x j) (omega arith)))
 
-  pub after_no : (j : ℕ) → processor_count x (j + 1) ≤ 0 → spreadAfter j ≡ false
+  pub after_no : (j : ℕ) → processor_count x (j + 1) ≤ 0 → spread_after j ≡ false
   after_no j h = and_no _ _ (le-ltb 0 _ h)
 
   pub first_unspread : processor_count x 0 ≡ 0 → bad_spread x ≡ true
@@ -476,9 +476,9 @@ module _ (x : Nest) where
 
   pub later_spread : (j : ℕ) → j < x.dimensions - 1 → processor_count x j ≡ 0 → 0 < processor_count x (j + 1) → bad_spread x ≡ true
   unfolding bad_spread
-  later_spread j l z h = or_right _ (some_one spreadAfter _ j l (and_true (not-false (le-ltb 0 (processor_count x j) (omega arith))) (lt-ltb 0 _ h)))
+  later_spread j l z h = or_right _ (some_one spread_after _ j l (and_true (not-false (le-ltb 0 (processor_count x j) (omega arith))) (lt-ltb 0 _ h)))
 
-  pub spread_well : processor_count x 0 ≢ 0 → some spreadAfter (x.dimensions - 1) ≡ false → bad_spread x ≡ false
+  pub spread_well : processor_count x 0 ≢ 0 → some spread_after (x.dimensions - 1) ≡ false → bad_spread x ≡ false
   unfolding bad_spread
   spread_well h k = or_false (not-true (lt-ltb 0 (processor_count x 0) (omega arith))) k
 

@@ -110,18 +110,18 @@ rank_row N i k n l s e z = rw (← s, rank_same N i k l e, z) (omega arith)
 
 -- among the components of a span some are in tile u, counted from f on, where u lies between the tiles of the first and the last
 module _ (f k low high u n : ℕ) (pos : 1 ≤ k) (h : low < high) (m : high ≤ n) where
-  abbrev meetsTile : ℕ → Bool
-  meetsTile a = (leb low a and ltb a high) and eqb (f + a / k) u
+  abbrev meets_tile : ℕ → Bool
+  meets_tile a = (leb low a and ltb a high) and eqb (f + a / k) u
 
-  hit : (a : ℕ) → low ≤ a → a < high → f + a / k ≡ u → some meetsTile n ≡ true
-  hit a p q e = some_one meetsTile n a (omega arith) (and_true (and_true (le-leb low a p) (lt-ltb a high q)) (eq-eqb (f + a / k) u e))
+  hit : (a : ℕ) → low ≤ a → a < high → f + a / k ≡ u → some meets_tile n ≡ true
+  hit a p q e = some_one meets_tile n a (omega arith) (and_true (and_true (le-leb low a p) (lt-ltb a high q)) (eq-eqb (f + a / k) u e))
 
   pub tiles_between : some (λ a. (leb low a and ltb a high) and eqb (f + a / k) u) n ≡ (leb (f + low / k) u and ltb u (f + (high - 1) / k + 1))
   tiles_between = same_test there back
     where
-      there : some meetsTile n ≡ true → (leb (f + low / k) u and ltb u (f + (high - 1) / k + 1)) ≡ true
+      there : some meets_tile n ≡ true → (leb (f + low / k) u and ltb u (f + (high - 1) / k + 1)) ≡ true
       there e =
-          let r = some_at meetsTile n e in
+          let r = some_at meets_tile n e in
           let w = both r.2 in
           let w' = both w.0 in
           let a1 : low ≤ r.0 = leb-true low r.0 w'.0 in
@@ -130,7 +130,7 @@ module _ (f k low high u n : ℕ) (pos : 1 ≤ k) (h : low < high) (m : high ≤
           and_true (le-leb (f + low / k) u (omega (arith, div_le k low r.0 pos a1)))
           (lt-ltb u (f + (high - 1) / k + 1) (omega (arith, div_le k r.0 (high - 1) pos (omega arith))))
 
-      go : f + low / k ≤ u → u < f + (high - 1) / k + 1 → Dec (f + low / k ≡ u) → some meetsTile n ≡ true
+      go : f + low / k ≤ u → u < f + (high - 1) / k + 1 → Dec (f + low / k ≡ u) → some meets_tile n ≡ true
       go p q (yes z) = hit low (omega arith) h z
       go p q (no z) =
           let one_more : suc (low / k) ≤ u - f = omega arith in
@@ -140,7 +140,7 @@ module _ (f k low high u n : ℕ) (pos : 1 ≤ k) (h : low < high) (m : high ≤
           hit ((u - f) * k) (omega (arith, suc-mul (low / k) k, lt-div-mul-add {a = low} {b = k} pos)) (omega (arith, div-mul-le_self (high - 1) k))
           (omega arith)
 
-      back : (leb (f + low / k) u and ltb u (f + (high - 1) / k + 1)) ≡ true → some meetsTile n ≡ true
+      back : (leb (f + low / k) u and ltb u (f + (high - 1) / k + 1)) ≡ true → some meets_tile n ≡ true
       back e =
           let w = both e in
           go (leb-true (f + low / k) u w.0) (ltb-true u (f + (high - 1) / k + 1) w.1) (ℕ_discrete (f + low / k) u)
@@ -225,11 +225,11 @@ module _ (x : Nest) (fr : Framed x) where
     box_room = product_room (tile_count x) x.dimensions fr.dimensions_most (λ i k. tile_small x i (fr.length_wide i) (fr.long i k))
 
     -- ---- the tiles of a row
-    abbrev pub firstTile : List ℕ → ℕ
-    firstTile at = tile_at x (λ j. spot at j / tile_length x j)
+    abbrev pub first_tile : List ℕ → ℕ
+    first_tile at = tile_at x (λ j. spot at j / tile_length x j)
 
     pub tile_row : (q : ℕ) (at : List ℕ) → Row x q at → (a : ℕ) → a < length_of x (last x)
-        → box_tile_of x (q * length_of x (last x) + a) ≡ firstTile at + a / tile_length x (last x)
+        → box_tile_of x (q * length_of x (last x) + a) ≡ first_tile at + a / tile_length x (last x)
     unfolding box_tile_of tile_at
     tile_row q at r a low =
         rank_row (tile_count x) (λ j. cell_place x (q * length_of x (last x) + a) j / tile_length x j) (λ j. spot at j / tile_length x j) x.dimensions (last x)
@@ -257,7 +257,7 @@ module _ (x : Nest) (fr : Framed x) where
             ap (λ (v : ℕ). v / tile_length x (last x)) (r.first (last x) last_low ∙ e) ∙ zero-div (tile_length x (last x))
 
     module _ (q : ℕ) (at : List ℕ) (s : Interval) (r : Row x q at) (sp : Spans x at s) where
-      held : (u a : ℕ) → a < length_of x (last x) → holds x u (q * length_of x (last x) + a) ≡ (within s a and eqb (firstTile at + a / tile_length x (last x)) u)
+      held : (u a : ℕ) → a < length_of x (last x) → holds x u (q * length_of x (last x) + a) ≡ (within s a and eqb (first_tile at + a / tile_length x (last x)) u)
       held u a low = rw (span_row q at s r sp a low, tile_row q at r a low)
 
       -- the tiles that hold a cell of the row: none, or those from one to another
@@ -270,40 +270,40 @@ module _ (x : Nest) (fr : Framed x) where
           omega arith))
 
       pub row_tiles : s.from < s.to → (u : ℕ) → some (λ a. holds x u (q * length_of x (last x) + a)) (length_of x (last x))
-          ≡ (leb (firstTile at + s.from / tile_length x (last x)) u and ltb u (firstTile at + (s.to - 1) / tile_length x (last x) + 1))
+          ≡ (leb (first_tile at + s.from / tile_length x (last x)) u and ltb u (first_tile at + (s.to - 1) / tile_length x (last x) + 1))
       row_tiles h u =
           some_same _ _ (length_of x (last x)) (held u)
-          ∙ tiles_between (firstTile at) (tile_length x (last x)) s.from s.to u (length_of x (last x))
+          ∙ tiles_between (first_tile at) (tile_length x (last x)) s.from s.to u (length_of x (last x))
           (tiled (last x) (omega (arith, fr.dimensions_least))) h sp.most
 
       -- the last of them is a tile of the box
-      pub row_room : s.from < s.to → firstTile at + (s.to - 1) / tile_length x (last x) + 1 ≤ box_tiles x
+      pub row_room : s.from < s.to → first_tile at + (s.to - 1) / tile_length x (last x) + 1 ≤ box_tiles x
       row_room h =
           let low : s.to - 1 < length_of x (last x) = omega (arith, sp.most) in
           omega (arith, box_tile_of_low x fr.long tiled (q * length_of x (last x) + (s.to - 1)), tile_row q at r (s.to - 1) low)
 
       pub row_start : s.from < s.to
-          → firstTile at + s.from / tile_length x (last x) < firstTile at + (s.to - 1) / tile_length x (last x) + 1
+          → first_tile at + s.from / tile_length x (last x) < first_tile at + (s.to - 1) / tile_length x (last x) + 1
       row_start h = omega (arith, div_le (tile_length x (last x)) s.from (s.to - 1) (tiled (last x) (omega (arith, fr.dimensions_least))) (omega arith))
 
       pub marked_none : (marks : List ℕ) → s.to ≤ s.from → RowMarked x q marks marks
       marked_none marks h = record { long = refl; marks = λ u. or_none _ _ (row_empty h u) }
 
       pub marked_row : (marks after : List ℕ) → s.from < s.to
-          → Marked marks (firstTile at + s.from / tile_length x (last x)) (firstTile at + (s.to - 1) / tile_length x (last x) + 1) after
+          → Marked marks (first_tile at + s.from / tile_length x (last x)) (first_tile at + (s.to - 1) / tile_length x (last x) + 1) after
           → RowMarked x q marks after
       marked_row marks after h m =
           record {
             long = m.long;
-            marks = λ u. go u (dec_le (firstTile at + s.from / tile_length x (last x)) u) (dec_lt u (firstTile at + (s.to - 1) / tile_length x (last x) + 1));
+            marks = λ u. go u (dec_le (first_tile at + s.from / tile_length x (last x)) u) (dec_lt u (first_tile at + (s.to - 1) / tile_length x (last x) + 1));
           }
         where
-          none : (u : ℕ) → (u < firstTile at + s.from / tile_length x (last x)) ⊎ (firstTile at + (s.to - 1) / tile_length x (last x) + 1 ≤ u)
-              → (leb (firstTile at + s.from / tile_length x (last x)) u and ltb u (firstTile at + (s.to - 1) / tile_length x (last x) + 1)) ≡ false
+          none : (u : ℕ) → (u < first_tile at + s.from / tile_length x (last x)) ⊎ (first_tile at + (s.to - 1) / tile_length x (last x) + 1 ≤ u)
+              → (leb (first_tile at + s.from / tile_length x (last x)) u and ltb u (first_tile at + (s.to - 1) / tile_length x (last x) + 1)) ≡ false
               → ltb 0 (get_or after u 0) ≡ (ltb 0 (get_or marks u 0) or some (λ a. holds x u (q * length_of x (last x) + a)) (length_of x (last x)))
           none u o e = ap (ltb 0) (m.others u o) ∙ or_none _ _ (row_tiles h u ∙ e)
 
-          go : (u : ℕ) → Dec (firstTile at + s.from / tile_length x (last x) ≤ u) → Dec (u < firstTile at + (s.to - 1) / tile_length x (last x) + 1)
+          go : (u : ℕ) → Dec (first_tile at + s.from / tile_length x (last x) ≤ u) → Dec (u < first_tile at + (s.to - 1) / tile_length x (last x) + 1)
               → ltb 0 (get_or after u 0) ≡ (ltb 0 (get_or marks u 0) or some (λ a. holds x u (q * length_of x (last x) + a)) (length_of x (last x)))
           go u (yes a) (yes b) =
               ap (ltb 0) (m.marks u a b)
@@ -312,7 +312,7 @@ module _ (x : Nest) (fr : Framed x) where
           go u (yes a) (no b) = none u (inr (omega arith)) (and_no _ _ (le-ltb u _ (omega arith)))
 
       -- the same where the first tile, and the tiles along the row, are told
-      module _ (first a b : ℕ) (e : first ≡ firstTile at) (f : a ≡ s.from / tile_length x (last x)) (g : b ≡ (s.to - 1) / tile_length x (last x))
+      module _ (first a b : ℕ) (e : first ≡ first_tile at) (f : a ≡ s.from / tile_length x (last x)) (g : b ≡ (s.to - 1) / tile_length x (last x))
           (h : s.from < s.to) where
         pub told_order : first + a < first + b + 1
         told_order = omega (arith, e, f, g, row_start h)

@@ -18,13 +18,13 @@ use Rattle.base.proofs.Tests.{one_true, one_false}
 use Rattle.base.proofs.Numbers.{first_true, first_false, first_nil, none_first}
 use Rattle.machine.specs.Plan.{Plan, Sound, count, held_by}
 use Rattle.machine.specs.Machine.{State, place_of, fit, Answered, turn, deliver}
-use Rattle.machine.specs.Runs.{Event, turn_of, deliveryOf, act, state_after, answers_to, steps}
+use Rattle.machine.specs.Runs.{Event, turn_of, delivery_of, act, state_after, answers_to, steps}
 use Rattle.machine.proofs.Turns.{delivered}
 use Rattle.machine.proofs.Kept.{status_of}
 use Rattle.machine.proofs.Events.{flying}
 use Rattle.machine.proofs.RunLaws.{Passed, number_of, after_of}
 use Rattle.network.specs.Apart.{AreasApart, sender_at, taker_at, replaced, marked, received, sent_off, arrived}
-use Rattle.network.specs.Packets.{Packet, packet_at, Network, network_of, status_at, turn_by, post_of, arrivalOf, posted, post, arrive}
+use Rattle.network.specs.Packets.{Packet, packet_at, Network, network_of, status_at, turn_by, post_of, arrival_of, posted, post, arrive}
 use Rattle.network.specs.Packets.{turn_network, act_network, machine_events}
 use Rattle.network.specs.Apart.{turn_apart}
 use Rattle.network.specs.Brought.{BoardEvent, turn_at, post_at, brought_to, called_at, act_boards, take_in}
@@ -424,17 +424,17 @@ module _ (p : Plan) (so : Sound p) (away : Away p) (source : List ℕ) where
 
     -- ---- a message taken in
     module _ (b m : ℕ) (ws : List ℕ) (w : WasPosted n.packets m ws) (z : (B n (brought_to b m ws)).number ≡ 0) where
-      one_event : machine_events p n (arrivalOf w.at) (arrive p n w.at).number ≡ deliveryOf m ∷ []
+      one_event : machine_events p n (arrival_of w.at) (arrive p n w.at).number ≡ delivery_of m ∷ []
       unfolding machine_events
       one_event =
-          pick_true _ _ _ (eq-eqb _ 0 (arrives s n fo b m ws w z)) ∙ ap (λ (k : ℕ). deliveryOf k ∷ []) w.number
+          pick_true _ _ _ (eq-eqb _ 0 (arrives s n fo b m ws w z)) ∙ ap (λ (k : ℕ). delivery_of k ∷ []) w.number
 
-      take_gives : (act p source s (deliveryOf m)).number ≡ 0
+      take_gives : (act p source s (delivery_of m)).number ≡ 0
       take_gives = let k = was_in_flight s n fo b m ws w z in flying p so source s fo.to.inv m k.0 k.1
 
-      take_follows : Follows p source (act p source s (deliveryOf m)).after (B n (brought_to b m ws)).after
+      take_follows : Follows p source (act p source s (delivery_of m)).after (B n (brought_to b m ws)).after
       unfolding state_after act_network
-      take_follows = rw (take_as s n fo b m ws w z) (rw one_event at (event_steps p so source s n fo (arrivalOf w.at)).follows)
+      take_follows = rw (take_as s n fo b m ws w z) (rw one_event at (event_steps p so source s n fo (arrival_of w.at)).follows)
 
       take_packets : (B n (brought_to b m ws)).after.packets ≡ n.packets
       take_packets =
@@ -450,7 +450,7 @@ module _ (p : Plan) (so : Sound p) (away : Away p) (source : List ℕ) where
             let r = behind _ (take_follows b m ws w z) in
             record {
               state = r.state;
-              passed = deliveryOf m ∷ r.passed;
+              passed = delivery_of m ∷ r.passed;
               run = Passed.step z (take_gives b m ws w z) r.run;
               follows = r.follows;
               counted = omega (
@@ -458,7 +458,7 @@ module _ (p : Plan) (so : Sound p) (away : Away p) (source : List ℕ) where
                 r.counted,
                 ap length (take_packets b m ws w z),
                 one_true (eq-eqb _ 0 z),
-                one_true (eq-eqb (act p source s (deliveryOf m)).number 0 (take_gives b m ws w z)),
+                one_true (eq-eqb (act p source s (delivery_of m)).number 0 (take_gives b m ws w z)),
               );
             }
         go (no k) =

@@ -11,17 +11,17 @@ use Rattle.base.specs.Numbers.{first_of}
 use Rattle.machine.specs.Plan.{Plan, offset}
 use Rattle.machine.specs.Machine.{set_progress, tiles_left, fit_record, fit, unpack_all, after_sends, carry_out, action_at, waiting, turn, fresh, sweep_to, sweep}
 use Rattle.machine.specs.Machine.{collected, collect}
-use Rattle.machine.specs.Runs.{Event, turn_of, deliveryOf, state_after, answers_to, answers}
+use Rattle.machine.specs.Runs.{Event, turn_of, delivery_of, state_after, answers_to, answers}
 use Rattle.machine.proofs.ComputedRun.{rows, ones, total_of}
 use Rattle.network.specs.Apart.{start_apart, replaced, turn_apart, sent_off, arrived, carried, deliver_apart, act_apart, assembled, collect_apart, join_to}
-use Rattle.network.specs.Apart.{joined, last_apart, answersApart}
-use Rattle.network.specs.Packets.{NetworkEvent, turn_by, post_of, arrivalOf, posted, post, arrive, turn_network, act_network, start_network, last_network}
+use Rattle.network.specs.Apart.{joined, last_apart, answers_apart}
+use Rattle.network.specs.Packets.{NetworkEvent, turn_by, post_of, arrival_of, posted, post, arrive, turn_network, act_network, start_network, last_network}
 
 -- processor 0 gathers, calculates, sends; processor 1 waits; message 0 is carried, a second time refused; processor 1 gathers; processor 4 is none
 unfoldable firsts : List Event
-firsts = turn_of 0 ∷ turn_of 0 ∷ turn_of 0 ∷ turn_of 1 ∷ deliveryOf 0 ∷ deliveryOf 0 ∷ deliveryOf 12 ∷ turn_of 4 ∷ turn_of 1 ∷ []
+firsts = turn_of 0 ∷ turn_of 0 ∷ turn_of 0 ∷ turn_of 1 ∷ delivery_of 0 ∷ delivery_of 0 ∷ delivery_of 12 ∷ turn_of 4 ∷ turn_of 1 ∷ []
 
-first_numbers : answersApart (act_apart rows ones) (start_apart rows) firsts ≡ 0 ∷ 0 ∷ 0 ∷ 12 ∷ 0 ∷ 14 ∷ 11 ∷ 11 ∷ 0 ∷ []
+first_numbers : answers_apart (act_apart rows ones) (start_apart rows) firsts ≡ 0 ∷ 0 ∷ 0 ∷ 12 ∷ 0 ∷ 14 ∷ 11 ∷ 11 ∷ 0 ∷ []
 unfolding rows ones total_of those keep offset sublist put unpack unpack_all set_all store_all pack all_at every some one count_if not pick ◌and◌ ◌or◌ first_of
     set_progress tiles_left fit_record fit after_sends carry_out action_at waiting turn fresh firsts start_apart replaced turn_apart sent_off arrived carried
     deliver_apart act_apart state_after answers_to
@@ -92,10 +92,10 @@ source3 = 1 ∷ 2 ∷ 3 ∷ []
 -- its whole run, with refused events between
 unfoldable pub whole : List Event
 whole =
-    turn_of 1 ∷ turn_of 0 ∷ turn_of 0 ∷ deliveryOf 0 ∷ turn_of 0 ∷ turn_of 0 ∷ deliveryOf 0 ∷ deliveryOf 0 ∷ turn_of 0 ∷ turn_of 0 ∷ turn_of 0 ∷
-    turn_of 1 ∷ deliveryOf 1 ∷ deliveryOf 1 ∷ turn_of 1 ∷ turn_of 2 ∷ turn_of 1 ∷ turn_of 1 ∷ []
+    turn_of 1 ∷ turn_of 0 ∷ turn_of 0 ∷ delivery_of 0 ∷ turn_of 0 ∷ turn_of 0 ∷ delivery_of 0 ∷ delivery_of 0 ∷ turn_of 0 ∷ turn_of 0 ∷ turn_of 0 ∷
+    turn_of 1 ∷ delivery_of 1 ∷ delivery_of 1 ∷ turn_of 1 ∷ turn_of 2 ∷ turn_of 1 ∷ turn_of 1 ∷ []
 
-whole_numbers : answersApart (act_apart line3 source3) (start_apart line3) whole
+whole_numbers : answers_apart (act_apart line3 source3) (start_apart line3) whole
     ≡ 12 ∷ 0 ∷ 0 ∷ 14 ∷ 0 ∷ 12 ∷ 0 ∷ 14 ∷ 0 ∷ 0 ∷ 0 ∷ 12 ∷ 0 ∷ 14 ∷ 0 ∷ 11 ∷ 0 ∷ 13 ∷ []
 unfolding line3 value_at source3 those keep offset sublist put unpack unpack_all set_all store_all pack all_at every some one count_if not pick ◌and◌ ◌or◌ first_of
     set_progress tiles_left fit_record fit after_sends carry_out action_at waiting turn fresh whole start_apart replaced turn_apart sent_off arrived carried
@@ -136,8 +136,8 @@ on_time = refl
 -- there are refused
 unfoldable networked : List NetworkEvent
 networked =
-    post_of 0 ∷ turn_by 0 ∷ turn_by 0 ∷ turn_by 0 ∷ post_of 0 ∷ turn_by 0 ∷ turn_by 0 ∷ arrivalOf 0 ∷ turn_by 0 ∷ post_of 1 ∷ post_of 1 ∷ turn_by 1 ∷
-    arrivalOf 0 ∷ arrivalOf 0 ∷ arrivalOf 1 ∷ turn_by 1 ∷ arrivalOf 0 ∷ turn_by 1 ∷ []
+    post_of 0 ∷ turn_by 0 ∷ turn_by 0 ∷ turn_by 0 ∷ post_of 0 ∷ turn_by 0 ∷ turn_by 0 ∷ arrival_of 0 ∷ turn_by 0 ∷ post_of 1 ∷ post_of 1 ∷ turn_by 1 ∷
+    arrival_of 0 ∷ arrival_of 0 ∷ arrival_of 1 ∷ turn_by 1 ∷ arrival_of 0 ∷ turn_by 1 ∷ []
 
 network_numbers : answers (act_network line3 source3) (start_network line3) networked
     ≡ 14 ∷ 0 ∷ 0 ∷ 0 ∷ 0 ∷ 0 ∷ 0 ∷ 11 ∷ 0 ∷ 0 ∷ 14 ∷ 12 ∷ 0 ∷ 14 ∷ 11 ∷ 0 ∷ 14 ∷ 0 ∷ []

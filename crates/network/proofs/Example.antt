@@ -10,10 +10,10 @@ use Rattle.base.specs.Lists.{In, member}
 use Rattle.machine.specs.Plan.{Sound}
 use Rattle.machine.specs.Machine.{turn, sweep}
 use Rattle.machine.specs.Runs.{Event, total}
-use Rattle.machine.proofs.SoundTest.{all_in, is_rising, knows, cellTest, ownTest, tileTest, heldTest, messageTest, soundTest, tested}
+use Rattle.machine.proofs.SoundTest.{all_in, is_rising, knows, cell_test, own_test, tile_test, held_test, message_test, sound_test, tested}
 use Rattle.machine.proofs.ComputedRun.{rows, ones, rounds, all_steps, that_is_all}
 use Rattle.machine.proofs.Example.{sound}
-use Rattle.network.specs.Apart.{sender_at, taker_at, assembled, start_apart, act_apart, last_apart, stepsApart, MachineApart}
+use Rattle.network.specs.Apart.{sender_at, taker_at, assembled, start_apart, act_apart, last_apart, steps_apart, MachineApart}
 use Rattle.network.specs.Packets.{NetworkEvent, MachineByPackets}
 use Rattle.network.specs.Locality.{ReadsOwnWord, Local}
 use Rattle.network.proofs.Theorem.{theorem_apart}
@@ -25,7 +25,7 @@ holds : (events : List Event) → MachineApart rows ones events
 holds events = theorem_apart rows sound ones events
 
 -- the whole run of 20 rounds, apart, gives the sweep
-all_apart : stepsApart (act_apart rows ones) (start_apart rows) (rounds 20) ≡ total rows
+all_apart : steps_apart (act_apart rows ones) (start_apart rows) (rounds 20) ≡ total rows
 all_apart = rw (holds (rounds 20)).same_answers (all_steps ∙ sym that_is_all)
 
 assembles_sweep : assembled rows (last_apart rows ones (rounds 20)) ≡ sweep rows ones
@@ -37,8 +37,8 @@ unfolding value_at
 value_same source m n zero f = refl
 value_same source m n (suc c) f = ap (λ (x : ℕ). get_or source (suc c) 0 + x) (f c (inl refl))
 
-test3 : soundTest line3 ≡ true
-unfolding line3 soundTest cellTest ownTest tileTest heldTest messageTest all_in is_rising knows every some member ◌and◌ ◌or◌ not
+test3 : sound_test line3 ≡ true
+unfolding line3 sound_test cell_test own_test tile_test held_test message_test all_in is_rising knows every some member ◌and◌ ◌or◌ not
 test3 = refl
 
 pub sound3 : Sound line3

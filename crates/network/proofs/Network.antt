@@ -17,14 +17,14 @@ use Rattle.base.proofs.Tests.{not-true, not-false, true_not, pick_true, pick_fal
 use Rattle.base.proofs.Numbers.{first_nil, first_false, first_true, none_first}
 use Rattle.machine.specs.Plan.{Plan, Sound, count, held_by}
 use Rattle.machine.specs.Machine.{State, place_of, Answered, answered, fresh}
-use Rattle.machine.specs.Runs.{Event, turn_of, deliveryOf, act, state_after, answers_to, steps}
+use Rattle.machine.specs.Runs.{Event, turn_of, delivery_of, act, state_after, answers_to, steps}
 use Rattle.machine.proofs.Turns.{Delivered}
 use Rattle.machine.proofs.Kept.{Inv, swept, status_of}
 use Rattle.machine.proofs.Events.{flying}
 use Rattle.machine.proofs.Along.{next_inv}
 use Rattle.machine.proofs.RunLaws.{after_append, steps_append, steps_one}
 use Rattle.network.specs.Apart.{AreasApart, sender_at, taker_at, marked, sent_off, arrived}
-use Rattle.network.specs.Packets.{Packet, Network, network_of, packet_at, status_at, NetworkEvent, turn_by, post_of, arrivalOf, posted, post, arrive}
+use Rattle.network.specs.Packets.{Packet, Network, network_of, packet_at, status_at, NetworkEvent, turn_by, post_of, arrival_of, posted, post, arrive}
 use Rattle.network.specs.Packets.{turn_network, act_network, start_network, machine_events, machine_run}
 use Rattle.network.proofs.Agrees.{Agrees, Nothing}
 use Rattle.network.proofs.Together.{Together, start_together, turn_number, turn_agrees}
@@ -218,23 +218,23 @@ module _ (p : Plan) (so : Sound p) (source : List ℕ) (s : State) (n : Network)
 
   -- a delivery of a message in flight
   module _ (m : ℕ) (lo : m < count p) (x : status_of s m ≡ 1) where
-    delivers : (act p source s (deliveryOf m)).number ≡ 0
+    delivers : (act p source s (delivery_of m)).number ≡ 0
     delivers = flying p so source s inv m lo x
 
-    delivers_after : (act p source s (deliveryOf m)).after ≡ marked s m
+    delivers_after : (act p source s (delivery_of m)).after ≡ marked s m
     unfolding act
     delivers_after = deliver_goes p s m delivers
 
     inv_then : Inv p source (marked s m)
-    inv_then = rw delivers_after at (next_inv p so source s inv (deliveryOf m))
+    inv_then = rw delivers_after at (next_inv p so source s inv (delivery_of m))
 
     delivery_steps : (areas : AreasApart) → ((c : ℕ) → c < p.processors → Agrees (Has n.packets) Nothing p (marked s m) c (areas c))
-        → Stepped p source s n (deliveryOf m ∷ []) (record { number = 0; after = network_of areas n.packets })
+        → Stepped p source s n (delivery_of m ∷ []) (record { number = 0; after = network_of areas n.packets })
     delivery_steps areas each =
         record {
-          follows = rw (after_one (deliveryOf m), delivers_after)
+          follows = rw (after_one (delivery_of m), delivers_after)
               (record { to = record { inv = inv_then; each = each }; right = fo.right; once = fo.once });
-          counted = rw (steps_one (act p source) s (deliveryOf m), delivers) refl;
+          counted = rw (steps_one (act p source) s (delivery_of m), delivers) refl;
         }
 
   -- ---- a post
@@ -254,7 +254,7 @@ module _ (p : Plan) (so : Sound p) (source : List ℕ) (s : State) (n : Network)
     unfolding machine_events
     events_none k = pick_false _ _ _ (ne_eqb _ 0 k)
 
-    events_home : (post p n m).number ≡ 0 → sender_at p m ≡ taker_at p m → machine_events p n (post_of m) (post p n m).number ≡ deliveryOf m ∷ []
+    events_home : (post p n m).number ≡ 0 → sender_at p m ≡ taker_at p m → machine_events p n (post_of m) (post p n m).number ≡ delivery_of m ∷ []
     unfolding machine_events
     events_home z e = pick_true _ _ _ (eq-eqb _ 0 z) ∙ pick_true _ _ _ (eq-eqb _ _ e)
 
@@ -310,11 +310,11 @@ module _ (p : Plan) (so : Sound p) (source : List ℕ) (s : State) (n : Network)
     abbrev it : Packet
     it = packet_at n.packets k
 
-    arrival_none : (arrive p n k).number ≢ 0 → machine_events p n (arrivalOf k) (arrive p n k).number ≡ []
+    arrival_none : (arrive p n k).number ≢ 0 → machine_events p n (arrival_of k) (arrive p n k).number ≡ []
     unfolding machine_events
     arrival_none q = pick_false _ _ _ (ne_eqb _ 0 q)
 
-    arrival_one : (arrive p n k).number ≡ 0 → machine_events p n (arrivalOf k) (arrive p n k).number ≡ deliveryOf it.message ∷ []
+    arrival_one : (arrive p n k).number ≡ 0 → machine_events p n (arrival_of k) (arrive p n k).number ≡ delivery_of it.message ∷ []
     unfolding machine_events
     arrival_one z = pick_true _ _ _ (eq-eqb _ 0 z)
 
@@ -334,10 +334,10 @@ module _ (p : Plan) (so : Sound p) (source : List ℕ) (s : State) (n : Network)
       stays = still_there p so source s n.areas inv fo.to.each it.message (fo.right k lo).low has_it (fo.right k lo).away it.words
           (fo.right k lo).words
 
-    pub arrive_steps : Stepped p source s n (machine_events p n (arrivalOf k) (arrive p n k).number) (arrive p n k)
+    pub arrive_steps : Stepped p source s n (machine_events p n (arrival_of k) (arrive p n k).number) (arrive p n k)
     arrive_steps = go (ℕ_discrete (arrive p n k).number 0)
       where
-        go : Dec ((arrive p n k).number ≡ 0) → Stepped p source s n (machine_events p n (arrivalOf k) (arrive p n k).number) (arrive p n k)
+        go : Dec ((arrive p n k).number ≡ 0) → Stepped p source s n (machine_events p n (arrival_of k) (arrive p n k).number) (arrive p n k)
         go (no q) = rw (arrival_none q, arrive_some p n k q) (refused _ q)
         go (yes z) =
             rw (arrival_one z, arrive_zero p n k z)
@@ -351,7 +351,7 @@ module _ (p : Plan) (so : Sound p) (source : List ℕ) (s : State) (n : Network)
   unfolding act_network
   event_steps (turn_by b) = rw (turn_is p n b _) (turn_steps b)
   event_steps (post_of m) = post_steps m
-  event_steps (arrivalOf k) = arrive_steps k
+  event_steps (arrival_of k) = arrive_steps k
 
 -- ---- any list of events
 module _ (p : Plan) (so : Sound p) (source : List ℕ) where

@@ -28,10 +28,10 @@ use Rattle.machine.proofs.Once.{once_passed, collects_like}
 use Rattle.machine.proofs.Theorem.{theorem, named_next}
 use Rattle.machine.proofs.StatusTells.{marks_passed}
 use Rattle.network.specs.Apart.{AreasApart, start_apart, replaced, sender_at, taker_at, joined}
-use Rattle.network.specs.Packets.{Packet, packet_at, Network, network_of, NetworkEvent, turn_by, post_of, arrivalOf, act_network, start_network}
+use Rattle.network.specs.Packets.{Packet, packet_at, Network, network_of, NetworkEvent, turn_by, post_of, arrival_of, act_network, start_network}
 use Rattle.network.specs.Brought.{BoardEvent, turn_at, post_at, brought_to, BoardCalls, called_at, act_boards, take_in, machine_boards}
 use Rattle.network.specs.Brought.{Carries}
-use Rattle.network.specs.OnBoards.{events_at, numbers_at, whole, taken_in, handed_over, stepsGot, OnBoards, OnWholeAreas}
+use Rattle.network.specs.OnBoards.{events_at, numbers_at, whole, taken_in, handed_over, steps_got, OnBoards, OnWholeAreas}
 use Rattle.network.proofs.Letters.{replaced_same, replaced_other}
 use Rattle.network.proofs.Agrees.{left_same, number_same, goes_same}
 use Rattle.network.proofs.Joined.{joined_shape, joined_same}
@@ -211,14 +211,14 @@ module _ (p : Plan) (so : Sound p) (away : Away p) (source : List ℕ) (view : �
       D : Demand3 (act p source) (fresh p) passed p source (collect p)
       D = theorem p so source passed
 
-      abbrev machineSteps : ℕ
-      machineSteps = steps (act p source) (fresh p) passed
+      abbrev machine_steps : ℕ
+      machine_steps = steps (act p source) (fresh p) passed
 
       there : state_after (act p source) (fresh p) passed ≡ S
       there = ends (act p source) R.run
 
       -- ---- counting
-      counted : steps A start events ≡ machineSteps + length N.packets
+      counted : steps A start events ≡ machine_steps + length N.packets
       counted =
           let e : length (start_network p).packets ≡ 0 = refl in
           omega (arith, R.counted, ap (count_if (λ x. eqb x 0)) M.numbers)
@@ -234,22 +234,22 @@ module _ (p : Plan) (so : Sound p) (away : Away p) (source : List ℕ) (view : �
       takes_are m = ap (λ (l : List ℕ). deliveries_of m (events_at events) (numbers_at events l)) M.numbers ∙ brings_same (act p source) m R.run
 
       -- ---- all steps taken: those of the machine, and a packet of each message
-      machine_all : steps A start events ≡ whole p → machineSteps ≡ total p
+      machine_all : steps A start events ≡ whole p → machine_steps ≡ total p
       machine_all e = omega (arith, e, counted, few_packets, D.once.bound)
 
       all_there : steps A start events ≡ whole p → steps_in (numbers_at events (answers_to A start events)) ≡ total p
       all_there e = ap (λ (l : List ℕ). steps_in (numbers_at events l)) M.numbers ∙ sym (steps_same (act p source) R.run) ∙ machine_all e
 
-      all_posted : machineSteps ≡ total p → (m : ℕ) → m < count p → Has O.packets m
+      all_posted : machine_steps ≡ total p → (m : ℕ) → m < count p → Has O.packets m
       all_posted e m lo = taken_posted p.processors c m events start k (omega (arith, takes_are m, D.once.all_delivered e m lo))
 
-      packets_all : machineSteps ≡ total p → length N.packets ≡ count p
+      packets_all : machine_steps ≡ total p → length N.packets ≡ count p
       packets_all e = omega (arith, at_least O.packets (count p) (all_posted e), ap length M.packets, few_packets)
 
-      fewer : steps A start events < whole p → machineSteps < total p
-      fewer h = go (ℕ_discrete machineSteps (total p))
+      fewer : steps A start events < whole p → machine_steps < total p
+      fewer h = go (ℕ_discrete machine_steps (total p))
         where
-          go : Dec (machineSteps ≡ total p) → machineSteps < total p
+          go : Dec (machine_steps ≡ total p) → machine_steps < total p
           go (yes e) = absurd (omega (arith, h, counted, packets_all e))
           go (no q) = omega (arith, D.once.bound)
 
@@ -288,7 +288,7 @@ module _ (p : Plan) (so : Sound p) (away : Away p) (source : List ℕ) (view : �
                 ∙ can_deliver p (N.areas (sender_at p m)) m (board_fit p so away source S N fo (sender_at p m) h) q.0 q.1,
             tt,
           )
-      as_board (arrivalOf i) z =
+      as_board (arrival_of i) z =
           let q = arrive_asks p N i z in
           let m = (packet_at N.packets i).message in
           let lo : m < count p = (fo.right i q.0).low in
@@ -305,7 +305,7 @@ module _ (p : Plan) (so : Sound p) (away : Away p) (source : List ℕ) (view : �
       unfolding act_network
       as_network (turn_at b) h z = (turn_by b, sym (number_of (turn_as p so away source S N fo b)) ∙ z)
       as_network (post_at b m) h z = (post_of m, post_is p so away source S N fo b m z)
-      as_network (brought_to b m ws) h z = (arrivalOf h.at, arrives p so away source S N fo b m ws h z)
+      as_network (brought_to b m ws) h z = (arrival_of h.at, arrives p so away source S N fo b m ws h z)
 
       goes : steps A start events < whole p → (e : BoardEvent) × ((A O e).number ≡ 0) × Carries A O (e ∷ [])
       goes h =
@@ -522,8 +522,8 @@ module _ (p : Plan) (so : Sound p) (away : Away p) (source : List ℕ) (c : Boar
 
   module _ (events : List BoardEvent) (k : Carries acts start events)
       (shared : State → Event → Answered State) (collects : State → List ℕ → Answered (List ℕ)) (like : SharedLike p source shared collects) where
-    abbrev last-areas : AreasApart
-    last-areas = (state_after acts start events).areas
+    abbrev last_areas : AreasApart
+    last_areas = (state_after acts start events).areas
 
     abbrev final : State
     final = S p so away source (λ b s. s) c alike start none begins events k
@@ -531,16 +531,16 @@ module _ (p : Plan) (so : Sound p) (away : Away p) (source : List ℕ) (c : Boar
     known : Follows p source final (state_after acts start events)
     known = follows_there events k
 
-    joined_as : (grid : List ℕ) → collects (joined p last-areas) grid ≡ collects final grid
+    joined_as : (grid : List ℕ) → collects (joined p last_areas) grid ≡ collects final grid
     joined_as =
-        like.joining final (joined p last-areas) known.to.inv.shape (joined_shape p last-areas (λ b h. (known.to.each b h).shape))
-        (joined_same p so source final last-areas known.to)
+        like.joining final (joined p last_areas) known.to.inv.shape (joined_shape p last_areas (λ b h. (known.to.each b h).shape))
+        (joined_same p so source final last_areas known.to)
 
     demanded : Demand3 (act p source) (fresh p) (passed p so away source (λ b s. s) c alike start none begins events k) p source (collect p)
     demanded = D p so away source (λ b s. s) c alike start none begins events k
 
     collects_as : (grid : List ℕ) → length grid ≡ p.cells
-        → collects (joined p last-areas) grid
+        → collects (joined p last_areas) grid
         ≡ collect p (state_after (act p source) (fresh p) (passed p so away source (λ b s. s) c alike start none begins events k)) grid
     collects_as grid len =
         joined_as grid ∙ like.collecting final known.to.inv grid len
@@ -551,7 +551,7 @@ module _ (p : Plan) (so : Sound p) (away : Away p) (source : List ℕ) (c : Boar
         record {
           by_rule = λ before after b q z. by_program before (carries_prefix acts start before (turn_at b ∷ after) (rw q at k)) b z;
           collecting =
-              collects_like p source (stepsGot acts start events ≡ whole p) _ (collects (joined p last-areas)) _
+              collects_like p source (steps_got acts start events ≡ whole p) _ (collects (joined p last_areas)) _
               (machine_all p so away source (λ b s. s) c alike start none begins events k)
               (λ t.
               omega (

@@ -12,15 +12,15 @@ use Rattle.base.proofs.Tests.{not-false}
 use Rattle.base.proofs.Select.{keep_few}
 use Rattle.machine.specs.Plan.{Plan, Sound, count}
 use Rattle.machine.specs.Machine.{State, Answered, collect, fresh}
-use Rattle.machine.specs.Runs.{Event, turn_of, deliveryOf, act, total, Demand3}
+use Rattle.machine.specs.Runs.{Event, turn_of, delivery_of, act, total, Demand3}
 use Rattle.machine.proofs.Turns.{delivered}
 use Rattle.machine.proofs.Kept.{status_of}
 use Rattle.machine.proofs.Events.{flying}
 use Rattle.machine.proofs.RunLaws.{number_of}
 use Rattle.machine.proofs.Once.{collects_like}
 use Rattle.network.specs.Apart.{sender_at, taker_at, joined, collect_apart}
-use Rattle.network.specs.Packets.{Network, packet_at, status_at, NetworkEvent, turn_by, post_of, arrivalOf, turn_network, act_network}
-use Rattle.network.specs.Packets.{start_network, mailed, networkAfter, stepsHere, besides, lastBeside, stepsBeside, ByPackets, MachineByPackets}
+use Rattle.network.specs.Packets.{Network, packet_at, status_at, NetworkEvent, turn_by, post_of, arrival_of, turn_network, act_network}
+use Rattle.network.specs.Packets.{start_network, mailed, network_after, steps_here, besides, last_beside, steps_beside, ByPackets, MachineByPackets}
 use Rattle.network.proofs.Together.{turn_number}
 use Rattle.network.proofs.Theorem.{both_are}
 use Rattle.network.proofs.Joined.{joined_shape, collect_same, joined_same}
@@ -39,7 +39,7 @@ module _ (p : Plan) (so : Sound p) (source : List ℕ) (s : State) (n : Network)
   pub step_here : (e : Event) → (act p source s e).number ≡ 0 → (x : NetworkEvent) × ((act_network p source n x).number ≡ 0)
   unfolding act act_network
   step_here (turn_of b) z = (turn_by b, turn_gives b ∙ z)
-  step_here (deliveryOf m) z = go lo
+  step_here (delivery_of m) z = go lo
       (((fo.to.each (sender_at p m) (sender_at_lem p so source s n.areas fo.to.inv fo.to.each m lo)).letters m lo (λ i. i)).one_own refl fly)
     where
       lo : m < count p
@@ -51,7 +51,7 @@ module _ (p : Plan) (so : Sound p) (source : List ℕ) (s : State) (n : Network)
       go : m < count p → (status_at n.areas (sender_at p m) m ≡ 1) ⊎ Has n.packets m → (x : NetworkEvent) × ((act_network p source n x).number ≡ 0)
       go l (inl y) = (post_of m, post_gives p n m l y)
       go l (inr h) =
-          (arrivalOf h.at, arrive_gives p n h.at h.low (awaited p so source s n fo h.at h.low (ap (status_of s) h.is ∙ fly)))
+          (arrival_of h.at, arrive_gives p n h.at h.low (awaited p so source s n fo h.at h.low (ap (status_of s) h.is ∙ fly)))
 
   -- and an event that gives 0 leaves the machine a step
   pub step_there : (x : NetworkEvent) → (act_network p source n x).number ≡ 0 → (e : Event) × ((act p source s e).number ≡ 0)
@@ -59,16 +59,16 @@ module _ (p : Plan) (so : Sound p) (source : List ℕ) (s : State) (n : Network)
   step_there (turn_by b) z = (turn_of b, sym (turn_gives b) ∙ z)
   step_there (post_of m) z =
       let k = post_asks p n m z in
-      (deliveryOf m, flying p so source s fo.to.inv m k.0 (in_flight p so source s n.areas fo.to.inv fo.to.each m k.0 k.1))
-  step_there (arrivalOf i) z =
+      (delivery_of m, flying p so source s fo.to.inv m k.0 (in_flight p so source s n.areas fo.to.inv fo.to.each m k.0 k.1))
+  step_there (arrival_of i) z =
       let k = arrive_asks p n i z in (
-        deliveryOf (packet_at n.packets i).message,
+        delivery_of (packet_at n.packets i).message,
         flying p so source s fo.to.inv _ (fo.right i k.0).low
             (came p so source s n fo i k.0 k.1),
       )
 
   pub away_is : (k : ℕ) → k < length n.packets → status_at n.areas (taker_at p (packet_at n.packets k).message) (packet_at n.packets k).message ≢ 0
-      → act_network p source n (arrivalOf k) ≡ record { number = 14; after = n }
+      → act_network p source n (arrival_of k) ≡ record { number = 14; after = n }
   unfolding act_network
   away_is k lo q =
       let e = arrive_away p n k lo q in
@@ -98,10 +98,10 @@ module _ (p : Plan) (so : Sound p) (source : List ℕ) (acts : Network → Netwo
   run = besides acts start events p shared
 
   abbrev S : State
-  S = lastBeside acts start events p shared
+  S = last_beside acts start events p shared
 
   abbrev N : Network
-  N = networkAfter acts start events
+  N = network_after acts start events
 
   fo : Follows p source S N
   fo = rw (shared_end p so source shared collects like run) (run_follows p so source acts same events (fresh p) start begins)
@@ -109,7 +109,7 @@ module _ (p : Plan) (so : Sound p) (source : List ℕ) (acts : Network → Netwo
   demand : Demand3 shared (fresh p) run p source collects
   demand = like.demand run
 
-  all_counted : stepsHere acts start events ≡ stepsBeside acts start events p shared + length N.packets
+  all_counted : steps_here acts start events ≡ steps_beside acts start events p shared + length N.packets
   all_counted =
       let c = run_counted p so source acts same events (fresh p) start begins in
       let d = shared_steps p so source shared collects like run in
@@ -156,11 +156,11 @@ module _ (p : Plan) (so : Sound p) (source : List ℕ) (acts : Network → Netwo
             ((fo.to.each (sender_at p m) (sender_at_lem p so source S N.areas fo.to.inv fo.to.each m lo)
             ).letters m lo (λ z. z)).own_words refl h ∙ fo.to.inv.right.buffered m lo h;
         lies_there = λ k h. stays p so source S N fo k h;
-        turned_away = λ k h q. same S N fo (arrivalOf k) ∙ away_is p so source S N fo k h q;
+        turned_away = λ k h q. same S N fo (arrival_of k) ∙ away_is p so source S N fo k h q;
         goes_on = λ h. let r = demand.goes_on h in goes_here r.0 r.1;
         then_fewer = λ x z. let r = goes_there x z in demand.then_fewer r.0 r.1;
         collecting =
-            collects_like p source (stepsBeside acts start events p shared ≡ total p) _ (collect_apart p N.areas) _ (λ e. e) (λ e. e)
+            collects_like p source (steps_beside acts start events p shared ≡ total p) _ (collect_apart p N.areas) _ (λ e. e) (λ e. e)
             (λ grid len. collect_same p so source S N.areas fo.to grid ∙ sym (collecting_is grid len)) demand.collecting;
         joins = joined_as;
         joined_grid = λ e old len. joined_as old ∙ both_are (collects S old) (demand.collecting.can_collect e old len) (demand.collecting.grid e old len);

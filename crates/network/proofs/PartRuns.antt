@@ -20,7 +20,7 @@ use Rattle.machine.specs.Runs.{act, state_after, answers_to}
 use Rattle.machine.proofs.Invariant.{sender_low}
 use Rattle.network.specs.Apart.{AreasApart, replaced, sender_at, taker_at, marked, received, sent_off, arrived, turn_apart, assembled}
 use Rattle.network.specs.Apart.{collect_apart}
-use Rattle.network.specs.Packets.{Packet, Network, network_of, packet_at, status_at, NetworkEvent, turn_by, post_of, arrivalOf, posted, post, arrive}
+use Rattle.network.specs.Packets.{Packet, Network, network_of, packet_at, status_at, NetworkEvent, turn_by, post_of, arrival_of, posted, post, arrive}
 use Rattle.network.specs.Packets.{turn_network, act_network, start_network, machine_events}
 use Rattle.network.specs.Locality.{PlanLengths, Keeps, Handles, SameTo, Likewise, ReadsOwnWord}
 use Rattle.network.specs.Own.{narrowed, widened}
@@ -223,7 +223,7 @@ module _ (p : Plan) (so : Sound p) (own : ReadsOwnWord p) (source : List ℕ) (l
     unfolding act_network
     event_alike (turn_by b) = turn_alike b
     event_alike (post_of m) = post_alike m
-    event_alike (arrivalOf k) = arrive_alike k
+    event_alike (arrival_of k) = arrive_alike k
 
 -- ---- a run on the parts beside a run on whole areas
 -- of calls that answer as the network does wherever areas have their lengths and are fit

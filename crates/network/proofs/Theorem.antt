@@ -15,7 +15,7 @@ use Rattle.machine.proofs.Turns.{collect_gives}
 use Rattle.machine.proofs.RunLaws.{number_of, after_of, same_end, same_numbers}
 use Rattle.machine.proofs.Once.{collects_like}
 use Rattle.machine.proofs.Theorem.{named_next}
-use Rattle.network.specs.Apart.{AreasApart, start_apart, replaced, turn_apart, act_apart, assembled, collect_apart, joined, CarriedOutApart, stepsApart}
+use Rattle.network.specs.Apart.{AreasApart, start_apart, replaced, turn_apart, act_apart, assembled, collect_apart, joined, CarriedOutApart, steps_apart}
 use Rattle.network.specs.Apart.{Demand3Apart, MachineApart}
 use Rattle.network.proofs.Agrees.{Nothing, goes_same}
 use Rattle.network.proofs.Together.{Together, start_together, turn_here, turn_nowhere, event_number, event_together, run_together, run_answers}
@@ -112,24 +112,24 @@ module _ (p : Plan) (so : Sound p) (source : List ℕ) (acts : AreasApart → Ev
     demand : Demand3 shared (fresh p) events p source collects
     demand = like.demand events
 
-    same_steps : stepsApart acts start events ≡ steps shared (fresh p) events
+    same_steps : steps_apart acts start events ≡ steps shared (fresh p) events
     same_steps = ap (count_if (λ x. eqb x 0)) (answers_are events)
 
-    ends : stepsApart acts start events ≡ total p → steps shared (fresh p) events ≡ total p
+    ends : steps_apart acts start events ≡ total p → steps shared (fresh p) events ≡ total p
     ends e = sym same_steps ∙ e
 
     -- collecting on the shared areas is the machine's
-    gives : stepsApart acts start events ≡ total p → (grid : List ℕ) → length grid ≡ p.cells → (collect p S grid).number ≡ 0
+    gives : steps_apart acts start events ≡ total p → (grid : List ℕ) → length grid ≡ p.cells → (collect p S grid).number ≡ 0
     gives e grid len = sym (number_of (like.collecting S all.inv grid len)) ∙ demand.collecting.can_collect (ends e) grid len
 
-    leaves : stepsApart acts start events ≡ total p → (grid : List ℕ) → length grid ≡ p.cells → (collect p S grid).after ≡ sweep p source
+    leaves : steps_apart acts start events ≡ total p → (grid : List ℕ) → length grid ≡ p.cells → (collect p S grid).after ≡ sweep p source
     leaves e grid len = sym (after_of (like.collecting S all.inv grid len)) ∙ demand.collecting.grid (ends e) grid len
 
     table_length : length (collected p S) ≡ p.cells
     unfolding collected
     table_length = length_tabulate _ p.cells
 
-    whole_grid : stepsApart acts start events ≡ total p → assembled p A ≡ sweep p source
+    whole_grid : steps_apart acts start events ≡ total p → assembled p A ≡ sweep p source
     whole_grid e =
         assembled_same p so source S A all
         ∙ sym (collect_gives p S (collected p S) (gives e (collected p S) table_length))
@@ -150,7 +150,7 @@ module _ (p : Plan) (so : Sound p) (source : List ℕ) (acts : AreasApart → Ev
           goes_on = λ h. let r = demand.goes_on (omega (arith, same_steps)) in (r.0, number_is events r.0 ∙ r.1);
           then_fewer = λ e z. omega (arith, same_steps, demand.then_fewer e (sym (number_is events e) ∙ z));
           collecting =
-              collects_like p source (stepsApart acts start events ≡ total p) _ (collect_apart p A) _ ends (λ e. same_steps ∙ e)
+              collects_like p source (steps_apart acts start events ≡ total p) _ (collect_apart p A) _ ends (λ e. same_steps ∙ e)
               (λ grid len. collect_same p so source S A all grid ∙ sym (like.collecting S all.inv grid len)) demand.collecting;
           carried_out = λ before after b e z. rw (answers_are before) (carried before b z);
           grid = whole_grid;

@@ -10,7 +10,7 @@ use Rattle.base.proofs.Tests.{not-true, not-false, pick_true, pick_false}
 use Rattle.base.proofs.Numbers.{first_false, first_true}
 use Rattle.machine.specs.Plan.{Plan, Sound}
 use Rattle.machine.specs.Machine.{State, Answered, turn, fresh}
-use Rattle.machine.specs.Runs.{Event, turn_of, deliveryOf, act, state_after, answers_to}
+use Rattle.machine.specs.Runs.{Event, turn_of, delivery_of, act, state_after, answers_to}
 use Rattle.machine.proofs.Kept.{Inv, inv_fit}
 use Rattle.machine.proofs.Fresh.{inv_fresh, status_fresh}
 use Rattle.machine.proofs.Along.{next_inv}
@@ -88,12 +88,12 @@ module _ (p : Plan) (so : Sound p) (source : List ℕ) (s : State) (areas : Area
   pub event_number : (e : Event) → (act_apart p source areas e).number ≡ (act p source s e).number
   unfolding act_apart act
   event_number (turn_of b) = turn_number p so source s areas to b
-  event_number (deliveryOf m) = carry_number p so source s areas to.inv to.each m
+  event_number (delivery_of m) = carry_number p so source s areas to.inv to.each m
 
   event_agrees : (e : Event) (c : ℕ) → c < p.processors → Agrees Nothing Nothing p (act p source s e).after c ((act_apart p source areas e).after c)
   unfolding act_apart act
   event_agrees (turn_of b) c low = turn_agrees p so source s areas to b c low
-  event_agrees (deliveryOf m) c low = carry_agrees p so source s areas to.inv to.each m c low
+  event_agrees (delivery_of m) c low = carry_agrees p so source s areas to.inv to.each m c low
 
   pub event_together : (e : Event) → Together Nothing p source (act p source s e).after (act_apart p source areas e).after
   event_together e = record { inv = next_inv p so source s to.inv e; each = event_agrees e }

@@ -8,7 +8,7 @@ use Rattle.base.specs.Numbers.{Line, line, first_of}
 use Rattle.machine.specs.Plan.{Plan, count, sender_of, taker_of, offset}
 use Rattle.machine.specs.Machine.{State, state_of, finished_of, stage_of, sent_of, set_progress, memory_of, place_of, tiles_left, gather, carry_out, Answered}
 use Rattle.machine.specs.Machine.{answered, turn, collect, fresh, sweep}
-use Rattle.machine.specs.Runs.{Event, turn_of, deliveryOf, act, total, program, turns_of, last, answers, state_after, answers_to, steps, Once, Collects}
+use Rattle.machine.specs.Runs.{Event, turn_of, delivery_of, act, total, program, turns_of, last, answers, state_after, answers_to, steps, Once, Collects}
 
 -- ---- the system
 
@@ -68,7 +68,7 @@ deliver_apart p areas m = answered (first_of (carry_lines p areas m)) (carried p
 
 unfoldable pub act_apart : Plan → List ℕ → AreasApart → Event → Answered AreasApart
 act_apart p source areas (turn_of b) = turn_apart p source areas b
-act_apart p source areas (deliveryOf m) = deliver_apart p areas m
+act_apart p source areas (delivery_of m) = deliver_apart p areas m
 
 -- collecting: each cell from the processor of its tile, out of that processor's own part of its own memories,
 -- once no processor says of itself that it has tiles left
@@ -98,43 +98,43 @@ pub record CarriedOutApart (p : Plan) (source : List ℕ) (acts : AreasApart →
   pub by_rule : (acts areas (turn_of b)).after ≡ replaced areas b (carry_out p source (areas b) b (get_or (program p b) k (gather 0)))
 
 module _ (acts : AreasApart → Event → Answered AreasApart) (start : AreasApart) (events : List Event) where
-  abbrev pub areasAfter : AreasApart
-  areasAfter = last acts start events
+  abbrev pub areas_after : AreasApart
+  areas_after = last acts start events
 
-  abbrev pub answersApart : List ℕ
-  answersApart = answers acts start events
+  abbrev pub answers_apart : List ℕ
+  answers_apart = answers acts start events
 
-  abbrev pub stepsApart : ℕ
-  stepsApart = steps acts start events
+  abbrev pub steps_apart : ℕ
+  steps_apart = steps acts start events
 
   pub record Demand3Apart (p : Plan) (source : List ℕ) (shared : State → Event → Answered State) (collects : State → List ℕ → Answered (List ℕ))
       : Type 0 where
     -- the answers are, one by one, those on shared areas
-    pub same_answers : answersApart ≡ answers shared (fresh p) events
+    pub same_answers : answers_apart ≡ answers shared (fresh p) events
     -- each processor has its part of the shared memories and its record
-    pub same_memory : (b : ℕ) → b < p.processors → memory_of p (areasAfter b) b ≡ memory_of p (last shared (fresh p) events) b
-    pub same_finished : (b : ℕ) → b < p.processors → finished_of (areasAfter b) b ≡ finished_of (last shared (fresh p) events) b
-    pub same_stage : (b : ℕ) → b < p.processors → stage_of (areasAfter b) b ≡ stage_of (last shared (fresh p) events) b
-    pub same_sent : (b : ℕ) → b < p.processors → sent_of (areasAfter b) b ≡ sent_of (last shared (fresh p) events) b
+    pub same_memory : (b : ℕ) → b < p.processors → memory_of p (areas_after b) b ≡ memory_of p (last shared (fresh p) events) b
+    pub same_finished : (b : ℕ) → b < p.processors → finished_of (areas_after b) b ≡ finished_of (last shared (fresh p) events) b
+    pub same_stage : (b : ℕ) → b < p.processors → stage_of (areas_after b) b ≡ stage_of (last shared (fresh p) events) b
+    pub same_sent : (b : ℕ) → b < p.processors → sent_of (areas_after b) b ≡ sent_of (last shared (fresh p) events) b
     -- demand 3, as in the machine's Runs
-    pub once : Once p events answersApart
-    pub goes_on : stepsApart < total p → (e : Event) × ((acts areasAfter e).number ≡ 0)
-    pub then_fewer : (e : Event) → (acts areasAfter e).number ≡ 0 → stepsApart < total p
-    pub collecting : Collects p source (stepsApart ≡ total p) (collect_apart p areasAfter)
+    pub once : Once p events answers_apart
+    pub goes_on : steps_apart < total p → (e : Event) × ((acts areas_after e).number ≡ 0)
+    pub then_fewer : (e : Event) → (acts areas_after e).number ≡ 0 → steps_apart < total p
+    pub collecting : Collects p source (steps_apart ≡ total p) (collect_apart p areas_after)
     pub carried_out : (before after : List Event) (b : ℕ) → events ≡ before ++ (turn_of b ∷ after)
         → (acts (state_after acts start before) (turn_of b)).number ≡ 0
         → CarriedOutApart p source acts (state_after acts start before) b (turns_of b before (answers_to acts start before))
     -- the grid made of the processors' own parts is the sequential sweep
-    pub grid : stepsApart ≡ total p → assembled p areasAfter ≡ sweep p source
+    pub grid : steps_apart ≡ total p → assembled p areas_after ≡ sweep p source
     -- collecting on areas joined from the parts answers as on shared ones
-    pub joins : (old : List ℕ) → collects (joined p areasAfter) old ≡ collects (last shared (fresh p) events) old
-    pub joined_grid : stepsApart ≡ total p → (old : List ℕ) → length old ≡ p.cells
-        → collects (joined p areasAfter) old ≡ record { number = 0; after = sweep p source }
+    pub joins : (old : List ℕ) → collects (joined p areas_after) old ≡ collects (last shared (fresh p) events) old
+    pub joined_grid : steps_apart ≡ total p → (old : List ℕ) → length old ≡ p.cells
+        → collects (joined p areas_after) old ≡ record { number = 0; after = sweep p source }
 
 -- ---- of the machine
 
 abbrev pub last_apart : Plan → List ℕ → List Event → AreasApart
-last_apart p source events = areasAfter (act_apart p source) (start_apart p) events
+last_apart p source events = areas_after (act_apart p source) (start_apart p) events
 
 -- the same events on shared areas
 abbrev pub last_shared : Plan → List ℕ → List Event → State

@@ -5,7 +5,7 @@ use Rattle.base.specs.Tests.{◌and◌, one}
 use Rattle.base.specs.Lists.{In}
 use Rattle.machine.specs.Plan.{Plan, count, held_by}
 use Rattle.machine.specs.Machine.{State, Answered, gather, memory_of, tiles_left, carry_out, sweep}
-use Rattle.machine.specs.Runs.{Event, turn_of, deliveryOf, state_after, answers_to, total, program, turns_of, deliveries_of, last, answers, steps, steps_in}
+use Rattle.machine.specs.Runs.{Event, turn_of, delivery_of, state_after, answers_to, total, program, turns_of, deliveries_of, last, answers, steps, steps_in}
 use Rattle.machine.specs.Runs.{Once, Collects}
 use Rattle.network.specs.Apart.{replaced, sender_at, taker_at, joined}
 use Rattle.network.specs.Packets.{Packet, packet_at, Network}
@@ -18,7 +18,7 @@ unfoldable pub events_at : List BoardEvent → List Event
 events_at [] = []
 events_at (turn_at b ∷ es) = turn_of b ∷ events_at es
 events_at (post_at b m ∷ es) = events_at es
-events_at (brought_to b m ws ∷ es) = deliveryOf m ∷ events_at es
+events_at (brought_to b m ws ∷ es) = delivery_of m ∷ events_at es
 
 -- and the numbers that these got
 unfoldable pub numbers_at : List BoardEvent → List ℕ → List ℕ
@@ -42,21 +42,21 @@ whole p = total p + count p
 
 -- ---- the claim about a list of events from `start`, by the answers that `acts` gives
 module _ (acts : Network → BoardEvent → Answered Network) (start : Network) (events : List BoardEvent) where
-  abbrev pub boardsAfter : Network
-  boardsAfter = last acts start events
+  abbrev pub boards_after : Network
+  boards_after = last acts start events
 
-  abbrev pub packetsAfter : List Packet
-  packetsAfter = (last acts start events).packets
+  abbrev pub packets_after : List Packet
+  packets_after = (last acts start events).packets
 
-  abbrev pub numbersGot : List ℕ
-  numbersGot = answers acts start events
+  abbrev pub numbers_got : List ℕ
+  numbers_got = answers acts start events
 
-  abbrev pub stepsGot : ℕ
-  stepsGot = steps acts start events
+  abbrev pub steps_got : ℕ
+  steps_got = steps acts start events
 
   -- the numbers that the machine's events among them got; how often message m was taken in, and handed over
-  abbrev pub machineNumbers : List ℕ
-  machineNumbers = numbers_at events (answers acts start events)
+  abbrev pub machine_numbers : List ℕ
+  machine_numbers = numbers_at events (answers acts start events)
 
   abbrev pub taken_in : ℕ → ℕ
   taken_in m = deliveries_of m (events_at events) (numbers_at events (answers acts start events))
@@ -65,35 +65,35 @@ module _ (acts : Network → BoardEvent → Answered Network) (start : Network) 
   handed_over m = posts_of m events (answers acts start events)
 
   pub record OnBoards (p : Plan) (source : List ℕ) : Type 0 where
-    pub bound : stepsGot ≤ whole p
+    pub bound : steps_got ≤ whole p
     -- some event would give 0 exactly when the steps are fewer; if only the taking in of what was posted
-    pub goes_on : stepsGot < whole p → (e : BoardEvent) × ((acts boardsAfter e).number ≡ 0) × Carries acts boardsAfter (e ∷ [])
-    pub then_fewer : (e : BoardEvent) → Carries acts boardsAfter (e ∷ []) → (acts boardsAfter e).number ≡ 0 → stepsGot < whole p
+    pub goes_on : steps_got < whole p → (e : BoardEvent) × ((acts boards_after e).number ≡ 0) × Carries acts boards_after (e ∷ [])
+    pub then_fewer : (e : BoardEvent) → Carries acts boards_after (e ∷ []) → (acts boards_after e).number ≡ 0 → steps_got < whole p
     -- no cell is calculated twice, one that is not in the nest never; no message sent, taken in or gathered twice; no board has a step beyond its program
-    pub once : Once p (events_at events) machineNumbers
+    pub once : Once p (events_at events) machine_numbers
     -- and none is handed over twice
     pub handed_over_once : (m : ℕ) → m < count p → handed_over m ≤ 1
     -- when the steps are that many, so are the machine's among them: each message exactly once, and each cell in the nest; and each is handed over
-    pub then_total : stepsGot ≡ whole p → steps_in machineNumbers ≡ total p
-    pub all_handed_over : stepsGot ≡ whole p → (m : ℕ) → m < count p → handed_over m ≡ 1
+    pub then_total : steps_got ≡ whole p → steps_in machine_numbers ≡ total p
+    pub all_handed_over : steps_got ≡ whole p → (m : ℕ) → m < count p → handed_over m ≡ 1
     -- what was posted is a message's number and the sweep's words of its cells, and no message was posted twice
-    pub posted_low : (k : ℕ) → k < length packetsAfter → (packet_at packetsAfter k).message < count p
-    pub posted_words : (k : ℕ) → k < length packetsAfter
-        → (packet_at packetsAfter k).words ≡ map (λ c. get_or (sweep p source) c 0) (held_by p (packet_at packetsAfter k).message)
-    pub posted_once : (i k : ℕ) → i < length packetsAfter → k < length packetsAfter
-        → (packet_at packetsAfter i).message ≡ (packet_at packetsAfter k).message → i ≡ k
+    pub posted_low : (k : ℕ) → k < length packets_after → (packet_at packets_after k).message < count p
+    pub posted_words : (k : ℕ) → k < length packets_after
+        → (packet_at packets_after k).words ≡ map (λ c. get_or (sweep p source) c 0) (held_by p (packet_at packets_after k).message)
+    pub posted_once : (i k : ℕ) → i < length packets_after → k < length packets_after
+        → (packet_at packets_after i).message ≡ (packet_at packets_after k).message → i ≡ k
     -- whatever is refused, nothing is written, on any board
-    pub refused : (e : BoardEvent) → (acts boardsAfter e).number ≢ 0 → (acts boardsAfter e).after ≡ boardsAfter
+    pub refused : (e : BoardEvent) → (acts boards_after e).number ≢ 0 → (acts boards_after e).after ≡ boards_after
     -- brought to the wrong board, it is 11; no such message, 11; harmed in its length, 9; come before, 14
     pub wrong_board : (b m : ℕ) (ws : List ℕ) → m < count p → length ws ≡ length (held_by p m) → taker_at p m ≢ b
-        → (acts boardsAfter (brought_to b m ws)).number ≡ 11
-    pub no_message : (b m : ℕ) (ws : List ℕ) → count p ≤ m → (acts boardsAfter (brought_to b m ws)).number ≡ 11
+        → (acts boards_after (brought_to b m ws)).number ≡ 11
+    pub no_message : (b m : ℕ) (ws : List ℕ) → count p ≤ m → (acts boards_after (brought_to b m ws)).number ≡ 11
     pub wrong_length : (b m : ℕ) (ws : List ℕ) → b < p.processors → m < count p → length ws ≢ length (held_by p m)
-        → (acts boardsAfter (brought_to b m ws)).number ≡ 9
+        → (acts boards_after (brought_to b m ws)).number ≡ 9
     pub again : (m : ℕ) (ws : List ℕ) → m < count p → length ws ≡ length (held_by p m) → 1 ≤ taken_in m
-        → (acts boardsAfter (brought_to (taker_at p m) m ws)).number ≡ 14
+        → (acts boards_after (brought_to (taker_at p m) m ws)).number ≡ 14
     -- a board that hands over another's message gets 14
-    pub not_its_own : (b m : ℕ) → b < p.processors → m < count p → sender_at p m ≢ b → (acts boardsAfter (post_at b m)).number ≡ 14
+    pub not_its_own : (b m : ℕ) → b < p.processors → m < count p → sender_at p m ≢ b → (acts boards_after (post_at b m)).number ≡ 14
 
   -- ---- boards that have all four areas each: a turn that gave 0 carried out the action that its program names, and collecting on areas joined from the
   -- boards' parts, as they came in, gives the sweep exactly when all steps are taken
@@ -104,10 +104,10 @@ module _ (acts : Network → BoardEvent → Answered Network) (start : Network) 
         ≡ replaced (state_after acts start before).areas b
         (carry_out p source ((state_after acts start before).areas b) b
         (get_or (program p b) (turns_of b (events_at before) (numbers_at before (answers_to acts start before))) (gather 0)))
-    pub collecting : Collects p source (stepsGot ≡ whole p) (collects (joined p boardsAfter.areas))
+    pub collecting : Collects p source (steps_got ≡ whole p) (collects (joined p boards_after.areas))
     -- a board with no tiles left has the sweep's words of its cells, whatever the others have
-    pub part_right : (b c : ℕ) → b < p.processors → tiles_left p (boardsAfter.areas b) b ≡ false → c < p.cells → p.inside c ≡ true
-        → p.processor_of (p.tile_of c) ≡ b → get_or (memory_of p (boardsAfter.areas b) b) c 0 ≡ get_or (sweep p source) c 0
+    pub part_right : (b c : ℕ) → b < p.processors → tiles_left p (boards_after.areas b) b ≡ false → c < p.cells → p.inside c ≡ true
+        → p.processor_of (p.tile_of c) ≡ b → get_or (memory_of p (boards_after.areas b) b) c 0 ≡ get_or (sweep p source) c 0
 
 -- ---- parts collected one by one, as they come in
 

@@ -16,7 +16,7 @@ use Rattle.base.proofs.Lists.{part_length, length_put}
 use Rattle.base.proofs.Numbers.{first_false, first_true, first_behind}
 use Rattle.machine.specs.Plan.{Plan, Sound, count, sender_of, taker_of, held_by, offset}
 use Rattle.machine.specs.Machine.{State, place_of, fit, Answered, answered, turn, deliver, collect_lines, collect, collected}
-use Rattle.machine.specs.Runs.{Event, turn_of, deliveryOf}
+use Rattle.machine.specs.Runs.{Event, turn_of, delivery_of}
 use Rattle.machine.proofs.Values.{offset_apart}
 use Rattle.machine.proofs.Progress.{Shape}
 use Rattle.machine.proofs.Invariant.{sender_low}
@@ -32,7 +32,7 @@ use Rattle.recipe.specs.Routes.{lines_for}
 use Rattle.recipe.proofs.Laws.{numbered_for}
 use Rattle.network.specs.Apart.{AreasApart, replaced, sender_at, taker_at, marked, received, sent_off, arrived, carried, turn_apart, deliver_apart, act_apart}
 use Rattle.network.specs.Transport.{copied}
-use Rattle.network.specs.Packets.{Packet, Network, network_of, packet_at, NetworkEvent, turn_by, post_of, arrivalOf, posted, post, arrival_lines, arrive}
+use Rattle.network.specs.Packets.{Packet, Network, network_of, packet_at, NetworkEvent, turn_by, post_of, arrival_of, posted, post, arrival_lines, arrive}
 use Rattle.network.specs.Packets.{turn_network, act_network}
 use Rattle.network.specs.Locality.{PlanLengths, SameSource, ReadsOwnWord}
 use Rattle.network.proofs.Letters.{replaced_same, replaced_other, replaced_own, words_fit}
@@ -296,7 +296,7 @@ module _ (bytes : List ℕ) (route : ℕ) (ok : first_of (lines_for (route_of ro
       pub apart_same : (e : Event) → calls_apart bytes route sources a e ≡ act_apart p source a e
       unfolding calls_apart act_apart
       apart_same (turn_of b) = turn_same a fine b
-      apart_same (deliveryOf m) = deliver_same m
+      apart_same (delivery_of m) = deliver_same m
 
     -- ---- delivery as two
     module _ (n : Network) (fo : FineNetwork p n) where
@@ -385,4 +385,4 @@ module _ (bytes : List ℕ) (route : ℕ) (ok : first_of (lines_for (route_of ro
       network_same (turn_by b) =
           ap (λ (x : Answered AreasApart). record { number = x.number; after = network_of x.after n.packets }) (turn_same n.areas fo.areas b)
       network_same (post_of m) = post_same m
-      network_same (arrivalOf k) = arrive_same k
+      network_same (arrival_of k) = arrive_same k

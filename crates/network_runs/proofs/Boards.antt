@@ -27,7 +27,7 @@ use Rattle.network.specs.Packets.{Network, start_network}
 use Rattle.network.specs.Locality.{ReadsOwnWord}
 use Rattle.network.specs.Own.{handles}
 use Rattle.network.specs.Brought.{BoardEvent, as_long, taken_by, take_in, machine_boards, Carries}
-use Rattle.network.specs.OnBoards.{whole, boardsAfter, OnBoards, OnWholeAreas}
+use Rattle.network.specs.OnBoards.{whole, boards_after, OnBoards, OnWholeAreas}
 use Rattle.network.proofs.Network.{Follows}
 use Rattle.network.proofs.Brought.{Away}
 use Rattle.network.proofs.Fine.{follows_fine, fine_fit}
@@ -41,7 +41,7 @@ use Rattle.network_runs.specs.Calls.{Sources, start_calls, start_network_calls}
 use Rattle.network_runs.specs.Demands.{Begun}
 use Rattle.network_runs.specs.part.Runs.{PartSources, part_start}
 use Rattle.network_runs.specs.part.Demands.{BegunApart}
-use Rattle.network_runs.specs.Boards.{whole_calls, whole_boards, part_calls, part_boards, partsAfter, partSteps, OnParts, BoardDemands}
+use Rattle.network_runs.specs.Boards.{whole_calls, whole_boards, part_calls, part_boards, parts_after, part_steps, OnParts, BoardDemands}
 use Rattle.network_runs.proofs.AsNetwork.{own_word, shape_areas, turn_as, shared_like}
 use Rattle.network_runs.proofs.Demands as whole_run
 use Rattle.network_runs.proofs.part.Demands as part-run
@@ -103,7 +103,7 @@ module _ (bytes : List ℕ) (route : ℕ) (source : List ℕ) (sources : Sources
 
     -- what was posted comes as it was posted
     abbrev there' : Network
-    there' = boardsAfter (whole_boards bytes route sources) (start_network_calls bytes route sources lent) events
+    there' = boards_after (whole_boards bytes route sources) (start_network_calls bytes route sources lent) events
 
     packet_comes : (i : ℕ) → i < length there'.packets → Comes p (sources (comes_to p there' i)) there' i
     packet_comes i l =
@@ -165,25 +165,25 @@ module _ (bytes : List ℕ) (route : ℕ) (source : List ℕ) (sources : PartSou
         events k
 
     abbrev there : AreasApart
-    there = (boardsAfter (machine_boards plan source) (start_network plan) events).areas
+    there = (boards_after (machine_boards plan source) (start_network plan) events).areas
 
-    fo : (t : State) × Follows plan source t (boardsAfter (machine_boards plan source) (start_network plan) events)
+    fo : (t : State) × Follows plan source t (boards_after (machine_boards plan source) (start_network plan) events)
     fo =
         machine_there plan sound_plan away source (to_part plan) (part_calls bytes route sources) part_alike (part_start bytes route lent) no_packets part_begins
         events k
 
-    same : Seen plan (to_part plan) there (partsAfter bytes route source sources lent events).areas
+    same : Seen plan (to_part plan) there (parts_after bytes route source sources lent events).areas
     same =
         seen_there plan sound_plan away source (to_part plan) (part_calls bytes route sources) part_alike (part_start bytes route lent) no_packets part_begins
         events k
 
-    finished : partSteps bytes route source sources lent events ≡ whole plan → (b : ℕ) → b < plan.processors → tiles_left plan (there b) b ≡ false
+    finished : part_steps bytes route source sources lent events ≡ whole plan → (b : ℕ) → b < plan.processors → tiles_left plan (there b) b ≡ false
     finished =
         none_left plan sound_plan away source (to_part plan) (part_calls bytes route sources) part_alike (part_start bytes route lent) no_packets part_begins
         events k
 
     -- whole areas put together are the sweep
-    assembled_right : partSteps bytes route source sources lent events ≡ whole plan → assembled plan there ≡ sweep plan source
+    assembled_right : part_steps bytes route source sources lent events ≡ whole plan → assembled plan there ≡ sweep plan source
     unfolding assembled pick
     assembled_right e =
         table_is plan source (sound_plan.local source) sound_plan.earlier
@@ -215,7 +215,7 @@ module _ (bytes : List ℕ) (route : ℕ) (source : List ℕ) (sources : PartSou
               rw (same b h)
               (collecting.collect_gives bytes route bg.accepted sound_plan reads_own source bg.whole fo.0 _ fo.1 b h (finished e b h) old len);
           grid = λ e old len.
-              part-run.all_there bytes route bg.accepted sound_plan source there (partsAfter bytes route source sources lent events).areas same
+              part-run.all_there bytes route bg.accepted sound_plan source there (parts_after bytes route source sources lent events).areas same
               (lent_here plan sound_plan reads_own source bg.whole fo.0 _ fo.1)
               (fit_here plan sound_plan reads_own source bg.whole fo.0 _ fo.1) (finished e) old len plan.processors refl
               (part-run.some_processor bytes route bg.small bg.accepted)

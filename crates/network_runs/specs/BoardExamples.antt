@@ -9,7 +9,7 @@ use Rattle.engine.specs.Calls.{recipe}
 use Rattle.network.specs.Apart.{AreasApart}
 use Rattle.network.specs.Own.{own_cells}
 use Rattle.network.specs.Brought.{BoardEvent, turn_at, post_at, brought_to, Carries}
-use Rattle.network.specs.OnBoards.{whole, stepsGot}
+use Rattle.network.specs.OnBoards.{whole, steps_got}
 use Rattle.part_calls.specs.front.Calls.{to_part}
 use Rattle.network_runs.specs.Calls.{Sources, start_network_calls}
 use Rattle.network_runs.specs.Demands.{Begun}
@@ -56,4 +56,4 @@ pub record BoardExamples : Type 0 where
   pub numbers_parts : answers (part_boards row_d 0 part_sources) (part_start row_d 0 part_lent) events_d ≡ numbers_d
   -- all steps: three turns and two, one message handed over and taken in
   pub all_steps : whole (recipe row_d 0) ≡ 7
-  pub at_the_end : stepsGot (whole_boards row_d 0 whole_sources) (start_network_calls row_d 0 whole_sources whole_lent) events_d ≡ whole (recipe row_d 0)
+  pub at_the_end : steps_got (whole_boards row_d 0 whole_sources) (start_network_calls row_d 0 whole_sources whole_lent) events_d ≡ whole (recipe row_d 0)

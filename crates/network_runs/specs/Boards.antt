@@ -12,7 +12,7 @@ use Rattle.engine.specs.Calls.{recipe, turn_call, deliver_call, collect_call}
 use Rattle.network.specs.Apart.{AreasApart}
 use Rattle.network.specs.Packets.{Network, start_network}
 use Rattle.network.specs.Brought.{BoardEvent, BoardCalls, act_boards, machine_boards, Carries}
-use Rattle.network.specs.OnBoards.{whole, boardsAfter, packetsAfter, stepsGot, OnBoards, OnWholeAreas, Collected, InAnyOrder}
+use Rattle.network.specs.OnBoards.{whole, boards_after, packets_after, steps_got, OnBoards, OnWholeAreas, Collected, InAnyOrder}
 use Rattle.transport.specs.Calls.{take_in_call}
 use Rattle.transport.specs.Holds.{comes_to, Comes}
 use Rattle.part.specs.Part.{mail_at}
@@ -50,33 +50,33 @@ part_boards bytes route sources = act_boards (recipe bytes route).processors (pa
 
 -- ---- collecting part by part, after these events
 module _ (bytes : List ℕ) (route : ℕ) (source : List ℕ) (sources : PartSources) (lent : AreasApart) (events : List BoardEvent) where
-  abbrev pub partsAfter : Network
-  partsAfter = boardsAfter (part_boards bytes route sources) (part_start bytes route lent) events
+  abbrev pub parts_after : Network
+  parts_after = boards_after (part_boards bytes route sources) (part_start bytes route lent) events
 
   -- board b's part collected into a grid
-  abbrev pub collectedFrom : ℕ → List ℕ → Answered (List ℕ)
-  collectedFrom b grid = part_collect_call bytes route (partsAfter.areas b) b grid
+  abbrev pub collected_from : ℕ → List ℕ → Answered (List ℕ)
+  collected_from b grid = part_collect_call bytes route (parts_after.areas b) b grid
 
-  abbrev pub partSteps : ℕ
-  partSteps = stepsGot (part_boards bytes route sources) (part_start bytes route lent) events
+  abbrev pub part_steps : ℕ
+  part_steps = steps_got (part_boards bytes route sources) (part_start bytes route lent) events
 
   pub record OnParts : Type 0 where
     -- each board has its part of what the machine's board has after the same events
     pub same_parts : (b : ℕ) → b < (recipe bytes route).processors
-        → partsAfter.areas b
-        ≡ to_part (recipe bytes route) b ((boardsAfter (machine_boards (recipe bytes route) source) (start_network (recipe bytes route)) events).areas b)
+        → parts_after.areas b
+        ≡ to_part (recipe bytes route) b ((boards_after (machine_boards (recipe bytes route) source) (start_network (recipe bytes route)) events).areas b)
     -- whatever the others have done: where collecting board b's part gives 0, the grid has the sweep's words at b's cells, the boundary outside the shape,
     -- and else what it had
-    pub collects : (b : ℕ) → b < (recipe bytes route).processors → (old : List ℕ) → (collectedFrom b old).number ≡ 0
-        → Collected (recipe bytes route) source b old (collectedFrom b old).after
+    pub collects : (b : ℕ) → b < (recipe bytes route).processors → (old : List ℕ) → (collected_from b old).number ≡ 0
+        → Collected (recipe bytes route) source b old (collected_from b old).after
     -- where it gives 0 for all boards, all steps are taken; and then it does
-    pub then_all : ((b : ℕ) → b < (recipe bytes route).processors → (old : List ℕ) × ((collectedFrom b old).number ≡ 0))
-        → partSteps ≡ whole (recipe bytes route)
-    pub each_collects : partSteps ≡ whole (recipe bytes route) → (b : ℕ) → b < (recipe bytes route).processors
-        → (old : List ℕ) → length old ≡ (recipe bytes route).cells → (collectedFrom b old).number ≡ 0
+    pub then_all : ((b : ℕ) → b < (recipe bytes route).processors → (old : List ℕ) × ((collected_from b old).number ≡ 0))
+        → part_steps ≡ whole (recipe bytes route)
+    pub each_collects : part_steps ≡ whole (recipe bytes route) → (b : ℕ) → b < (recipe bytes route).processors
+        → (old : List ℕ) → length old ≡ (recipe bytes route).cells → (collected_from b old).number ≡ 0
     -- one board after the other
-    pub grid : partSteps ≡ whole (recipe bytes route) → (old : List ℕ) → length old ≡ (recipe bytes route).cells
-        → collected_to bytes route partsAfter.areas old (recipe bytes route).processors ≡ sweep (recipe bytes route) source
+    pub grid : part_steps ≡ whole (recipe bytes route) → (old : List ℕ) → length old ≡ (recipe bytes route).cells
+        → collected_to bytes route parts_after.areas old (recipe bytes route).processors ≡ sweep (recipe bytes route) source
 
 -- ---- the claims
 pub record BoardDemands : Type 0 where
@@ -90,10 +90,10 @@ pub record BoardDemands : Type 0 where
   -- what was posted meets all that transport/specs/Holds asks of a packet that comes, so taking it in is its arrival in Packets
   pub comes : (bytes : List ℕ) (route : ℕ) (source : List ℕ) (sources : Sources) (lent : AreasApart) → Begun bytes route source sources lent
       → (events : List BoardEvent) → Carries (whole_boards bytes route sources) (start_network_calls bytes route sources lent) events
-      → (k : ℕ) → k < length (packetsAfter (whole_boards bytes route sources) (start_network_calls bytes route sources lent) events)
+      → (k : ℕ) → k < length (packets_after (whole_boards bytes route sources) (start_network_calls bytes route sources lent) events)
       → Comes (recipe bytes route)
-      (sources (comes_to (recipe bytes route) (boardsAfter (whole_boards bytes route sources) (start_network_calls bytes route sources lent) events) k))
-      (boardsAfter (whole_boards bytes route sources) (start_network_calls bytes route sources lent) events) k
+      (sources (comes_to (recipe bytes route) (boards_after (whole_boards bytes route sources) (start_network_calls bytes route sources lent) events) k))
+      (boards_after (whole_boards bytes route sources) (start_network_calls bytes route sources lent) events) k
   pub on_boards_parts : (bytes : List ℕ) (route : ℕ) (source : List ℕ) (sources : PartSources) (lent : AreasApart)
       → BegunApart bytes route source sources lent
       → (events : List BoardEvent) → Carries (part_boards bytes route sources) (part_start bytes route lent) events

@@ -7,10 +7,10 @@ use Rattle.base.specs.Tests.{◌and◌, not, pick}
 use Rattle.base.specs.Numbers.{first_of}
 use Rattle.machine.specs.Plan.{count}
 use Rattle.machine.specs.Machine.{State, place_of, Answered}
-use Rattle.machine.specs.Runs.{Event, turn_of, deliveryOf}
+use Rattle.machine.specs.Runs.{Event, turn_of, delivery_of}
 use Rattle.network.specs.Apart.{AreasApart, replaced, sender_at, taker_at}
 use Rattle.network.specs.Transport.{copied}
-use Rattle.network.specs.Packets.{Network, network_of, packet_at, NetworkEvent, turn_by, post_of, arrivalOf, posted, arrival_lines}
+use Rattle.network.specs.Packets.{Network, network_of, packet_at, NetworkEvent, turn_by, post_of, arrival_of, posted, arrival_lines}
 use Rattle.engine.specs.Calls.{recipe, fresh_call, turn_call, deliver_call}
 
 -- the source lent to each processor
@@ -65,7 +65,7 @@ deliver_by_calls bytes route sources areas m =
 
 unfoldable pub calls_apart : List ℕ → ℕ → Sources → AreasApart → Event → Answered AreasApart
 calls_apart bytes route sources areas (turn_of b) = turn_by_call bytes route sources areas b
-calls_apart bytes route sources areas (deliveryOf m) = deliver_by_calls bytes route sources areas m
+calls_apart bytes route sources areas (delivery_of m) = deliver_by_calls bytes route sources areas m
 
 -- ---- delivery as two: a post is the sender's call, and where it gave 0 the message's words as they then are, if it goes to another processor
 unfoldable pub post_by_call : List ℕ → ℕ → Sources → Network → ℕ → Answered Network
@@ -95,7 +95,7 @@ calls_network bytes route sources n (turn_by b) =
       after = network_of (turn_by_call bytes route sources n.areas b).after n.packets;
     }
 calls_network bytes route sources n (post_of m) = post_by_call bytes route sources n m
-calls_network bytes route sources n (arrivalOf k) = arrive_by_call bytes route sources n k
+calls_network bytes route sources n (arrival_of k) = arrive_by_call bytes route sources n k
 
 abbrev pub start_network_calls : List ℕ → ℕ → Sources → AreasApart → Network
 start_network_calls bytes route sources lent = network_of (start_calls bytes route sources lent) []

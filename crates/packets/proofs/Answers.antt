@@ -227,12 +227,12 @@ pub first_at : (p : List ℕ) (w : ℕ) → w ≡ word p 0 → w ≡ word_at p 0
 unfolding word_at
 first_at p w e = e
 
-abbrev pub headerFrom : ℕ → ℕ → ℕ → ℕ → ℕ → ℕ → ℕ → ℕ → ℕ → Header
-headerFrom a b c d e f g h i =
+abbrev pub header_from : ℕ → ℕ → ℕ → ℕ → ℕ → ℕ → ℕ → ℕ → ℕ → Header
+header_from a b c d e f g h i =
     record { fingerprint = a; run = b; life = c; kind = d; sender = e; taker = f; item = g; chunk = h; chunks = i }
 
 pub header-fields : (p : List ℕ) (a b c d e f g h i : ℕ) → a ≡ double_at p 1 → b ≡ double_at p 3 → c ≡ double_at p 5
     → d ≡ word p 28 → e ≡ word p 32 → f ≡ word p 36 → g ≡ word p 40 → h ≡ word p 44 → i ≡ word p 48
-    → headerFrom a b c d e f g h i ≡ header_of p
+    → header_from a b c d e f g h i ≡ header_of p
 unfolding header_of word_at
 header-fields p a b c d e f g h i ea eb ec ed ee ef eg eh ei = rw (ea, eb, ec, ed, ee, ef, eg, eh, ei)

@@ -73,20 +73,20 @@ module _ (p : Plan) (b : ℕ) where
   brings c m = eqb (taker_at p m) b and member c (held_by p m)
 
   -- the cell is the processor's, or one of the first m messages brings it
-  abbrev keptBy : ℕ → ℕ → Bool
-  keptBy m c = owns p b c or some (brings c) m
+  abbrev kept_by : ℕ → ℕ → Bool
+  kept_by m c = owns p b c or some (brings c) m
 
-  not_brought : (m c : ℕ) → brings c m ≡ false → keptBy (suc m) c ≡ keptBy m c
+  not_brought : (m c : ℕ) → brings c m ≡ false → kept_by (suc m) c ≡ kept_by m c
   unfolding some
   not_brought m c e = ap (λ (t : Bool). owns p b c or t) (or_none (some (brings c) m) (brings c m) e)
 
-  now_brought : (m c : ℕ) → brings c m ≡ true → keptBy (suc m) c ≡ true
+  now_brought : (m c : ℕ) → brings c m ≡ true → kept_by (suc m) c ≡ true
   unfolding some
   now_brought m c e = or_right (owns p b c) (or_right (some (brings c) m) e)
 
   pub record Keeping (marks : List ℕ) (m : ℕ) : Type 0 where
     pub long : length marks ≡ p.cells
-    pub each : (c : ℕ) → c < p.cells → get_or marks c 0 ≡ one (keptBy m c)
+    pub each : (c : ℕ) → c < p.cells → get_or marks c 0 ≡ one (kept_by m c)
 
   pub keep_start : (marks : List ℕ) → marks ≡ tabulate (λ c. one (owns p b c)) p.cells → Keeping marks 0
   unfolding some
@@ -105,10 +105,10 @@ module _ (p : Plan) (b : ℕ) where
       abbrev new : List ℕ
       new = set_all marks cs 1
 
-      taken : eqb (taker_at p m) b ≡ true → (c : ℕ) → c < p.cells → get_or new c 0 ≡ one (keptBy (suc m) c)
+      taken : eqb (taker_at p m) b ≡ true → (c : ℕ) → c < p.cells → get_or new c 0 ≡ one (kept_by (suc m) c)
       taken e c l = go (member c cs) refl
         where
-          go : (t : Bool) → member c cs ≡ t → get_or new c 0 ≡ one (keptBy (suc m) c)
+          go : (t : Bool) → member c cs ≡ t → get_or new c 0 ≡ one (kept_by (suc m) c)
           go true q = set_all_same cs marks 1 c (omega (arith, l, g.long)) (member_in c cs q) ∙ sym (one_true (now_brought m c (and_true e q)))
           go false q =
               set_all_other cs marks 1 c (λ i. never_both (in_member c cs i) q) ∙ g.each c l
@@ -137,5 +137,5 @@ module _ (p : Plan) (b : ℕ) where
     keep_done e =
         ext_get_or 0 marks (tabulate (λ c. one (keeps p b c)) p.cells) (g.long ∙ sym (length_tabulate (λ c. one (keeps p b c)) p.cells))
         (λ c l.
-        g.each c (omega (arith, g.long)) ∙ ap (λ (k : ℕ). one (keptBy k c)) e
+        g.each c (omega (arith, g.long)) ∙ ap (λ (k : ℕ). one (kept_by k c)) e
         ∙ sym (tabulate_at (λ c. one (keeps p b c)) p.cells c (omega (arith, g.long))))

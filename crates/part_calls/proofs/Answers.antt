@@ -224,14 +224,14 @@ module _ (p : Plan) (b : ℕ) (s : State) (m : ℕ) where
   abbrev after : State
   after = state_of s.memories s.buffer s.progress (set s.status (rank_of p b m) 2)
 
-  abbrev overLines : List Line
-  overLines = line 11 (not (ltb m (count p))) ∷ line 14 (not (eqb (mark_in p b s.status m) 1)) ∷ []
+  abbrev over_lines : List Line
+  over_lines = line 11 (not (ltb m (count p))) ∷ line 14 (not (eqb (mark_in p b s.status m) 1)) ∷ []
 
   pub over_beyond : count p ≤ m → answer 11 s ≡ handed_over p b s m
   over_beyond h = refuse 11 _ after s (λ q. omega arith) (sym (first_true 11 _ _ (not-false (le-ltb m (count p) h))))
 
   module _ (lo : m < count p) where
-    behind : first_of overLines ≡ first_of (line 14 (not (eqb (mark_in p b s.status m) 1)) ∷ [])
+    behind : first_of over_lines ≡ first_of (line 14 (not (eqb (mark_in p b s.status m) 1)) ∷ [])
     behind = first_false 11 _ _ (not-true (lt-ltb m (count p) lo))
 
     not_sent : mark_in p b s.status m ≢ 1 → answer 14 s ≡ handed_over p b s m
@@ -265,8 +265,8 @@ module _ (p : Plan) (b : ℕ) (s : State) (m : ℕ) (ws : List ℕ) where
   abbrev came : State
   came = state_of s.memories (put s.buffer (mail_at p b m) ws) s.progress (set s.status (rank_of p b m) 2)
 
-  abbrev comingLines : List Line
-  comingLines = line 11 (not (taken_by p b m)) ∷ line 14 (not (eqb (mark_in p b s.status m) 0)) ∷ []
+  abbrev coming_lines : List Line
+  coming_lines = line 11 (not (taken_by p b m)) ∷ line 14 (not (eqb (mark_in p b s.status m) 0)) ∷ []
 
   another : taken_by p b m ≡ false → answer 11 s ≡ arrived_or p b s m ws
   another h = refuse 11 _ came s (λ q. omega arith) (sym (first_true 11 _ _ (not-false h)))
@@ -287,7 +287,7 @@ module _ (p : Plan) (b : ℕ) (s : State) (m : ℕ) (ws : List ℕ) where
       unfolding handles
       come-handled = or_right _ (eq-eqb (taker_at p m) b (sym taker_is ∙ here))
 
-      come-behind : first_of comingLines ≡ first_of (line 14 (not (eqb (mark_in p b s.status m) 0)) ∷ [])
+      come-behind : first_of coming_lines ≡ first_of (line 14 (not (eqb (mark_in p b s.status m) 0)) ∷ [])
       come-behind = first_false 11 _ _ (not-true (and_true (lt-ltb m (count p) lo) (eq-eqb _ _ (sym taker_is ∙ here))))
 
       -- and whether it did not come before
@@ -316,31 +316,31 @@ module _ (p : Plan) (b m from n : ℕ) (mail : List ℕ) (long : length mail ≡
 
 module _ (p : Plan) (b : ℕ) (low : b < p.processors) (s : State) (r : ℕ) (e : r ≡ first_of (unfit_lines p b s)) where
   module _ (m : ℕ) where
-    abbrev lastLines : List Line
-    lastLines = line 11 (not (ltb m (count p))) ∷ line 14 (not (eqb (get_or (from_part p b s).status m 0) 1)) ∷ []
+    abbrev last_lines : List Line
+    last_lines = line 11 (not (ltb m (count p))) ∷ line 14 (not (eqb (get_or (from_part p b s).status m 0) 1)) ∷ []
 
     pub post_unfit : r ≢ 0 → answer r s ≡ posted_or p b s m
     post_unfit h =
-        refuse r _ (to_part p b (marked (from_part p b s) m)) s h (e ∙ sym (first_some (unfit_lines p b s) lastLines (λ q. h (e ∙ q))))
+        refuse r _ (to_part p b (marked (from_part p b s) m)) s h (e ∙ sym (first_some (unfit_lines p b s) last_lines (λ q. h (e ∙ q))))
 
     module _ (z : r ≡ 0) where
       lent : PartLengths p b s
       lent = fits_are p b s (unfit_none p b s r e z).0
 
-      past : first_of (post_lines p b s m) ≡ first_of lastLines
+      past : first_of (post_lines p b s m) ≡ first_of last_lines
       past =
           let q = unfit_none p b s r e z in
           first_false 9 (not (part_fits p b s)) (deliver_lines p (from_part p b s) m) (not-true q.0)
-          ∙ first_false 10 (not (fit p (from_part p b s))) lastLines (not-true q.1)
+          ∙ first_false 10 (not (fit p (from_part p b s))) last_lines (not-true q.1)
 
-      same : Dec (m < count p) → first_of (overLines p b s m) ≡ first_of lastLines
+      same : Dec (m < count p) → first_of (over_lines p b s m) ≡ first_of last_lines
       same (yes lo) =
           ap (λ (v : ℕ). first_of (line 11 (not (ltb m (count p))) ∷ line 14 (not (eqb v 1)) ∷ [])) (sym (mark_is p b s low lent m lo))
       same (no k) =
           first_true 11 _ _ (not-false (le-ltb m (count p) (omega arith))) ∙ sym (first_true 11 _ _ (not-false (le-ltb m (count p) (omega arith))))
 
       -- where no line is true it is handled
-      same_words : first_of (overLines p b s m) ≡ 0
+      same_words : first_of (over_lines p b s m) ≡ 0
           → state_of s.memories s.buffer s.progress (set s.status (rank_of p b m) 2) ≡ to_part p b (marked (from_part p b s) m)
       same_words q =
           let a = none_first 11 (not (ltb m (count p))) (line 14 (not (eqb (mark_in p b s.status m) 1)) ∷ []) (λ y. omega arith) q in
@@ -352,41 +352,41 @@ module _ (p : Plan) (b : ℕ) (low : b < p.processors) (s : State) (r : ℕ) (e 
       post-over a t = t ∙ answered-same _ _ (after p b s m) (to_part p b (marked (from_part p b s) m)) s (same (dec_lt m (count p)) ∙ sym past) same_words
 
   module _ (m : ℕ) (ws : List ℕ) where
-    abbrev laterLines : List Line
-    laterLines = line 11 (not (taken_by p b m)) ∷ line 14 (not (eqb (get_or (from_part p b s).status m 0) 0)) ∷ []
+    abbrev later_lines : List Line
+    later_lines = line 11 (not (taken_by p b m)) ∷ line 14 (not (eqb (get_or (from_part p b s).status m 0) 0)) ∷ []
 
     pub arrive-length : as_long p m ws ≡ false → answer 9 s ≡ arrives_or p b s m ws
     arrive-length h =
         refuse 9 _ (to_part p b (received p (from_part p b s) m ws)) s (λ q. omega arith) (sym (first_true 9 _ _ (not-false (and_no _ _ h))))
 
     module _ (long : as_long p m ws ≡ true) where
-      same_lines : first_of (arrive_lines p b s m ws) ≡ first_of (unfit_lines p b s ++ laterLines)
+      same_lines : first_of (arrive_lines p b s m ws) ≡ first_of (unfit_lines p b s ++ later_lines)
       same_lines =
-          ap (λ (t : Bool). first_of (line 9 (not t) ∷ line 10 (not (fit p (from_part p b s))) ∷ laterLines)) (and_right (part_fits p b s) (as_long p m ws) long)
+          ap (λ (t : Bool). first_of (line 9 (not t) ∷ line 10 (not (fit p (from_part p b s))) ∷ later_lines)) (and_right (part_fits p b s) (as_long p m ws) long)
 
       pub arrive_unfit : r ≢ 0 → answer r s ≡ arrives_or p b s m ws
       arrive_unfit h =
           refuse r _ (to_part p b (received p (from_part p b s) m ws)) s h
-          (e ∙ sym (same_lines ∙ first_some (unfit_lines p b s) laterLines (λ q. h (e ∙ q))))
+          (e ∙ sym (same_lines ∙ first_some (unfit_lines p b s) later_lines (λ q. h (e ∙ q))))
 
       module _ (z : r ≡ 0) where
         pub arrive-lent : PartLengths p b s
         arrive-lent = fits_are p b s (unfit_none p b s r e z).0
 
-        behind-two : first_of (arrive_lines p b s m ws) ≡ first_of laterLines
+        behind-two : first_of (arrive_lines p b s m ws) ≡ first_of later_lines
         behind-two =
             let q = unfit_none p b s r e z in
             same_lines
-            ∙ first_false 9 (not (part_fits p b s)) (line 10 (not (fit p (from_part p b s))) ∷ laterLines) (not-true q.0)
-            ∙ first_false 10 (not (fit p (from_part p b s))) laterLines (not-true q.1)
+            ∙ first_false 9 (not (part_fits p b s)) (line 10 (not (fit p (from_part p b s))) ∷ later_lines) (not-true q.0)
+            ∙ first_false 10 (not (fit p (from_part p b s))) later_lines (not-true q.1)
 
-        arrive_same : (t : Bool) → taken_by p b m ≡ t → first_of (comingLines p b s m ws) ≡ first_of laterLines
+        arrive_same : (t : Bool) → taken_by p b m ≡ t → first_of (coming_lines p b s m ws) ≡ first_of later_lines
         arrive_same true q =
             ap (λ (v : ℕ). first_of (line 11 (not (taken_by p b m)) ∷ line 14 (not (eqb v 0)) ∷ []))
             (sym (mark_is p b s low arrive-lent m (ltb-true m (count p) (both q).0)))
         arrive_same false q = first_true 11 _ _ (not-false q) ∙ sym (first_true 11 _ _ (not-false q))
 
-        arrive_words : first_of (comingLines p b s m ws) ≡ 0 → came p b s m ws ≡ to_part p b (received p (from_part p b s) m ws)
+        arrive_words : first_of (coming_lines p b s m ws) ≡ 0 → came p b s m ws ≡ to_part p b (received p (from_part p b s) m ws)
         unfolding handles
         arrive_words q =
             let a = none_first 11 (not (taken_by p b m)) (line 14 (not (eqb (mark_in p b s.status m) 0)) ∷ []) (λ y. omega arith) q in

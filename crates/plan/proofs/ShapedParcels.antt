@@ -110,29 +110,29 @@ module _ (x : Nest) where
         let b = tile_at_tile_place x ok (box_tile_of x reader) (box_tile_of_low x ok reader) in
         omega (arith, tile_at_le x ok (λ j. tile_place x u j + ahead x v j) (tile_place x (box_tile_of x reader)) reader_after)
 
-    abbrev pub readerTile : ℕ
-    readerTile = tile_of x reader
+    abbrev pub reader_tile : ℕ
+    reader_tile = tile_of x reader
 
-    pub reader_tile_low : readerTile < tiles x
+    pub reader_tile_low : reader_tile < tiles x
     reader_tile_low = tile_of_low x ok reader reader_low h.lands
 
-    pub reader_tile_box : box_tile x readerTile ≡ box_tile_of x reader
+    pub reader_tile_box : box_tile x reader_tile ≡ box_tile_of x reader
     reader_tile_box = box_tile_tile_of x ok reader reader_low h.lands
 
-    reader_follows : follows x u v readerTile ≡ true
+    reader_follows : follows x u v reader_tile ≡ true
     unfolding follows
     reader_follows =
-        and_true (le-leb (taker x u v) (box_tile x readerTile) (rw reader_tile_box taker_le_reader))
+        and_true (le-leb (taker x u v) (box_tile x reader_tile) (rw reader_tile_box taker_le_reader))
         (every_all _ x.spread (λ j l. eq-eqb _ _ (ap (λ (w : ℕ). tile_place x w j) reader_tile_box ∙ reader_column j l)))
 
-    found : (shaped_taker x u v < tiles x) × (follows x u v (shaped_taker x u v) ≡ true) × (shaped_taker x u v ≤ readerTile)
+    found : (shaped_taker x u v < tiles x) × (follows x u v (shaped_taker x u v) ≡ true) × (shaped_taker x u v ≤ reader_tile)
     unfolding shaped_taker
-    found = first_kept (follows x u v) (tiles x) readerTile reader_tile_low reader_follows
+    found = first_kept (follows x u v) (tiles x) reader_tile reader_tile_low reader_follows
 
     pub shaped_taker_low : shaped_taker x u v < tiles x
     shaped_taker_low = found.0
 
-    pub shaped_taker_le : shaped_taker x u v ≤ readerTile
+    pub shaped_taker_le : shaped_taker x u v ≤ reader_tile
     shaped_taker_le = found.2
 
     pub shaped_taker_from : taker x u v ≤ box_tile x (shaped_taker x u v)

@@ -26,7 +26,7 @@ use Rattle.nest.proofs.Rank.{Positive, rank_same, rank_place, place_before, div_
 use Rattle.plan.proofs.Tiles.{tile_count_pos, tile_at_tile_place, box_tile_of_low, processor_of_same}
 use Rattle.plan.proofs.Parcels.{taker_low, taker_place}
 use Rattle.plan.proofs.ShapedTiles.{box_tile_low, box_tile_exists, before_box_tile}
-use Rattle.plan.proofs.ShapedParcels.{Crossed, reader, reader_column, taker_le_reader, readerTile, reader_tile_low, reader_tile_box}
+use Rattle.plan.proofs.ShapedParcels.{Crossed, reader, reader_column, taker_le_reader, reader_tile, reader_tile_low, reader_tile_box}
 use Rattle.plan.proofs.ShapedParcels.{shaped_taker_low, shaped_taker_le, shaped_taker_from, shaped_taker_first, shaped_taker_column}
 
 -- ---- the box's number of u plus v
@@ -125,17 +125,17 @@ module _ (x : Nest) (ok : Accepted x) (u v c e : ℕ) (h : Crossed x u v c e) wh
   n_upto : box_tile x n ≤ box_tile_of x (reader x ok u v c e h)
   n_upto = go (eq-or-lt_of_le n_reader)
     where
-      n_reader : n ≤ readerTile x ok u v c e h
+      n_reader : n ≤ reader_tile x ok u v c e h
       n_reader = omega (arith, n_le, shaped_taker_le x ok u v c e h)
 
-      go : (n ≡ readerTile x ok u v c e h) ⊎ (n < readerTile x ok u v c e h) → box_tile x n ≤ box_tile_of x (reader x ok u v c e h)
+      go : (n ≡ reader_tile x ok u v c e h) ⊎ (n < reader_tile x ok u v c e h) → box_tile x n ≤ box_tile_of x (reader x ok u v c e h)
       go (inl z) = omega (arith, ap (box_tile x) z, reader_tile_box x ok u v c e h)
       go (inr z) =
           omega (
             arith,
             reader_tile_box x ok u v c e h,
-            counted_above x (box_tile x (readerTile x ok u v c e h)) (readerTile x ok u v c e h) (reader_tile_low x ok u v c e h)
-                (before_box_tile x (readerTile x ok u v c e h) (reader_tile_low x ok u v c e h)) n z,
+            counted_above x (box_tile x (reader_tile x ok u v c e h)) (reader_tile x ok u v c e h) (reader_tile_low x ok u v c e h)
+                (before_box_tile x (reader_tile x ok u v c e h) (reader_tile_low x ok u v c e h)) n z,
           )
 
   -- so it is in their column

@@ -30,7 +30,7 @@ use Rattle.engine.proofs.AsSteps.{fresh_gave, collect_is}
 use Rattle.network_runs.specs.Calls.{Sources, start_calls, start_network_calls}
 use Rattle.network_runs.specs.Demands.{Begun}
 use Rattle.network_runs.proofs.AsNetwork.{shape_areas, network_same}
-use Rattle.restarts.specs.Restarts.{LifeEvent, plain, repostOf, restartOf, restart, act_lives, ByLives}
+use Rattle.restarts.specs.Restarts.{LifeEvent, plain, repost_of, restart_of, restart, act_lives, ByLives}
 use Rattle.restarts.specs.FairLoss.{Endless, Fair, FairLoss, Ends}
 use Rattle.restarts.proofs.Life.{fresh_lives}
 use Rattle.restarts.proofs.Lives.{Alive, alive_fine, restart_gives, restart_zero, restart_high}
@@ -92,8 +92,8 @@ module _ (bytes : List ℕ) (route : ℕ) (source : List ℕ) (sources : Sources
     same : (e : LifeEvent) → calls_lives bytes route sources n e ≡ act_lives p source n e
     unfolding calls_lives act_lives
     same (plain e) = network_same bytes route bg.accepted so source sources long bg.own n (alive_fine p source n al) e
-    same (repostOf m) = refl
-    same (restartOf b) = restart_same b
+    same (repost_of m) = refl
+    same (restart_of b) = restart_same b
 
   lives : (events : List LifeEvent)
       → ByLives (calls_lives bytes route sources) (start_network_calls bytes route sources lent) events p source (collect_call bytes route source)

@@ -37,7 +37,7 @@ use Rattle.engine.proofs.Lines.{areas_are}
 use Rattle.engine.proofs.AsSteps.{fresh_gave, turn_is, deliver_is}
 use Rattle.network_runs.specs.Calls.{Sources}
 use Rattle.network_runs.proofs.AsNetwork.{own_word, lent_areas, shape_areas}
-use Rattle.restarts.specs.Processes.{Roles, ProcessEvent, start_of, turnFrom, postFrom, repostFrom, arrivalAt, posted_from, post_from_lines, arrival_at_lines}
+use Rattle.restarts.specs.Processes.{Roles, ProcessEvent, start_of, turn_from, post_from, repost_from, arrival_at, posted_from, post_from_lines, arrival_at_lines}
 use Rattle.restarts.specs.Processes.{act_process, ByProcesses}
 use Rattle.restarts.proofs.Life.{fresh_lives, life_fit}
 use Rattle.restarts.proofs.Lives.{replaced_own}
@@ -83,7 +83,7 @@ module _ (bytes : List ℕ) (route : ℕ) (source : List ℕ) (role : Roles) (so
     unfolding calls_process act_process
     start_same = ap by (fresh_clean bytes route bg.accepted (sources q) s here)
 
-    turn_same : calls_process bytes route sources role n (turnFrom q) ≡ act_process p source role n (turnFrom q)
+    turn_same : calls_process bytes route sources role n (turn_from q) ≡ act_process p source role n (turn_from q)
     unfolding calls_process act_process
     turn_same =
         ap by (turn_is bytes route (sources q) s bg.accepted here (role q)
@@ -109,7 +109,7 @@ module _ (bytes : List ℕ) (route : ℕ) (source : List ℕ) (role : Roles) (so
       unfolding left
       stays x z = rw (replaced_own n.areas q, pick_false (eqb x 0) (posted_from p s m) [] (ne_eqb x 0 z), append-nil n.packets) refl
 
-      post_as : left (answered (first_of (post_from_lines p n q m)) (marked s m) s) ≡ act_process p source role n (postFrom q m)
+      post_as : left (answered (first_of (post_from_lines p n q m)) (marked s m) s) ≡ act_process p source role n (post_from q m)
       unfolding left act_process
       post_as = go (ℕ_discrete (first_of (post_from_lines p n q m)) 0)
         where
@@ -124,7 +124,7 @@ module _ (bytes : List ℕ) (route : ℕ) (source : List ℕ) (role : Roles) (so
               ap left (some_answer _ (marked s m) s k) ∙ stays _ k
               ∙ sym (some_answer _ (network_of (replaced n.areas q (marked s m)) (n.packets ++ posted_from p s m)) n k)
 
-      post_same : calls_process bytes route sources role n (postFrom q m) ≡ act_process p source role n (postFrom q m)
+      post_same : calls_process bytes route sources role n (post_from q m) ≡ act_process p source role n (post_from q m)
       unfolding calls_process left
       post_same = ap left delivers ∙ post_as
 
@@ -150,7 +150,7 @@ module _ (bytes : List ℕ) (route : ℕ) (source : List ℕ) (role : Roles) (so
           })) m
           ∙ copied_both p s m ws lo sh (se.each q).held.statuses.high e
 
-      arrival_same : calls_process bytes route sources role n (arrivalAt q k) ≡ act_process p source role n (arrivalAt q k)
+      arrival_same : calls_process bytes route sources role n (arrival_at q k) ≡ act_process p source role n (arrival_at q k)
       unfolding calls_process act_process
       arrival_same = go (ℕ_discrete (first_of (arrival_at_lines p role n q k)) 0)
         where
@@ -165,16 +165,16 @@ module _ (bytes : List ℕ) (route : ℕ) (source : List ℕ) (role : Roles) (so
               ∙ sym (zero_answer _ _ n z)
           go (no x) = pick_false _ _ _ (ne_eqb _ 0 x) ∙ sym (some_answer _ _ n x)
 
-  repost_same : (n : Network) (q m : ℕ) → calls_process bytes route sources role n (repostFrom q m) ≡ act_process p source role n (repostFrom q m)
+  repost_same : (n : Network) (q m : ℕ) → calls_process bytes route sources role n (repost_from q m) ≡ act_process p source role n (repost_from q m)
   unfolding calls_process act_process
   repost_same n q m = refl
 
   same : (n : Network) → Several p source role n → (e : ProcessEvent) → calls_process bytes route sources role n e ≡ act_process p source role n e
   same n se (start_of q) = start_same n se q
-  same n se (turnFrom q) = turn_same n se q
-  same n se (postFrom q m) = post_same n se q m
-  same n se (repostFrom q m) = repost_same n q m
-  same n se (arrivalAt q k) = arrival_same n se q k
+  same n se (turn_from q) = turn_same n se q
+  same n se (post_from q m) = post_same n se q m
+  same n se (repost_from q m) = repost_same n q m
+  same n se (arrival_at q k) = arrival_same n se q k
 
   processes : (events : List ProcessEvent)
       → ByProcesses (calls_process bytes route sources role) (start_processes bytes route sources lent) events p source role

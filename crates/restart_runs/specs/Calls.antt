@@ -6,7 +6,7 @@ use Rattle.base.specs.Tests.{pick}
 use Rattle.machine.specs.Machine.{Answered}
 use Rattle.network.specs.Apart.{replaced}
 use Rattle.network.specs.Packets.{Network, network_of}
-use Rattle.restarts.specs.Restarts.{LifeEvent, plain, repostOf, restartOf, repost}
+use Rattle.restarts.specs.Restarts.{LifeEvent, plain, repost_of, restart_of, repost}
 use Rattle.engine.specs.Calls.{recipe, fresh_call}
 use Rattle.network_runs.specs.Calls.{Sources, calls_network}
 
@@ -23,5 +23,5 @@ restart_by_call bytes route sources n b =
 -- a post again is no call: it reads the message's status and words in the sender's areas, and writes nothing there
 unfoldable pub calls_lives : List ℕ → ℕ → Sources → Network → LifeEvent → Answered Network
 calls_lives bytes route sources n (plain e) = calls_network bytes route sources n e
-calls_lives bytes route sources n (repostOf m) = repost (recipe bytes route) n m
-calls_lives bytes route sources n (restartOf b) = restart_by_call bytes route sources n b
+calls_lives bytes route sources n (repost_of m) = repost (recipe bytes route) n m
+calls_lives bytes route sources n (restart_of b) = restart_by_call bytes route sources n b

@@ -12,7 +12,7 @@ use Rattle.network.specs.Apart.{AreasApart, replaced}
 use Rattle.network.specs.Transport.{copied}
 use Rattle.network.specs.Packets.{Network, network_of, packet_at}
 use Rattle.network.specs.Locality.{SameSource}
-use Rattle.restarts.specs.Processes.{Roles, ProcessEvent, start_of, turnFrom, postFrom, repostFrom, arrivalAt, posted_from, arrival_at_lines, repost_by, ByProcesses}
+use Rattle.restarts.specs.Processes.{Roles, ProcessEvent, start_of, turn_from, post_from, repost_from, arrival_at, posted_from, arrival_at_lines, repost_by, ByProcesses}
 use Rattle.engine.specs.Calls.{recipe, fresh_call, turn_call, deliver_call}
 use Rattle.network_runs.specs.Calls.{Sources}
 
@@ -24,19 +24,19 @@ calls_process bytes route sources role n (start_of q) =
       number = (fresh_call bytes route (sources q) (n.areas q)).number;
       after = network_of (replaced n.areas q (fresh_call bytes route (sources q) (n.areas q)).after) n.packets;
     }
-calls_process bytes route sources role n (turnFrom q) =
+calls_process bytes route sources role n (turn_from q) =
     record {
       number = (turn_call bytes route (sources q) (n.areas q) (role q)).number;
       after = network_of (replaced n.areas q (turn_call bytes route (sources q) (n.areas q) (role q)).after) n.packets;
     }
-calls_process bytes route sources role n (postFrom q m) =
+calls_process bytes route sources role n (post_from q m) =
     record {
       number = (deliver_call bytes route (sources q) (n.areas q) m).number;
       after = network_of (replaced n.areas q (deliver_call bytes route (sources q) (n.areas q) m).after)
           (n.packets ++ pick (eqb (deliver_call bytes route (sources q) (n.areas q) m).number 0) (posted_from (recipe bytes route) (n.areas q) m) []);
     }
-calls_process bytes route sources role n (repostFrom q m) = repost_by (recipe bytes route) n q m
-calls_process bytes route sources role n (arrivalAt q k) =
+calls_process bytes route sources role n (repost_from q m) = repost_by (recipe bytes route) n q m
+calls_process bytes route sources role n (arrival_at q k) =
     pick (eqb (first_of (arrival_at_lines (recipe bytes route) role n q k)) 0)
     (record {
       number = (deliver_call bytes route (sources q)

@@ -11,9 +11,9 @@ use Rattle.machine.specs.Runs.{state_after, answers_to, answers, total, program_
 use Rattle.machine.proofs.ComputedRun.{rows, ones, total_of}
 use Rattle.machine.proofs.Example.{sound}
 use Rattle.network.specs.Apart.{start_apart, replaced, turn_apart, sent_off, arrived, assembled, collect_apart}
-use Rattle.network.specs.Packets.{NetworkEvent, turn_by, post_of, arrivalOf, posted, post, arrive, turn_network, act_network, start_network, mailed}
+use Rattle.network.specs.Packets.{NetworkEvent, turn_by, post_of, arrival_of, posted, post, arrive, turn_network, act_network, start_network, mailed}
 use Rattle.network.proofs.Computed.{line3, source3, value_at}
-use Rattle.restarts.specs.Restarts.{LifeEvent, plain, repostOf, restartOf, repost, restart, act_lives, deeds_of, work_of, redone_of, last_lives}
+use Rattle.restarts.specs.Restarts.{LifeEvent, plain, repost_of, restart_of, repost, restart, act_lives, deeds_of, work_of, redone_of, last_lives}
 use Rattle.restarts.specs.Restarts.{MachineByLives}
 use Rattle.restarts.proofs.Theorem.{theorem_lives}
 
@@ -21,14 +21,14 @@ use Rattle.restarts.proofs.Theorem.{theorem_lives}
 -- and processor 1 gathers, then crashes too: it waits until the packet arrives once more, and finishes
 unfoldable before : List LifeEvent
 before =
-    map plain (turn_by 0 ∷ turn_by 0 ∷ turn_by 0 ∷ post_of 0 ∷ turn_by 0 ∷ turn_by 0 ∷ turn_by 0 ∷ post_of 1 ∷ []) ++ (restartOf 0 ∷ repostOf 1 ∷ []) ++
-    map plain (arrivalOf 0 ∷ turn_by 1 ∷ []) ++ (restartOf 1 ∷ []) ++ map plain (turn_by 1 ∷ arrivalOf 0 ∷ turn_by 1 ∷ turn_by 1 ∷ [])
+    map plain (turn_by 0 ∷ turn_by 0 ∷ turn_by 0 ∷ post_of 0 ∷ turn_by 0 ∷ turn_by 0 ∷ turn_by 0 ∷ post_of 1 ∷ []) ++ (restart_of 0 ∷ repost_of 1 ∷ []) ++
+    map plain (arrival_of 0 ∷ turn_by 1 ∷ []) ++ (restart_of 1 ∷ []) ++ map plain (turn_by 1 ∷ arrival_of 0 ∷ turn_by 1 ∷ turn_by 1 ∷ [])
 
 -- processor 0 does all again, posts message 1, and once more: both packets are turned away; there is no processor 2 to crash
 unfoldable after : List LifeEvent
 after =
-    map plain (turn_by 0 ∷ turn_by 0 ∷ turn_by 0 ∷ post_of 0 ∷ turn_by 0 ∷ turn_by 0 ∷ turn_by 0 ∷ post_of 1 ∷ []) ++ (repostOf 1 ∷ []) ++
-    map plain (arrivalOf 1 ∷ arrivalOf 2 ∷ []) ++ (restartOf 2 ∷ [])
+    map plain (turn_by 0 ∷ turn_by 0 ∷ turn_by 0 ∷ post_of 0 ∷ turn_by 0 ∷ turn_by 0 ∷ turn_by 0 ∷ post_of 1 ∷ []) ++ (repost_of 1 ∷ []) ++
+    map plain (arrival_of 1 ∷ arrival_of 2 ∷ []) ++ (restart_of 2 ∷ [])
 
 numbers : answers (act_lives line3 source3) (start_network line3) (before ++ after)
     ≡ 0 ∷ 0 ∷ 0 ∷ 0 ∷ 0 ∷ 0 ∷ 0 ∷ 0 ∷ 0 ∷ 14 ∷ 0 ∷ 0 ∷ 0 ∷ 12 ∷ 0 ∷ 0 ∷ 0 ∷ 0 ∷ 0 ∷ 0 ∷ 0 ∷ 0 ∷ 0 ∷ 0 ∷ 0 ∷ 0 ∷ 14 ∷ 14 ∷ 11 ∷ []
@@ -87,11 +87,11 @@ ends (suc k) b = turn_by b ∷ turn_by b ∷ ends k b
 -- processor 0 crashes when it is done, processor 1 in the middle; processor 2 is given packets of both lives of processor 1
 unfoldable crashes : List LifeEvent
 crashes =
-    map plain (tiles 4 0 0) ++ (restartOf 0 ∷ []) ++
-    map plain (arrivalOf 0 ∷ arrivalOf 1 ∷ arrivalOf 2 ∷ arrivalOf 3 ∷ tiles 2 1 4) ++ (restartOf 1 ∷ []) ++
-    map plain (arrivalOf 3 ∷ arrivalOf 2 ∷ arrivalOf 1 ∷ arrivalOf 0 ∷ tiles 4 1 4) ++
-    map plain (arrivalOf 4 ∷ arrivalOf 5 ∷ arrivalOf 8 ∷ arrivalOf 9 ∷ tiles 4 2 8) ++
-    map plain (arrivalOf 10 ∷ arrivalOf 11 ∷ arrivalOf 12 ∷ arrivalOf 13 ∷ ends 4 3) ++ map plain (tiles 4 0 0)
+    map plain (tiles 4 0 0) ++ (restart_of 0 ∷ []) ++
+    map plain (arrival_of 0 ∷ arrival_of 1 ∷ arrival_of 2 ∷ arrival_of 3 ∷ tiles 2 1 4) ++ (restart_of 1 ∷ []) ++
+    map plain (arrival_of 3 ∷ arrival_of 2 ∷ arrival_of 1 ∷ arrival_of 0 ∷ tiles 4 1 4) ++
+    map plain (arrival_of 4 ∷ arrival_of 5 ∷ arrival_of 8 ∷ arrival_of 9 ∷ tiles 4 2 8) ++
+    map plain (arrival_of 10 ∷ arrival_of 11 ∷ arrival_of 12 ∷ arrival_of 13 ∷ ends 4 3) ++ map plain (tiles 4 0 0)
 
 all_end : (collect_apart rows (last_lives rows ones crashes).areas []).number ≡ 0
 unfolding rows ones total_of those keep offset sublist put unpack unpack_all set_all store_all pack all_at every some one count_if not pick ◌and◌ ◌or◌ first_of

@@ -11,7 +11,7 @@ use Rattle.machine.specs.Runs.{state_after, answers_to, answers, last}
 use Rattle.network.specs.Apart.{start_apart, replaced, assembled, collect_apart}
 use Rattle.network.specs.Packets.{start_network}
 use Rattle.network.proofs.Computed.{line3, source3, value_at}
-use Rattle.restarts.specs.Processes.{ProcessEvent, start_of, turnFrom, postFrom, repostFrom, arrivalAt, posted_from, repost_by, act_process, areas_of}
+use Rattle.restarts.specs.Processes.{ProcessEvent, start_of, turn_from, post_from, repost_from, arrival_at, posted_from, repost_by, act_process, areas_of}
 
 -- processes 0 and 2 are processor 0, process 1 is processor 1
 unfoldable twins : ℕ → ℕ
@@ -21,13 +21,13 @@ twins (suc (suc q)) = 0
 
 -- all of processor 0's work, by process q
 unfoldable whole : ℕ → List ProcessEvent
-whole q = turnFrom q ∷ turnFrom q ∷ turnFrom q ∷ postFrom q 0 ∷ turnFrom q ∷ turnFrom q ∷ turnFrom q ∷ postFrom q 1 ∷ []
+whole q = turn_from q ∷ turn_from q ∷ turn_from q ∷ post_from q 0 ∷ turn_from q ∷ turn_from q ∷ turn_from q ∷ post_from q 1 ∷ []
 
 -- both do it, and both post message 1; process 0 is no process of its taker, process 1 takes the second packet and is given the first one too late;
 -- it can post again what it received; then process 0 starts anew
 unfoldable both_run : List ProcessEvent
 both_run =
-    whole 0 ++ whole 2 ++ (arrivalAt 0 0 ∷ arrivalAt 1 1 ∷ arrivalAt 1 0 ∷ turnFrom 1 ∷ turnFrom 1 ∷ repostFrom 1 1 ∷ start_of 0 ∷ turnFrom 0 ∷ [])
+    whole 0 ++ whole 2 ++ (arrival_at 0 0 ∷ arrival_at 1 1 ∷ arrival_at 1 0 ∷ turn_from 1 ∷ turn_from 1 ∷ repost_from 1 1 ∷ start_of 0 ∷ turn_from 0 ∷ [])
 
 numbers : answers (act_process line3 source3 twins) (start_network line3) both_run
     ≡ 0 ∷ 0 ∷ 0 ∷ 0 ∷ 0 ∷ 0 ∷ 0 ∷ 0 ∷ 0 ∷ 0 ∷ 0 ∷ 0 ∷ 0 ∷ 0 ∷ 0 ∷ 0 ∷ 11 ∷ 0 ∷ 14 ∷ 0 ∷ 0 ∷ 0 ∷ 0 ∷ 0 ∷ []

@@ -12,12 +12,12 @@ use Rattle.machine.specs.Plan.{Plan, Sound, count}
 use Rattle.machine.specs.Machine.{Answered, tiles_left, turn, collect}
 use Rattle.machine.proofs.RunLaws.{number_of, after_of, after_one}
 use Rattle.network.specs.Apart.{AreasApart, sender_at, taker_at, collect_apart}
-use Rattle.network.specs.Packets.{Network, status_at, NetworkEvent, turn_by, post_of, arrivalOf, act_network}
+use Rattle.network.specs.Packets.{Network, status_at, NetworkEvent, turn_by, post_of, arrival_of, act_network}
 use Rattle.network.proofs.Theorem.{both_are}
 use Rattle.network.proofs.Network.{arrive_gives}
-use Rattle.restarts.specs.Restarts.{LifeEvent, plain, repostOf, restartOf, repost, act_lives, Finished}
+use Rattle.restarts.specs.Restarts.{LifeEvent, plain, repost_of, restart_of, repost, act_lives, Finished}
 use Rattle.restarts.specs.FairLoss.{Endless, firsts, new_start, Later, Awaited, when, Arrives, Fair, FairLoss, Ends}
-use Rattle.restarts.proofs.Measure.{leftHere}
+use Rattle.restarts.proofs.Measure.{left_here}
 use Rattle.restarts.proofs.Lives.{Alive, two_stays, over_stays, repost_gives, repost_zero, lives_stay, run_alive}
 use Rattle.restarts.proofs.Ways.{Way, way}
 use Rattle.restarts.proofs.Theorem.{turn_number, post_number, number_is, less, by_lives}
@@ -26,42 +26,42 @@ module _ (p : Plan) (so : Sound p) (source : List ℕ) (acts : Network → LifeE
     (same : (n : Network) → Alive p source n → (e : LifeEvent) → acts n e ≡ act_lives p source n e) where
   -- ---- an event that is no new start
   module _ (n : Network) (al : Alive p source n) where
-    again_areas : (m : ℕ) → (act_lives p source n (repostOf m)).after.areas ≡ n.areas
+    again_areas : (m : ℕ) → (act_lives p source n (repost_of m)).after.areas ≡ n.areas
     unfolding act_lives
     again_areas m = go (ℕ_discrete (repost p n m).number 0)
       where
         go : Dec ((repost p n m).number ≡ 0) → (repost p n m).after.areas ≡ n.areas
         go (yes z) = ap (λ (a : Answered Network). a.after.areas) (repost_zero p so source n al m z)
-        go (no k) = ap (λ (x : Network). x.areas) (lives_stay p source n (repostOf m) k)
+        go (no k) = ap (λ (x : Network). x.areas) (lives_stay p source n (repost_of m) k)
 
     -- it leaves less to do, or all areas as they are
     moves : (e : LifeEvent) → new_start e ≡ false
-        → (leftHere p (acts n e).after.areas < leftHere p n.areas) ⊎ ((acts n e).after.areas ≡ n.areas)
+        → (left_here p (acts n e).after.areas < left_here p n.areas) ⊎ ((acts n e).after.areas ≡ n.areas)
     unfolding new_start
     moves (plain e) z = go (ℕ_discrete (acts n (plain e)).number 0)
       where
         go : Dec ((acts n (plain e)).number ≡ 0)
-            → (leftHere p (acts n (plain e)).after.areas < leftHere p n.areas) ⊎ ((acts n (plain e)).after.areas ≡ n.areas)
+            → (left_here p (acts n (plain e)).after.areas < left_here p n.areas) ⊎ ((acts n (plain e)).after.areas ≡ n.areas)
         go (yes q) = inl (omega (arith, less p so source acts same n al e q))
         go (no q) =
             inr (ap (λ (x : Network). x.areas) (after_of (same n al (plain e))
             ∙ lives_stay p source n (plain e) (λ y. q (number_of (same n al (plain e)) ∙ y))))
-    moves (repostOf m) z = inr (ap (λ (x : Network). x.areas) (after_of (same n al (repostOf m))) ∙ again_areas m)
-    moves (restartOf b) z = absurd (true≢false z)
+    moves (repost_of m) z = inr (ap (λ (x : Network). x.areas) (after_of (same n al (repost_of m))) ∙ again_areas m)
+    moves (restart_of b) z = absurd (true≢false z)
 
     -- and what was posted or received stays so
     two_next : (c m : ℕ) → m < count p → (e : LifeEvent) → new_start e ≡ false → 2 ≤ status_at n.areas c m → 2 ≤ status_at (acts n e).after.areas c m
     unfolding new_start act_lives
     two_next c m lo (plain e) z two = rw (same n al (plain e)) (two_stays p so source n al c m lo two e)
-    two_next c m lo (repostOf k) z two = rw (same n al (repostOf k), again_areas k) two
-    two_next c m lo (restartOf b) z two = absurd (true≢false z)
+    two_next c m lo (repost_of k) z two = rw (same n al (repost_of k), again_areas k) two
+    two_next c m lo (restart_of b) z two = absurd (true≢false z)
 
     -- who has no tiles left has none then
     over_next : (b : ℕ) (e : LifeEvent) → new_start e ≡ false → tiles_left p (n.areas b) b ≡ false → tiles_left p ((acts n e).after.areas b) b ≡ false
     unfolding new_start act_lives
     over_next b (plain e) z o = rw (same n al (plain e)) (over_stays p source n b o e)
-    over_next b (repostOf k) z o = rw (same n al (repostOf k), again_areas k) o
-    over_next b (restartOf c) z o = absurd (true≢false z)
+    over_next b (repost_of k) z o = rw (same n al (repost_of k), again_areas k) o
+    over_next b (restart_of c) z o = absurd (true≢false z)
 
   module _ (start : Network) (begins : Alive p source start) (es : Endless) where
     abbrev at : ℕ → Network
@@ -75,7 +75,7 @@ module _ (p : Plan) (so : Sound p) (source : List ℕ) (acts : Network → LifeE
     at_next k = after_one acts start (firsts es k) (es k)
 
     abbrev left_at : ℕ → ℕ
-    left_at k = leftHere p (at k).areas
+    left_at k = left_here p (at k).areas
 
     -- less is left at time k than at time n, or nothing was done in between
     Fell : ℕ → ℕ → Type 0
@@ -88,8 +88,8 @@ module _ (p : Plan) (so : Sound p) (source : List ℕ) (acts : Network → LifeE
     fell_both : (i j k : ℕ) → Fell i j → Fell j k → Fell i k
     unfolding Fell
     fell_both i j k (inl x) (inl y) = inl (omega arith)
-    fell_both i j k (inl x) (inr y) = inl (let z = ap (leftHere p) y in omega arith)
-    fell_both i j k (inr x) (inl y) = inl (let z = ap (leftHere p) x in omega arith)
+    fell_both i j k (inl x) (inr y) = inl (let z = ap (left_here p) y in omega arith)
+    fell_both i j k (inr x) (inl y) = inl (let z = ap (left_here p) x in omega arith)
     fell_both i j k (inr x) (inr y) = inr (y ∙ x)
 
     module _ (calm : ℕ) (no_start : (k : ℕ) → calm ≤ k → new_start (es k) ≡ false) where
@@ -131,8 +131,8 @@ module _ (p : Plan) (so : Sound p) (source : List ℕ) (acts : Network → LifeE
       unfolding Falls
       falls_by n k h x e i z =
           let w : at (suc k) ≡ (acts (at k) (plain e)).after = at_next k ∙ ap (λ (y : LifeEvent). (acts (at k) y).after) i in
-          let u = ap (λ (y : Network). leftHere p y.areas) w in
-          let v = ap (leftHere p) x in
+          let u = ap (λ (y : Network). left_here p y.areas) w in
+          let v = ap (left_here p) x in
           let y = less p so source acts same (at k) (alive_at k) e z in
           (suc k, omega arith, omega arith)
 
@@ -156,10 +156,10 @@ module _ (p : Plan) (so : Sound p) (source : List ℕ) (acts : Network → LifeE
           (number_is p so source acts same (at k) (alive_at k) (plain (post_of m)) ∙ post_number p so source (at k) (alive_at k) m lo w)
 
       arrival_number : (k m : ℕ) (a : Arrives acts start es m k) → status_at (at k).areas (taker_at p m) m ≡ 0
-          → (acts (at k) (plain (arrivalOf a.packet))).number ≡ 0
+          → (acts (at k) (plain (arrival_of a.packet))).number ≡ 0
       unfolding act_lives act_network
       arrival_number k m a none =
-          number_is p so source acts same (at k) (alive_at k) (plain (arrivalOf a.packet))
+          number_is p so source acts same (at k) (alive_at k) (plain (arrival_of a.packet))
           ∙ arrive_gives p (at k) a.packet a.low (ap (λ (i : ℕ). status_at (at k).areas (taker_at p i) i) a.is ∙ none)
 
       by_arrival : (n m : ℕ) → 2 ≤ status_at (at n).areas (sender_at p m) m → status_at (at n).areas (taker_at p m) m ≡ 0
@@ -170,7 +170,7 @@ module _ (p : Plan) (so : Sound p) (source : List ℕ) (acts : Network → LifeE
           let u : status_at (at k).areas (sender_at p m) m ≡ status_at (at n).areas (sender_at p m) m = ap (λ (a : AreasApart). status_at a (sender_at p m) m) x in
           let w : status_at (at k).areas (taker_at p m) m ≡ 0 = ap (λ (a : AreasApart). status_at a (taker_at p m) m) x ∙ none in
           let a : Arrives acts start es m k = f (omega arith, w) in
-          falls_by n k h x (arrivalOf a.packet) a.event (arrival_number k m a w)
+          falls_by n k h x (arrival_of a.packet) a.event (arrival_number k m a w)
 
       falls : (n : ℕ) → fair.tries.calm ≤ n → Way p source (at n).areas → Falls n
       falls n h (Way.turns c lo l z) =
@@ -222,14 +222,14 @@ module _ (p : Plan) (so : Sound p) (source : List ℕ) (acts : Network → LifeE
     -- ---- what is posted again and again is not all lost
     module _ (fl : FairLoss acts start es p) where
       again_gives : (n m : ℕ) → fl.tries.calm ≤ n → m < count p → 2 ≤ status_at (at n).areas (sender_at p m) m → (k : ℕ) → n ≤ k
-          → (acts (at k) (repostOf m)).number ≡ 0
+          → (acts (at k) (repost_of m)).number ≡ 0
       unfolding act_lives
       again_gives n m h lo two k l =
-          number_is p so source acts same (at k) (alive_at k) (repostOf m)
+          number_is p so source acts same (at k) (alive_at k) (repost_of m)
           ∙ repost_gives p so source (at k) (alive_at k) m lo (two_later fl.tries.calm fl.tries.no_start n k (sender_at p m) m h l lo two)
 
       again : (n m : ℕ) → fl.tries.calm ≤ n → m < count p → sender_at p m ≢ taker_at p m → 2 ≤ status_at (at n).areas (sender_at p m) m
-          → (i : ℕ) → Later i (λ k. (es k ≡ repostOf m) × ((acts (at k) (repostOf m)).number ≡ 0))
+          → (i : ℕ) → Later i (λ k. (es k ≡ repost_of m) × ((acts (at k) (repost_of m)).number ≡ 0))
       again n m h lo away two i =
           let r = fl.asked m (i + n) lo away in
           (r.0, omega (arith, r.1), (r.2, again_gives n m h lo two r.0 (omega (arith, r.1))))

@@ -11,8 +11,8 @@ use Rattle.machine.specs.Plan.{Plan, Sound, count}
 use Rattle.machine.specs.Runs.{state_after}
 use Rattle.machine.proofs.RunLaws.{after_one}
 use Rattle.network.specs.Apart.{sender_at, taker_at}
-use Rattle.network.specs.Packets.{Packet, Network, network_of, status_at, turn_by, post_of, arrivalOf, posted, start_network}
-use Rattle.restarts.specs.Restarts.{LifeEvent, plain, repostOf, restartOf, act_lives}
+use Rattle.network.specs.Packets.{Packet, Network, network_of, status_at, turn_by, post_of, arrival_of, posted, start_network}
+use Rattle.restarts.specs.Restarts.{LifeEvent, plain, repost_of, restart_of, act_lives}
 use Rattle.restarts.specs.FairLoss.{Endless, firsts, new_start, when, Arrives, FairLoss, MachineEnds}
 use Rattle.restarts.proofs.Lives.{Alive, start_alive, run_alive, repost_asks}
 use Rattle.restarts.proofs.Theorem.{again_after, last_is, more_length}
@@ -21,15 +21,15 @@ use Rattle.restarts.proofs.FairLoss.{fair_ends, loss_fair}
 -- which sort of event
 kind : LifeEvent → ℕ
 kind (plain e) = 0
-kind (repostOf m) = 1
-kind (restartOf b) = 2
+kind (repost_of m) = 1
+kind (restart_of b) = 2
 
 -- by the time's rest from division by 4, of the i-th processor or message
 unfoldable by_rest : ℕ → ℕ → Network → LifeEvent
 by_rest zero i n = plain (turn_by i)
 by_rest (suc zero) i n = plain (post_of i)
-by_rest (suc (suc zero)) i n = repostOf i
-by_rest (suc (suc (suc r))) i n = plain (arrivalOf (length n.packets - 1))
+by_rest (suc (suc zero)) i n = repost_of i
+by_rest (suc (suc (suc r))) i n = plain (arrival_of (length n.packets - 1))
 
 never_starts : (r i : ℕ) (n : Network) → new_start (by_rest r i n) ≡ false
 unfolding by_rest new_start
@@ -38,7 +38,7 @@ never_starts (suc zero) i n = refl
 never_starts (suc (suc zero)) i n = refl
 never_starts (suc (suc (suc r))) i n = refl
 
-at_two : (r i m : ℕ) (n : Network) → by_rest r i n ≡ repostOf m → r ≡ 2
+at_two : (r i m : ℕ) (n : Network) → by_rest r i n ≡ repost_of m → r ≡ 2
 unfolding by_rest kind
 at_two zero i m n e = absurd (let x : ◌≡◌ {A = ℕ} 0 1 = ap kind e in omega arith)
 at_two (suc zero) i m n e = absurd (let x : ◌≡◌ {A = ℕ} 0 1 = ap kind e in omega arith)
@@ -96,8 +96,8 @@ module _ (p : Plan) (so : Sound p) (source : List ℕ) where
   alive_at k = run_alive p so source (act_lives p source) (λ n al e. refl) (firsts events k) (start_network p) (start_alive p so source)
 
   -- after a post again that gave 0 its packet arrives
-  module _ (m : ℕ) (lo : m < count p) (away : sender_at p m ≢ taker_at p m) (k : ℕ) (e : events k ≡ repostOf m)
-      (z : (act_lives p source (at k) (repostOf m)).number ≡ 0) where
+  module _ (m : ℕ) (lo : m < count p) (away : sender_at p m ≢ taker_at p m) (k : ℕ) (e : events k ≡ repost_of m)
+      (z : (act_lives p source (at k) (repost_of m)).number ≡ 0) where
     two : 2 ≤ status_at (at k).areas (sender_at p m) m
     unfolding act_lives
     two = (repost_asks p so source (at k) (alive_at k) m z).1
@@ -115,12 +115,12 @@ module _ (p : Plan) (so : Sound p) (source : List ℕ) where
     unfolding events chosen
     then_three = suc-mod k 4 ∙ ap (λ (x : ℕ). suc x % 4) (at_two (k % 4) (k / 4 % wide) m (driven k) e)
 
-    then_arrives : events (suc k) ≡ plain (arrivalOf (length (at k).packets))
+    then_arrives : events (suc k) ≡ plain (arrival_of (length (at k).packets))
     unfolding by_rest
     then_arrives =
         event_is (suc k) 3 (suc k / 4 % wide) then_three refl
-        ∙ ap (λ (n : Network). plain (arrivalOf (length n.packets - 1))) (sym (as_driven (suc k)) ∙ next_is)
-        ∙ ap (λ (x : ℕ). plain (arrivalOf x)) (omega (arith, more_length p so source (at k) (alive_at k) m lo away two))
+        ∙ ap (λ (n : Network). plain (arrival_of (length n.packets - 1))) (sym (as_driven (suc k)) ∙ next_is)
+        ∙ ap (λ (x : ℕ). plain (arrival_of x)) (omega (arith, more_length p so source (at k) (alive_at k) m lo away two))
 
     arrives : Arrives (act_lives p source) (start_network p) events m (suc k)
     arrives =

@@ -25,7 +25,7 @@ use Rattle.machine.proofs.Events.{Refused}
 use Rattle.machine.proofs.Fresh.{status_fresh}
 use Rattle.machine.proofs.RunLaws.{number_of, after_of}
 use Rattle.network.specs.Apart.{AreasApart, start_apart, replaced, sender_at, taker_at, turn_apart, marked, received, sent_off, arrived}
-use Rattle.network.specs.Packets.{Packet, Network, network_of, packet_at, status_at, NetworkEvent, turn_by, post_of, arrivalOf, posted, post, arrive, turn_network}
+use Rattle.network.specs.Packets.{Packet, Network, network_of, packet_at, status_at, NetworkEvent, turn_by, post_of, arrival_of, posted, post, arrive, turn_network}
 use Rattle.network.specs.Packets.{act_network, start_network}
 use Rattle.network.proofs.Letters.{replaced_same, replaced_other}
 use Rattle.network.proofs.Carry.{status_two, status_rest}
@@ -34,9 +34,9 @@ use Rattle.network.proofs.Posting.{Has}
 use Rattle.network.proofs.Fine.{FineNetwork}
 use Rattle.network.proofs.Network.{Correct, zero_answer, some_answer, two_lines, lines_two, post_asks, post_zero, post_some, arrive_asks, arrive_zero}
 use Rattle.network.proofs.Network.{arrive_some}
-use Rattle.restarts.specs.Restarts.{LifeEvent, plain, repostOf, restartOf, repost, restart_lines, restart, act_lives, deeds_of, work_of, redone_of}
+use Rattle.restarts.specs.Restarts.{LifeEvent, plain, repost_of, restart_of, repost, restart_lines, restart, act_lives, deeds_of, work_of, redone_of}
 use Rattle.restarts.proofs.Life.{Life, Lived, turn_lives, post_lives, arrival_lives, fresh_lives}
-use Rattle.restarts.proofs.Measure.{sender_at_lem, taker_at_lem, leftHere, left_any, left_same, left_deed, left_post, left_arrival, status_here, status_away}
+use Rattle.restarts.proofs.Measure.{sender_at_lem, taker_at_lem, left_here, left_any, left_same, left_deed, left_post, left_arrival, status_here_lem, status_away}
 
 pub record Alive (p : Plan) (source : List ℕ) (n : Network) : Type 0 where
   pub each : (b : ℕ) → b < p.processors → Life p source b (n.areas b)
@@ -47,7 +47,7 @@ pub record Alive (p : Plan) (source : List ℕ) (n : Network) : Type 0 where
 -- what a turn, a post or an arrival does: it gives 0 and leaves one thing less to do, or writes nothing
 pub record Went (p : Plan) (source : List ℕ) (n : Network) (a : Answered Network) : Type 0 where
   pub alive : Alive p source a.after
-  pub counted : one (eqb a.number 0) + leftHere p a.after.areas ≡ leftHere p n.areas
+  pub counted : one (eqb a.number 0) + left_here p a.after.areas ≡ left_here p n.areas
 
 pending_two : (x y : ℕ) → pending x ≡ pending y → 2 ≤ x → 2 ≤ y
 pending_two (suc (suc x)) zero e h = absurd (omega arith)
@@ -103,7 +103,7 @@ module _ (p : Plan) (so : Sound p) (source : List ℕ) (n : Network) (al : Alive
 
         goes : (m : ℕ) → m < count p → sender_at p m ≢ taker_at p m → 2 ≤ status_at (replaced n.areas b s) (sender_at p m) m
             → Dec (sender_at p m ≡ b) → Has packets m
-        goes m lo aw q (yes e) = new m lo aw e (let x = status_here p n.areas b s (sender_at p m) m e in omega arith)
+        goes m lo aw q (yes e) = new m lo aw e (let x = status_here_lem p n.areas b s (sender_at p m) m e in omega arith)
         goes m lo aw q (no k) = old m (al.has m lo aw (let x = status_away p n.areas b s (sender_at p m) m k in omega arith))
 
   refused : (x : ℕ) → x ≢ 0 → Went p source n (record { number = x; after = n })
@@ -200,7 +200,7 @@ module _ (p : Plan) (so : Sound p) (source : List ℕ) (n : Network) (al : Alive
           goes k l aw e q (no z) =
               posted_more (ℕ_discrete _ _) k (al.has k l aw (rw e (let x = status_rest p b (n.areas b) m lo k z in omega arith)))
 
-      counted_posted : suc (leftHere p (sent_off p n.areas m)) ≡ leftHere p n.areas
+      counted_posted : suc (left_here p (sent_off p n.areas m)) ≡ left_here p n.areas
       unfolding sent_off prog
       counted_posted =
           left_post p n.areas b (marked (n.areas b) m) m lo (λ u. refl) (status_two p b (n.areas b) m lo (al.each b (sender_at_lem p so m lo)).held.shape)
@@ -241,7 +241,7 @@ module _ (p : Plan) (so : Sound p) (source : List ℕ) (n : Network) (al : Alive
         goes k l aw e q (yes z) = absurd (c.away (ap (sender_at p) (sym z) ∙ e))
         goes k l aw e q (no z) = al.has k l aw (rw e (let x = status_rest p d (n.areas d) m c.low k z in omega arith))
 
-    counted_arrived : suc (leftHere p (arrived p n.areas m ws)) ≡ leftHere p n.areas
+    counted_arrived : suc (left_here p (arrived p n.areas m ws)) ≡ left_here p n.areas
     unfolding arrived prog
     counted_arrived =
         left_arrival p n.areas d (received p (n.areas d) m ws) m c.low (λ u. refl)
@@ -265,7 +265,7 @@ module _ (p : Plan) (so : Sound p) (source : List ℕ) (n : Network) (al : Alive
   unfolding act_network
   plain_went (turn_by b) = turn_went b
   plain_went (post_of m) = post_went m
-  plain_went (arrivalOf k) = arrive_went k
+  plain_went (arrival_of k) = arrive_went k
 
   -- ---- a message posted again
   module _ (m : ℕ) where
@@ -285,10 +285,10 @@ module _ (p : Plan) (so : Sound p) (source : List ℕ) (n : Network) (al : Alive
     unfolding repost
     repost_some k = some_answer _ _ _ k
 
-    repost_went : Alive p source (repost p n m).after × (leftHere p (repost p n m).after.areas ≡ leftHere p n.areas)
+    repost_went : Alive p source (repost p n m).after × (left_here p (repost p n m).after.areas ≡ left_here p n.areas)
     repost_went = go (ℕ_discrete (repost p n m).number 0)
       where
-        go : Dec ((repost p n m).number ≡ 0) → Alive p source (repost p n m).after × (leftHere p (repost p n m).after.areas ≡ leftHere p n.areas)
+        go : Dec ((repost p n m).number ≡ 0) → Alive p source (repost p n m).after × (left_here p (repost p n m).after.areas ≡ left_here p n.areas)
         go (yes z) = rw (repost_zero z) (alive_again m (repost_asks z).0 (let x = (repost_asks z).1 in omega arith), refl)
         go (no k) = rw (repost_some k) (al, refl)
 
@@ -317,11 +317,11 @@ module _ (p : Plan) (so : Sound p) (source : List ℕ) (n : Network) (al : Alive
         placed b (fresh p) n.packets (fresh_lives p source b) al.right (λ m h. h) (λ m lo aw e q. absurd (omega (arith, status_fresh p m)))
 
     restart_went : Alive p source (restart p n b).after
-        × (leftHere p (restart p n b).after.areas ≤ leftHere p n.areas + pick (eqb (restart p n b).number 0) (work_of p b) 0)
+        × (left_here p (restart p n b).after.areas ≤ left_here p n.areas + pick (eqb (restart p n b).number 0) (work_of p b) 0)
     restart_went = go (ℕ_discrete (restart p n b).number 0)
       where
         go : Dec ((restart p n b).number ≡ 0) → Alive p source (restart p n b).after
-            × (leftHere p (restart p n b).after.areas ≤ leftHere p n.areas + pick (eqb (restart p n b).number 0) (work_of p b) 0)
+            × (left_here p (restart p n b).after.areas ≤ left_here p n.areas + pick (eqb (restart p n b).number 0) (work_of p b) 0)
         go (yes z) =
             rw (restart_zero z, pick_true _ (work_of p b) 0 (eq-eqb 0 0 refl)) (alive_restarted, left_any p n.areas b (fresh p))
         go (no k) = rw (restart_some k, pick_false _ (work_of p b) 0 (ne_eqb _ 0 k)) (al, omega arith)
@@ -330,8 +330,8 @@ module _ (p : Plan) (so : Sound p) (source : List ℕ) (n : Network) (al : Alive
   pub went_alive : (e : LifeEvent) → Alive p source (act_lives p source n e).after
   unfolding act_lives
   went_alive (plain e) = (plain_went e).alive
-  went_alive (repostOf m) = (repost_went m).0
-  went_alive (restartOf b) = (restart_went b).0
+  went_alive (repost_of m) = (repost_went m).0
+  went_alive (restart_of b) = (restart_went b).0
 
 -- ---- a message that was posted or received stays so until its processor starts again
 module _ (p : Plan) (so : Sound p) (source : List ℕ) (n : Network) (al : Alive p source n) (c m : ℕ) (lo : m < count p)
@@ -340,7 +340,7 @@ module _ (p : Plan) (so : Sound p) (source : List ℕ) (n : Network) (al : Alive
   two_replaced b s f = go (ℕ_discrete c b)
     where
       go : Dec (c ≡ b) → 2 ≤ status_at (replaced n.areas b s) c m
-      go (yes e) = let x = status_here p n.areas b s c m e in let y = f e in omega arith
+      go (yes e) = let x = status_here_lem p n.areas b s c m e in let y = f e in omega arith
       go (no k) = let x = status_away p n.areas b s c m k in omega arith
 
   two_marked : (b k : ℕ) → b < p.processors → k < count p → c ≡ b → 2 ≤ status_of (marked (n.areas b) k) m
@@ -377,7 +377,7 @@ module _ (p : Plan) (so : Sound p) (source : List ℕ) (n : Network) (al : Alive
           rw (post_zero p n k z)
           (two_replaced (sender_at p k) _ (two_marked (sender_at p k) k (sender_at_lem p so k (post_asks p n k z).0) (post_asks p n k z).0))
       go (no q) = rw (post_some p n k q) two
-  two_stays (arrivalOf i) = go (ℕ_discrete (arrive p n i).number 0)
+  two_stays (arrival_of i) = go (ℕ_discrete (arrive p n i).number 0)
     where
       k : ℕ
       k = (packet_at n.packets i).message
@@ -429,7 +429,7 @@ module _ (p : Plan) (source : List ℕ) (n : Network) (b : ℕ) (over : tiles_le
       go : Dec ((post p n k).number ≡ 0) → tiles_left p ((post p n k).after.areas b) b ≡ false
       go (yes z) = rw (post_zero p n k z) (over_replaced (sender_at p k) _ (λ e. over_marked (sender_at p k) e _ _))
       go (no q) = rw (post_some p n k q) over
-  over_stays (arrivalOf i) = go (ℕ_discrete (arrive p n i).number 0)
+  over_stays (arrival_of i) = go (ℕ_discrete (arrive p n i).number 0)
     where
       go : Dec ((arrive p n i).number ≡ 0) → tiles_left p ((arrive p n i).after.areas b) b ≡ false
       go (yes z) = rw (arrive_zero p n i z) (over_replaced (taker_at p (packet_at n.packets i).message) _ (λ e. over_marked _ e _ _))
@@ -459,9 +459,9 @@ module _ (p : Plan) (source : List ℕ) (n : Network) where
   unfolding act_lives act_network repost restart
   lives_stay (plain (turn_by b)) k = turn_stays b k
   lives_stay (plain (post_of m)) k = after_of (post_some p n m k)
-  lives_stay (plain (arrivalOf i)) k = after_of (arrive_some p n i k)
-  lives_stay (repostOf m) k = after_of (some_answer _ _ n k)
-  lives_stay (restartOf b) k = after_of (some_answer _ _ n k)
+  lives_stay (plain (arrival_of i)) k = after_of (arrive_some p n i k)
+  lives_stay (repost_of m) k = after_of (some_answer _ _ n k)
+  lives_stay (restart_of b) k = after_of (some_answer _ _ n k)
 
 -- all that the calls ask of a network
 pub alive_fine : (p : Plan) (source : List ℕ) (n : Network) → Alive p source n → FineNetwork p n
@@ -494,21 +494,21 @@ module _ (p : Plan) (so : Sound p) (source : List ℕ) where
     run_alive (e ∷ es) n al = run_alive es _ (next_alive n al e)
 
     pub run_counted : (es : List LifeEvent) (n : Network) → Alive p source n
-        → deeds_of es (answers_to acts n es) + leftHere p (state_after acts n es).areas
-        ≤ leftHere p n.areas + redone_of p es (answers_to acts n es)
+        → deeds_of es (answers_to acts n es) + left_here p (state_after acts n es).areas
+        ≤ left_here p n.areas + redone_of p es (answers_to acts n es)
     unfolding state_after answers_to deeds_of redone_of act_lives
     run_counted [] n al = omega arith
     run_counted (plain e ∷ es) n al =
         let ih = run_counted es _ (next_alive n al (plain e)) in
-        let x : one (eqb (acts n (plain e)).number 0) + leftHere p (acts n (plain e)).after.areas ≡ leftHere p n.areas
+        let x : one (eqb (acts n (plain e)).number 0) + left_here p (acts n (plain e)).after.areas ≡ left_here p n.areas
         = rw (same n al (plain e)) (plain_went p so source n al e).counted in
         omega arith
-    run_counted (repostOf m ∷ es) n al =
-        let ih = run_counted es _ (next_alive n al (repostOf m)) in
-        let x : leftHere p (acts n (repostOf m)).after.areas ≡ leftHere p n.areas = rw (same n al (repostOf m)) (repost_went p so source n al m).1 in
+    run_counted (repost_of m ∷ es) n al =
+        let ih = run_counted es _ (next_alive n al (repost_of m)) in
+        let x : left_here p (acts n (repost_of m)).after.areas ≡ left_here p n.areas = rw (same n al (repost_of m)) (repost_went p so source n al m).1 in
         omega arith
-    run_counted (restartOf b ∷ es) n al =
-        let ih = run_counted es _ (next_alive n al (restartOf b)) in
-        let x : leftHere p (acts n (restartOf b)).after.areas ≤ leftHere p n.areas + pick (eqb (acts n (restartOf b)).number 0) (work_of p b) 0
-        = rw (same n al (restartOf b)) (restart_went p so source n al b).1 in
+    run_counted (restart_of b ∷ es) n al =
+        let ih = run_counted es _ (next_alive n al (restart_of b)) in
+        let x : left_here p (acts n (restart_of b)).after.areas ≤ left_here p n.areas + pick (eqb (acts n (restart_of b)).number 0) (work_of p b) 0
+        = rw (same n al (restart_of b)) (restart_went p so source n al b).1 in
         omega arith

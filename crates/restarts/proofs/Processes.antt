@@ -27,10 +27,10 @@ use Rattle.network.proofs.Letters.{replaced_same, replaced_other}
 use Rattle.network.proofs.Carry.{status_two, status_rest}
 use Rattle.network.proofs.Network.{Correct, zero_answer, some_answer, two_lines, lines_two}
 use Rattle.restarts.specs.Restarts.{work_of}
-use Rattle.restarts.specs.Processes.{Roles, ProcessEvent, start_of, turnFrom, postFrom, repostFrom, arrivalAt, posted_from, repost_by, act_process, deed_by}
+use Rattle.restarts.specs.Processes.{Roles, ProcessEvent, start_of, turn_from, post_from, repost_from, arrival_at, posted_from, repost_by, act_process, deed_by}
 use Rattle.restarts.specs.Processes.{deeds_by, start_by, starts_by, Chooses, areas_of, GoesFor, now, ByProcesses, MachineByProcesses}
 use Rattle.restarts.proofs.Life.{Life, Lived, turn_lives, post_lives, arrival_lives, fresh_lives}
-use Rattle.restarts.proofs.Measure.{taker_at_lem, leftHere, left_any, left_deed, left_post, left_arrival}
+use Rattle.restarts.proofs.Measure.{taker_at_lem, left_here, left_any, left_deed, left_post, left_arrival}
 use Rattle.restarts.proofs.Lives.{right_more, replaced_own}
 use Rattle.restarts.proofs.Ways.{Way, way}
 use Rattle.restarts.proofs.Theorem.{own_right, got_right, part_right, finished_collects, collects_finished, collects_right}
@@ -44,8 +44,8 @@ module _ (p : Plan) (b : ℕ) where
   abbrev alone : State → AreasApart
   alone s = replaced (start_apart p) b s
 
-  abbrev leftBy : State → ℕ
-  leftBy s = leftHere p (alone s)
+  abbrev left_by : State → ℕ
+  left_by s = left_here p (alone s)
 
   here : (s : State) → alone s b ≡ s
   here s = replaced_same (start_apart p) b s b refl
@@ -58,25 +58,25 @@ module _ (p : Plan) (b : ℕ) where
       go c (no k) = replaced_other (alone s) b s' c k ∙ replaced_other (start_apart p) b s c k ∙ sym (replaced_other (start_apart p) b s' c k)
 
   -- from any areas to any others it is at most the processor's whole work more
-  left_by : (s s' : State) → leftBy s' ≤ leftBy s + work_of p b
-  left_by s s' = rw (twice s s') at (left_any p (alone s) b s')
+  left_by_lem : (s s' : State) → left_by s' ≤ left_by s + work_of p b
+  left_by_lem s s' = rw (twice s s') at (left_any p (alone s) b s')
 
   -- the three deeds
   module _ (s s' : State) where
-    after_deed : ◌≡◌ {A = ℕ} (1 + leftHere p (replaced (alone s) b s')) (leftBy s) → leftBy s ≡ 1 + leftBy s'
+    after_deed : ◌≡◌ {A = ℕ} (1 + left_here p (replaced (alone s) b s')) (left_by s) → left_by s ≡ 1 + left_by s'
     after_deed e = sym (rw (twice s s') at e)
 
-    by_turn : (source : List ℕ) → Lived p source b s s' → leftBy s ≡ 1 + leftBy s'
+    by_turn : (source : List ℕ) → Lived p source b s s' → left_by s ≡ 1 + left_by s'
     by_turn source li =
         after_deed (let x = left_deed p (alone s) b s' _ li.home (rw (here s) li.step) li.within (rw (here s) li.same) in omega arith)
 
     module _ (m : ℕ) (lo : m < count p) (done : (u : ℕ) → prog p s' u ≡ prog p s u) (is : status_of s' m ≡ 2)
         (rest : (k : ℕ) → k ≢ m → status_of s' k ≡ status_of s k) where
-      by_post : sender_at p m ≡ b → status_of s m ≡ 1 → leftBy s ≡ 1 + leftBy s'
+      by_post : sender_at p m ≡ b → status_of s m ≡ 1 → left_by s ≡ 1 + left_by s'
       by_post own was =
           after_deed (let x = left_post p (alone s) b s' m lo (rw (here s) done) is (rw (here s) rest) own (rw (here s) was) in omega arith)
 
-      by_arrival : taker_at p m ≡ b → sender_at p m ≢ taker_at p m → status_of s m ≡ 0 → leftBy s ≡ 1 + leftBy s'
+      by_arrival : taker_at p m ≡ b → sender_at p m ≢ taker_at p m → status_of s m ≡ 0 → left_by s ≡ 1 + left_by s'
       by_arrival own away was =
           after_deed (let x = left_arrival p (alone s) b s' m lo (rw (here s) done) is (rw (here s) rest) own away (rw (here s) was) in omega arith)
 
@@ -130,41 +130,41 @@ module _ (p : Plan) (so : Sound p) (source : List ℕ) (role : Roles) (n : Netwo
 
   -- ---- when an event gives 0
   module _ (c m : ℕ) where
-    post_asked : (act_process p source role n (postFrom c m)).number ≡ 0 → (m < count p) × (status_at n.areas c m ≡ 1)
+    post_asked : (act_process p source role n (post_from c m)).number ≡ 0 → (m < count p) × (status_at n.areas c m ≡ 1)
     unfolding act_process
     post_asked z = let k = two_lines _ _ z in (ltb-true _ _ k.0, eqb-true _ _ k.1)
 
-    post_allowed : m < count p → status_at n.areas c m ≡ 1 → (act_process p source role n (postFrom c m)).number ≡ 0
+    post_allowed : m < count p → status_at n.areas c m ≡ 1 → (act_process p source role n (post_from c m)).number ≡ 0
     unfolding act_process
     post_allowed lo y = lines_two _ _ (lt-ltb m (count p) lo) (eq-eqb _ 1 y)
 
-    repost_asked : (act_process p source role n (repostFrom c m)).number ≡ 0 → (m < count p) × (2 ≤ status_at n.areas c m)
+    repost_asked : (act_process p source role n (repost_from c m)).number ≡ 0 → (m < count p) × (2 ≤ status_at n.areas c m)
     unfolding act_process repost_by
     repost_asked z = let k = two_lines _ _ z in (ltb-true _ _ k.0, leb-true _ _ k.1)
 
-    repost_allowed : m < count p → 2 ≤ status_at n.areas c m → (act_process p source role n (repostFrom c m)).number ≡ 0
+    repost_allowed : m < count p → 2 ≤ status_at n.areas c m → (act_process p source role n (repost_from c m)).number ≡ 0
     unfolding act_process repost_by
     repost_allowed lo y = lines_two _ _ (lt-ltb m (count p) lo) (le-leb _ _ y)
 
   module _ (c k : ℕ) where
-    abbrev here-m : ℕ
-    here-m = (packet_at n.packets k).message
+    abbrev here_m : ℕ
+    here_m = (packet_at n.packets k).message
 
-    pub arrival_asked : (act_process p source role n (arrivalAt c k)).number ≡ 0
-        → (k < length n.packets) × (taker_at p here-m ≡ role c) × (status_at n.areas c here-m ≡ 0)
+    pub arrival_asked : (act_process p source role n (arrival_at c k)).number ≡ 0
+        → (k < length n.packets) × (taker_at p here_m ≡ role c) × (status_at n.areas c here_m ≡ 0)
     unfolding act_process
     arrival_asked z =
         let x = two_lines _ _ z in
         let y = both x.0 in
         (ltb-true _ _ y.0, eqb-true _ _ y.1, eqb-true _ _ x.1)
 
-    arrival_allowed : k < length n.packets → taker_at p here-m ≡ role c → status_at n.areas c here-m ≡ 0
-        → (act_process p source role n (arrivalAt c k)).number ≡ 0
+    arrival_allowed : k < length n.packets → taker_at p here_m ≡ role c → status_at n.areas c here_m ≡ 0
+        → (act_process p source role n (arrival_at c k)).number ≡ 0
     unfolding act_process
     arrival_allowed lo t y = lines_two _ _ (and_true (lt-ltb k _ lo) (eq-eqb _ _ t)) (eq-eqb _ 0 y)
 
-    arrival_away : k < length n.packets → taker_at p here-m ≡ role c → status_at n.areas c here-m ≢ 0
-        → (act_process p source role n (arrivalAt c k)).number ≡ 14
+    arrival_away : k < length n.packets → taker_at p here_m ≡ role c → status_at n.areas c here_m ≢ 0
+        → (act_process p source role n (arrival_at c k)).number ≡ 14
     unfolding act_process
     arrival_away lo t y =
         first_false 11 _ _ (not-true (and_true (lt-ltb k _ lo) (eq-eqb _ _ t))) ∙ first_true 14 _ _ (not-false (ne_eqb _ 0 y))
@@ -173,26 +173,26 @@ module _ (p : Plan) (so : Sound p) (source : List ℕ) (role : Roles) (n : Netwo
   stays : (e : ProcessEvent) → (act_process p source role n e).number ≢ 0 → (act_process p source role n e).after ≡ n
   unfolding act_process repost_by
   stays (start_of q) k = absurd (k refl)
-  stays (turnFrom q) k =
+  stays (turn_from q) k =
       ap (λ (a : AreasApart). network_of a n.packets)
       (ap (replaced n.areas q) (by_refusal p source (n.areas q) (role q) k) ∙ replaced_own n.areas q)
-  stays (postFrom q m) k = after_of (some_answer _ _ n k)
-  stays (repostFrom q m) k = after_of (some_answer _ _ n k)
-  stays (arrivalAt q i) k = after_of (some_answer _ _ n k)
+  stays (post_from q m) k = after_of (some_answer _ _ n k)
+  stays (repost_from q m) k = after_of (some_answer _ _ n k)
+  stays (arrival_at q i) k = after_of (some_answer _ _ n k)
 
   -- ---- what is left to each process
   module _ (q c : ℕ) where
-    moved : (s' : State) (x : ℕ) → leftBy p (role c) (n.areas c) ≡ one (eqb x 0) + leftBy p (role c) s'
-        → one (eqb c q and eqb x 0) + leftBy p (role q) (replaced n.areas c s' q) ≡ leftBy p (role q) (n.areas q)
+    moved : (s' : State) (x : ℕ) → left_by p (role c) (n.areas c) ≡ one (eqb x 0) + left_by p (role c) s'
+        → one (eqb c q and eqb x 0) + left_by p (role q) (replaced n.areas c s' q) ≡ left_by p (role q) (n.areas q)
     moved s' x e = go (ℕ_discrete q c)
       where
-        go : Dec (q ≡ c) → one (eqb c q and eqb x 0) + leftBy p (role q) (replaced n.areas c s' q) ≡ leftBy p (role q) (n.areas q)
+        go : Dec (q ≡ c) → one (eqb c q and eqb x 0) + left_by p (role q) (replaced n.areas c s' q) ≡ left_by p (role q) (n.areas q)
         go (yes r) = rw (r, replaced_same n.areas c s' c refl, and_left (eqb c c) (eqb x 0) (eq-eqb c c refl)) (sym e)
         go (no k) =
             rw (replaced_other n.areas c s' q k)
             (let y = one_false (and_false (eqb c q) (eqb x 0) (ne_eqb c q (λ z. k (sym z)))) in omega arith)
 
-    idle : (x : ℕ) → x ≢ 0 → one (eqb c q and eqb x 0) + leftBy p (role q) (n.areas q) ≡ leftBy p (role q) (n.areas q)
+    idle : (x : ℕ) → x ≢ 0 → one (eqb c q and eqb x 0) + left_by p (role q) (n.areas q) ≡ left_by p (role q) (n.areas q)
     idle x k = let y = one_false (and_no (eqb c q) (eqb x 0) (ne_eqb x 0 k)) in omega arith
 
   module _ (c : ℕ) where
@@ -205,18 +205,18 @@ module _ (p : Plan) (so : Sound p) (source : List ℕ) (role : Roles) (n : Netwo
     turn_life (inr y) = rw y.1 (se.each c)
 
     turn_left : ((answer.number ≡ 0) × Lived p source (role c) (n.areas c) answer.after) ⊎ Refused (n.areas c) answer
-        → leftBy p (role c) (n.areas c) ≡ one (eqb answer.number 0) + leftBy p (role c) answer.after
+        → left_by p (role c) (n.areas c) ≡ one (eqb answer.number 0) + left_by p (role c) answer.after
     turn_left (inl y) =
         let x = one_true (eq-eqb answer.number 0 y.0) in
         let z = by_turn p (role c) (n.areas c) answer.after source y.1 in
         omega arith
     turn_left (inr y) =
         let x = one_false (ne_eqb answer.number 0 y.0) in
-        let z = ap (leftBy p (role c)) y.1 in
+        let z = ap (left_by p (role c)) y.1 in
         omega arith
 
     post_left : (m : ℕ) → m < count p → status_at n.areas c m ≡ 1
-        → leftBy p (role c) (n.areas c) ≡ one (eqb 0 0) + leftBy p (role c) (marked (n.areas c) m)
+        → left_by p (role c) (n.areas c) ≡ one (eqb 0 0) + left_by p (role c) (marked (n.areas c) m)
     unfolding prog
     post_left m lo y =
         let x = one_true (eq-eqb 0 0 refl) in
@@ -225,7 +225,7 @@ module _ (p : Plan) (so : Sound p) (source : List ℕ) (role : Roles) (n : Netwo
         omega arith
 
     arrival_left : (m : ℕ) (ws : List ℕ) → m < count p → taker_at p m ≡ role c → sender_at p m ≢ taker_at p m → status_at n.areas c m ≡ 0
-        → leftBy p (role c) (n.areas c) ≡ one (eqb 0 0) + leftBy p (role c) (received p (n.areas c) m ws)
+        → left_by p (role c) (n.areas c) ≡ one (eqb 0 0) + left_by p (role c) (received p (n.areas c) m ws)
     unfolding prog
     arrival_left m ws lo t away y =
         let x = one_true (eq-eqb 0 0 refl) in
@@ -236,15 +236,15 @@ module _ (p : Plan) (so : Sound p) (source : List ℕ) (role : Roles) (n : Netwo
   -- ---- what each event does
   record WentFor (q : ℕ) (e : ProcessEvent) (a : Answered Network) : Type 0 where
     several : Several p source role a.after
-    counted : deed_by q e a.number + leftBy p (role q) (a.after.areas q) ≤ leftBy p (role q) (n.areas q) + start_by q e * work_of p (role q)
+    counted : deed_by q e a.number + left_by p (role q) (a.after.areas q) ≤ left_by p (role q) (n.areas q) + start_by q e * work_of p (role q)
 
-  started : (q c : ℕ) → leftBy p (role q) (replaced n.areas c (fresh p) q) ≤ leftBy p (role q) (n.areas q) + one (eqb c q) * work_of p (role q)
+  started : (q c : ℕ) → left_by p (role q) (replaced n.areas c (fresh p) q) ≤ left_by p (role q) (n.areas q) + one (eqb c q) * work_of p (role q)
   started q c = go (ℕ_discrete q c)
     where
-      go : Dec (q ≡ c) → leftBy p (role q) (replaced n.areas c (fresh p) q) ≤ leftBy p (role q) (n.areas q) + one (eqb c q) * work_of p (role q)
+      go : Dec (q ≡ c) → left_by p (role q) (replaced n.areas c (fresh p) q) ≤ left_by p (role q) (n.areas q) + one (eqb c q) * work_of p (role q)
       go (yes r) =
           rw (r, replaced_same n.areas c (fresh p) c refl, one_true (eq-eqb c c refl))
-          (let x = left_by p (role c) (n.areas c) (fresh p) in omega arith)
+          (let x = left_by_lem p (role c) (n.areas c) (fresh p) in omega arith)
       go (no k) = rw (replaced_other n.areas c (fresh p) q k) (omega arith)
 
   went_start : (q c : ℕ) → WentFor q (start_of c) (act_process p source role n (start_of c))
@@ -255,7 +255,7 @@ module _ (p : Plan) (so : Sound p) (source : List ℕ) (role : Roles) (n : Netwo
         counted = let x = started q c in omega arith;
       }
 
-  went_turn : (q c : ℕ) → WentFor q (turnFrom c) (act_process p source role n (turnFrom c))
+  went_turn : (q c : ℕ) → WentFor q (turn_from c) (act_process p source role n (turn_from c))
   unfolding act_process deed_by start_by
   went_turn q c =
       let l = turn_lives p so source (n.areas c) (role c) (se.each c) in
@@ -267,28 +267,28 @@ module _ (p : Plan) (so : Sound p) (source : List ℕ) (role : Roles) (n : Netwo
       }
 
   module _ (q c m : ℕ) where
-    post_zero : (act_process p source role n (postFrom c m)).number ≡ 0 → act_process p source role n (postFrom c m)
+    post_zero : (act_process p source role n (post_from c m)).number ≡ 0 → act_process p source role n (post_from c m)
         ≡ record { number = 0; after = network_of (replaced n.areas c (marked (n.areas c) m)) (n.packets ++ posted_from p (n.areas c) m) }
     unfolding act_process
     post_zero z = zero_answer _ _ _ z
 
-    post_some : (act_process p source role n (postFrom c m)).number ≢ 0
-        → act_process p source role n (postFrom c m) ≡ record { number = (act_process p source role n (postFrom c m)).number; after = n }
+    post_some : (act_process p source role n (post_from c m)).number ≢ 0
+        → act_process p source role n (post_from c m) ≡ record { number = (act_process p source role n (post_from c m)).number; after = n }
     unfolding act_process
     post_some k = some_answer _ _ _ k
 
-    repost_zero : (act_process p source role n (repostFrom c m)).number ≡ 0 → act_process p source role n (repostFrom c m)
+    repost_zero : (act_process p source role n (repost_from c m)).number ≡ 0 → act_process p source role n (repost_from c m)
         ≡ record { number = 0; after = network_of n.areas (n.packets ++ posted_from p (n.areas c) m) }
     unfolding act_process repost_by
     repost_zero z = zero_answer _ _ _ z
 
-    repost_some : (act_process p source role n (repostFrom c m)).number ≢ 0
-        → act_process p source role n (repostFrom c m) ≡ record { number = (act_process p source role n (repostFrom c m)).number; after = n }
+    repost_some : (act_process p source role n (repost_from c m)).number ≢ 0
+        → act_process p source role n (repost_from c m) ≡ record { number = (act_process p source role n (repost_from c m)).number; after = n }
     unfolding act_process repost_by
     repost_some k = some_answer _ _ _ k
 
     posts : m < count p → status_at n.areas c m ≡ 1
-        → WentFor q (postFrom c m)
+        → WentFor q (post_from c m)
         (record { number = 0; after = network_of (replaced n.areas c (marked (n.areas c) m)) (n.packets ++ posted_from p (n.areas c) m) })
     unfolding deed_by start_by
     posts lo y =
@@ -297,26 +297,26 @@ module _ (p : Plan) (so : Sound p) (source : List ℕ) (role : Roles) (n : Netwo
           counted = let x = moved q c (marked (n.areas c) m) 0 (post_left c m lo y) in omega arith;
         }
 
-    posts_not : (x : ℕ) → x ≢ 0 → WentFor q (postFrom c m) (record { number = x; after = n })
+    posts_not : (x : ℕ) → x ≢ 0 → WentFor q (post_from c m) (record { number = x; after = n })
     unfolding deed_by start_by
     posts_not x k = record { several = se; counted = let y = idle q c x k in omega arith }
 
-    went_post : WentFor q (postFrom c m) (act_process p source role n (postFrom c m))
-    went_post = go (ℕ_discrete (act_process p source role n (postFrom c m)).number 0)
+    went_post : WentFor q (post_from c m) (act_process p source role n (post_from c m))
+    went_post = go (ℕ_discrete (act_process p source role n (post_from c m)).number 0)
       where
-        go : Dec ((act_process p source role n (postFrom c m)).number ≡ 0) → WentFor q (postFrom c m) (act_process p source role n (postFrom c m))
+        go : Dec ((act_process p source role n (post_from c m)).number ≡ 0) → WentFor q (post_from c m) (act_process p source role n (post_from c m))
         go (yes z) = rw (post_zero z) (posts (post_asked c m z).0 (post_asked c m z).1)
         go (no k) = rw (post_some k) (posts_not _ k)
 
     reposts : (x : ℕ) (packets : List Packet) → ((k : ℕ) → k < length packets → Correct p source (packet_at packets k))
-        → WentFor q (repostFrom c m) (record { number = x; after = network_of n.areas packets })
+        → WentFor q (repost_from c m) (record { number = x; after = network_of n.areas packets })
     unfolding deed_by start_by
     reposts x packets right = record { several = record { each = se.each; right = right }; counted = omega arith }
 
-    went_repost : WentFor q (repostFrom c m) (act_process p source role n (repostFrom c m))
-    went_repost = go (ℕ_discrete (act_process p source role n (repostFrom c m)).number 0)
+    went_repost : WentFor q (repost_from c m) (act_process p source role n (repost_from c m))
+    went_repost = go (ℕ_discrete (act_process p source role n (repost_from c m)).number 0)
       where
-        go : Dec ((act_process p source role n (repostFrom c m)).number ≡ 0) → WentFor q (repostFrom c m) (act_process p source role n (repostFrom c m))
+        go : Dec ((act_process p source role n (repost_from c m)).number ≡ 0) → WentFor q (repost_from c m) (act_process p source role n (repost_from c m))
         go (yes z) = rw (repost_zero z) (reposts 0 _ (more_right c m (repost_asked c m z).0 (let x = (repost_asked c m z).1 in omega arith)))
         go (no k) = rw (repost_some k) (reposts _ n.packets se.right)
 
@@ -327,18 +327,18 @@ module _ (p : Plan) (so : Sound p) (source : List ℕ) (role : Roles) (n : Netwo
     abbrev ws : List ℕ
     ws = (packet_at n.packets k).words
 
-    arrival_zero : (act_process p source role n (arrivalAt c k)).number ≡ 0 → act_process p source role n (arrivalAt c k)
+    arrival_zero : (act_process p source role n (arrival_at c k)).number ≡ 0 → act_process p source role n (arrival_at c k)
         ≡ record { number = 0; after = network_of (replaced n.areas c (received p (n.areas c) m ws)) n.packets }
     unfolding act_process
     arrival_zero z = zero_answer _ _ _ z
 
-    arrival_some : (act_process p source role n (arrivalAt c k)).number ≢ 0
-        → act_process p source role n (arrivalAt c k) ≡ record { number = (act_process p source role n (arrivalAt c k)).number; after = n }
+    arrival_some : (act_process p source role n (arrival_at c k)).number ≢ 0
+        → act_process p source role n (arrival_at c k) ≡ record { number = (act_process p source role n (arrival_at c k)).number; after = n }
     unfolding act_process
     arrival_some z = some_answer _ _ _ z
 
     arrives : k < length n.packets → taker_at p m ≡ role c → status_at n.areas c m ≡ 0
-        → WentFor q (arrivalAt c k) (record { number = 0; after = network_of (replaced n.areas c (received p (n.areas c) m ws)) n.packets })
+        → WentFor q (arrival_at c k) (record { number = 0; after = network_of (replaced n.areas c (received p (n.areas c) m ws)) n.packets })
     unfolding deed_by start_by
     arrives lo t y =
         let x = se.right k lo in
@@ -348,23 +348,23 @@ module _ (p : Plan) (so : Sound p) (source : List ℕ) (role : Roles) (n : Netwo
           counted = let z = moved q c (received p (n.areas c) m ws) 0 (arrival_left c m ws x.low t x.away y) in omega arith;
         }
 
-    arrives_not : (x : ℕ) → x ≢ 0 → WentFor q (arrivalAt c k) (record { number = x; after = n })
+    arrives_not : (x : ℕ) → x ≢ 0 → WentFor q (arrival_at c k) (record { number = x; after = n })
     unfolding deed_by start_by
     arrives_not x z = record { several = se; counted = let y = idle q c x z in omega arith }
 
-    went_arrival : WentFor q (arrivalAt c k) (act_process p source role n (arrivalAt c k))
-    went_arrival = go (ℕ_discrete (act_process p source role n (arrivalAt c k)).number 0)
+    went_arrival : WentFor q (arrival_at c k) (act_process p source role n (arrival_at c k))
+    went_arrival = go (ℕ_discrete (act_process p source role n (arrival_at c k)).number 0)
       where
-        go : Dec ((act_process p source role n (arrivalAt c k)).number ≡ 0) → WentFor q (arrivalAt c k) (act_process p source role n (arrivalAt c k))
+        go : Dec ((act_process p source role n (arrival_at c k)).number ≡ 0) → WentFor q (arrival_at c k) (act_process p source role n (arrival_at c k))
         go (yes z) = let a = arrival_asked c k z in rw (arrival_zero z) (arrives a.0 a.1 a.2)
         go (no x) = rw (arrival_some x) (arrives_not _ x)
 
   went : (q : ℕ) (e : ProcessEvent) → WentFor q e (act_process p source role n e)
   went q (start_of c) = went_start q c
-  went q (turnFrom c) = went_turn q c
-  went q (postFrom c m) = went_post q c m
-  went q (repostFrom c m) = went_repost q c m
-  went q (arrivalAt c k) = went_arrival q c k
+  went q (turn_from c) = went_turn q c
+  went q (post_from c m) = went_post q c m
+  went q (repost_from c m) = went_repost q c m
+  went q (arrival_at c k) = went_arrival q c k
 
 -- ---- any list of events, by calls that answer alike
 module _ (p : Plan) (so : Sound p) (source : List ℕ) (role : Roles) (acts : Network → ProcessEvent → Answered Network)
@@ -378,13 +378,13 @@ module _ (p : Plan) (so : Sound p) (source : List ℕ) (role : Roles) (acts : Ne
   run_several (e ∷ es) n se = run_several es _ (next_several n se e)
 
   run_counted : (q : ℕ) (es : List ProcessEvent) (n : Network) → Several p source role n
-      → deeds_by q es (answers_to acts n es) + leftBy p (role q) ((state_after acts n es).areas q)
-      ≤ leftBy p (role q) (n.areas q) + starts_by q es * work_of p (role q)
+      → deeds_by q es (answers_to acts n es) + left_by p (role q) ((state_after acts n es).areas q)
+      ≤ left_by p (role q) (n.areas q) + starts_by q es * work_of p (role q)
   unfolding state_after answers_to deeds_by starts_by
   run_counted q [] n se = omega arith
   run_counted q (e ∷ es) n se =
       let ih = run_counted q es _ (next_several n se e) in
-      let x : deed_by q e (acts n e).number + leftBy p (role q) ((acts n e).after.areas q) ≤ leftBy p (role q) (n.areas q) + start_by q e * work_of p (role q)
+      let x : deed_by q e (acts n e).number + left_by p (role q) ((acts n e).after.areas q) ≤ left_by p (role q) (n.areas q) + start_by q e * work_of p (role q)
       = rw (same n se e) (went p so source role n se q e).counted in
       let y = add-mul (start_by q e) (starts_by q es) (work_of p (role q)) in
       omega arith
@@ -405,14 +405,14 @@ module _ (p : Plan) (so : Sound p) (source : List ℕ) (role : Roles) (acts : Ne
       abbrev n' : Network
       n' = network_of n.areas (n.packets ++ posted_from p (n.areas c) m)
 
-      gives : (act_process p source role n (repostFrom c m)).number ≡ 0
+      gives : (act_process p source role n (repost_from c m)).number ≡ 0
       gives = repost_allowed p so source role n se c m lo two
 
-      after_is : (acts n (repostFrom c m)).after ≡ n'
-      after_is = after_of (same n se (repostFrom c m)) ∙ after_of (repost_zero p so source role n se 0 c m gives)
+      after_is : (acts n (repost_from c m)).after ≡ n'
+      after_is = after_of (same n se (repost_from c m)) ∙ after_of (repost_zero p so source role n se 0 c m gives)
 
       several_then : Several p source role n'
-      several_then = rw after_is at (next_several n se (repostFrom c m))
+      several_then = rw after_is at (next_several n se (repost_from c m))
 
       packets_are : n'.packets ≡ n.packets ++ (record { message = m; words = place_of p (n.areas c).buffer m } ∷ [])
       packets_are = more_away p so source role n se c m lo (omega arith) away
@@ -423,7 +423,7 @@ module _ (p : Plan) (so : Sound p) (source : List ℕ) (role : Roles) (acts : Ne
       longer : length n.packets < length n'.packets
       longer = rw (packets_are, length-append n.packets (record { message = m; words = place_of p (n.areas c).buffer m } ∷ [])) (omega arith)
 
-      arrives_then : (act_process p source role n' (arrivalAt (who (taker_at p m)) (length n.packets))).number ≡ 0
+      arrives_then : (act_process p source role n' (arrival_at (who (taker_at p m)) (length n.packets))).number ≡ 0
       arrives_then =
           arrival_allowed p so source role n' several_then (who (taker_at p m)) (length n.packets) longer
           (ap (taker_at p) message_is ∙ sym (chooses (taker_at p m) (taker_at_lem p so m lo)))
@@ -431,16 +431,16 @@ module _ (p : Plan) (so : Sound p) (source : List ℕ) (role : Roles) (acts : Ne
 
       resent : GoesFor acts n p who
       resent =
-          GoesFor.resends m lo (number_is (repostFrom c m) ∙ gives)
-          (rw after_is (number_of (same n' several_then (arrivalAt (who (taker_at p m)) (length n.packets))) ∙ arrives_then))
+          GoesFor.resends m lo (number_is (repost_from c m) ∙ gives)
+          (rw after_is (number_of (same n' several_then (arrival_at (who (taker_at p m)) (length n.packets))) ∙ arrives_then))
 
     by_way : Way p source (areas_of n who) → GoesFor acts n p who
     unfolding act_process
     by_way (Way.turns b low left z) =
         GoesFor.turns b low
-        (number_is (turnFrom (who b)) ∙ ap (λ (x : ℕ). (turn p source (n.areas (who b)) x).number) (chooses b low) ∙ z)
+        (number_is (turn_from (who b)) ∙ ap (λ (x : ℕ). (turn p source (n.areas (who b)) x).number) (chooses b low) ∙ z)
     by_way (Way.posts m lo y) =
-        GoesFor.posts m lo (number_is (postFrom (who (sender_at p m)) m) ∙ post_allowed p so source role n se (who (sender_at p m)) m lo y)
+        GoesFor.posts m lo (number_is (post_from (who (sender_at p m)) m) ∙ post_allowed p so source role n se (who (sender_at p m)) m lo y)
     by_way (Way.waits m lo away two none) = resent m lo away two none
 
   module _ (start : Network) (begins : Several p source role start) (events : List ProcessEvent) where
@@ -453,7 +453,7 @@ module _ (p : Plan) (so : Sound p) (source : List ℕ) (role : Roles) (acts : Ne
     few : (q : ℕ) (then : List ProcessEvent) → deeds_by q then (answers acts N then) ≤ work_of p (role q) + starts_by q then * work_of p (role q)
     few q then =
         let x = run_counted q then N se in
-        let y = left_by p (role q) ((state_after acts N then).areas q) (N.areas q) in
+        let y = left_by_lem p (role q) ((state_after acts N then).areas q) (N.areas q) in
         omega arith
 
     pub by_processes : ByProcesses acts start events p source role
@@ -462,7 +462,7 @@ module _ (p : Plan) (so : Sound p) (source : List ℕ) (role : Roles) (acts : Ne
         record {
           starts = λ q. same N se (start_of q);
           refused = λ e k. after_of (same N se e) ∙ stays p so source role N se e (λ z. k (number_of (same N se e) ∙ z));
-          turned_away = λ q k h t y. number_of (same N se (arrivalAt q k)) ∙ arrival_away p so source role N se q k h t y;
+          turned_away = λ q k h t y. number_of (same N se (arrival_at q k)) ∙ arrival_away p so source role N se q k h t y;
           goes = λ k h. ((se.right k h).low, (se.right k h).away);
           carries = λ k h. (se.right k h).words;
           same_words = λ i k h l e. (se.right i h).words ∙ ap (λ (m : ℕ). map (swept p source) (held_by p m)) e ∙ sym (se.right k l).words;

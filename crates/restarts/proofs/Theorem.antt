@@ -22,14 +22,14 @@ use Rattle.machine.proofs.Progress.{prog, prog_is, prog_before, prog_now, work, 
 use Rattle.machine.proofs.Kept.{swept}
 use Rattle.machine.proofs.RunLaws.{number_of, after_of}
 use Rattle.network.specs.Apart.{AreasApart, sender_at, taker_at, assembled, joined, collect_apart}
-use Rattle.network.specs.Packets.{Packet, Network, network_of, packet_at, status_at, NetworkEvent, turn_by, post_of, arrivalOf, posted, turn_network}
+use Rattle.network.specs.Packets.{Packet, Network, network_of, packet_at, status_at, NetworkEvent, turn_by, post_of, arrival_of, posted, turn_network}
 use Rattle.network.specs.Packets.{act_network, start_network, mailed}
 use Rattle.network.proofs.Together.{turn_here}
 use Rattle.network.proofs.Network.{post_gives, arrive_gives, arrive_away}
-use Rattle.restarts.specs.Restarts.{LifeEvent, plain, repostOf, restartOf, act_lives, deeds_of, redone_of, Gathered, Calculated, Finished, GoesWithout}
+use Rattle.restarts.specs.Restarts.{LifeEvent, plain, repost_of, restart_of, act_lives, deeds_of, redone_of, Gathered, Calculated, Finished, GoesWithout}
 use Rattle.restarts.specs.Restarts.{lived, ByLives, MachineByLives, AsPackets}
 use Rattle.restarts.proofs.Life.{Life}
-use Rattle.restarts.proofs.Measure.{leftHere, left_most}
+use Rattle.restarts.proofs.Measure.{left_here, left_most}
 use Rattle.restarts.proofs.Lives.{Alive, plain_went, repost_gives, repost_zero, restart_gives, restart_zero, after_away, start_alive, next_alive}
 use Rattle.restarts.proofs.Lives.{lives_stay, run_alive, run_counted}
 use Rattle.restarts.proofs.Ways.{Way, way}
@@ -134,15 +134,15 @@ module _ (p : Plan) (so : Sound p) (source : List ℕ) (n : Network) (al : Alive
   goes_on (Way.posts m lo y) = (post_of m, post_number m lo y)
   goes_on (Way.waits m lo away two none) =
       let h = al.has m lo away two in
-      (arrivalOf h.at, arrive_gives p n h.at h.low (ap (λ (k : ℕ). status_at n.areas (taker_at p k) k) h.is ∙ none))
+      (arrival_of h.at, arrive_gives p n h.at h.low (ap (λ (k : ℕ). status_at n.areas (taker_at p k) k) h.is ∙ none))
 
   -- the new packet of a message posted again is taken in
   module _ (m : ℕ) (lo : m < count p) (away : sender_at p m ≢ taker_at p m) (two : 2 ≤ status_at n.areas (sender_at p m) m) where
-    again_zero : (act_lives p source n (repostOf m)).number ≡ 0
+    again_zero : (act_lives p source n (repost_of m)).number ≡ 0
     unfolding act_lives
     again_zero = repost_gives p so source n al m lo two
 
-    pub again_after : (act_lives p source n (repostOf m)).after ≡ network_of n.areas (n.packets ++ posted p n.areas m)
+    pub again_after : (act_lives p source n (repost_of m)).after ≡ network_of n.areas (n.packets ++ posted p n.areas m)
     unfolding act_lives
     again_after = after_of (repost_zero p so source n al m (repost_gives p so source n al m lo two))
 
@@ -159,7 +159,7 @@ module _ (p : Plan) (so : Sound p) (source : List ℕ) (n : Network) (al : Alive
     more_length = rw more_is (length-append n.packets (record { message = m; words = place_of p (n.areas (sender_at p m)).buffer m } ∷ []))
 
     new_arrives : status_at n.areas (taker_at p m) m ≡ 0
-        → (act_lives p source (network_of n.areas more) (plain (arrivalOf (length n.packets)))).number ≡ 0
+        → (act_lives p source (network_of n.areas more) (plain (arrival_of (length n.packets)))).number ≡ 0
     unfolding act_lives act_network
     new_arrives none =
         arrive_gives p (network_of n.areas more) (length n.packets) (omega (arith, more_length))
@@ -179,20 +179,20 @@ module _ (p : Plan) (so : Sound p) (source : List ℕ) (acts : Network → LifeE
     without (Way.turns b low left z) = GoesWithout.turns b (number_is (plain (turn_by b)) ∙ turn_number p so source n al b low ∙ z)
     without (Way.posts m lo y) = GoesWithout.posts m (number_is (plain (post_of m)) ∙ post_number p so source n al m lo y)
     without (Way.waits m lo away two none) =
-        GoesWithout.resends m (number_is (repostOf m) ∙ again_zero p so source n al m lo away two)
-        (rw e (number_of (same (network_of n.areas (n.packets ++ posted p n.areas m)) (rw e at next) (plain (arrivalOf (length n.packets))))
+        GoesWithout.resends m (number_is (repost_of m) ∙ again_zero p so source n al m lo away two)
+        (rw e (number_of (same (network_of n.areas (n.packets ++ posted p n.areas m)) (rw e at next) (plain (arrival_of (length n.packets))))
         ∙ new_arrives p so source n al m lo away two none))
       where
-        e : (acts n (repostOf m)).after ≡ network_of n.areas (n.packets ++ posted p n.areas m)
-        e = after_of (same n al (repostOf m)) ∙ again_after p so source n al m lo away two
+        e : (acts n (repost_of m)).after ≡ network_of n.areas (n.packets ++ posted p n.areas m)
+        e = after_of (same n al (repost_of m)) ∙ again_after p so source n al m lo away two
 
-        next : Alive p source (acts n (repostOf m)).after
-        next = next_alive p so source acts same n al (repostOf m)
+        next : Alive p source (acts n (repost_of m)).after
+        next = next_alive p so source acts same n al (repost_of m)
 
-    pub less : (e : NetworkEvent) → (acts n (plain e)).number ≡ 0 → suc (leftHere p (acts n (plain e)).after.areas) ≡ leftHere p n.areas
+    pub less : (e : NetworkEvent) → (acts n (plain e)).number ≡ 0 → suc (left_here p (acts n (plain e)).after.areas) ≡ left_here p n.areas
     unfolding act_lives
     less e z =
-        let x : one (eqb (acts n (plain e)).number 0) + leftHere p (acts n (plain e)).after.areas ≡ leftHere p n.areas
+        let x : one (eqb (acts n (plain e)).number 0) + left_here p (acts n (plain e)).after.areas ≡ left_here p n.areas
         = rw (same n al (plain e)) (plain_went p so source n al e).counted in
         let y = one_true (eq-eqb (acts n (plain e)).number 0 z) in
         omega arith
@@ -200,7 +200,7 @@ module _ (p : Plan) (so : Sound p) (source : List ℕ) (acts : Network → LifeE
   Ends : ℕ → Network → Type 0
   Ends k n = (es : List NetworkEvent) × ((length es ≤ k) × Finished p (state_after acts n (map plain es)).areas)
 
-  finish : (k : ℕ) (n : Network) → Alive p source n → leftHere p n.areas ≤ k → Ends k n
+  finish : (k : ℕ) (n : Network) → Alive p source n → left_here p n.areas ≤ k → Ends k n
   unfolding Ends state_after
   finish zero n al h = go (some (λ b. tiles_left p (n.areas b) b) p.processors) refl
     where
@@ -213,7 +213,7 @@ module _ (p : Plan) (so : Sound p) (source : List ℕ) (acts : Network → LifeE
   finish (suc k) n al h = go (some (λ b. tiles_left p (n.areas b) b) p.processors) refl (finish k)
     where
       go : (t : Bool) → some (λ b. tiles_left p (n.areas b) b) p.processors ≡ t
-          → ((n' : Network) → Alive p source n' → leftHere p n'.areas ≤ k → Ends k n') → Ends (suc k) n
+          → ((n' : Network) → Alive p source n' → left_here p n'.areas ≤ k → Ends k n') → Ends (suc k) n
       go false e ih = ([], (omega arith, none_some (λ b. tiles_left p (n.areas b) b) p.processors e))
       go true e ih =
           let r = some_at (λ b. tiles_left p (n.areas b) b) p.processors e in
@@ -240,10 +240,10 @@ module _ (p : Plan) (so : Sound p) (source : List ℕ) (acts : Network → LifeE
     unfolding Ends act_lives act_network
     by_lives collects like =
         record {
-          restarts = λ b low. same N al (restartOf b) ∙ restart_zero p so source N al b (restart_gives p so source N al b low);
-          reposts = λ m lo h. same N al (repostOf m) ∙ repost_zero p so source N al m (repost_gives p so source N al m lo h);
+          restarts = λ b low. same N al (restart_of b) ∙ restart_zero p so source N al b (restart_gives p so source N al b low);
+          reposts = λ m lo h. same N al (repost_of m) ∙ repost_zero p so source N al m (repost_gives p so source N al m lo h);
           refused = λ e k. after_of (same N al e) ∙ lives_stay p source N e (λ z. k (number_of (same N al e) ∙ z));
-          turned_away = λ k h q. number_of (same N al (plain (arrivalOf k))) ∙ arrive_away p N k h q;
+          turned_away = λ k h q. number_of (same N al (plain (arrival_of k))) ∙ arrive_away p N k h q;
           goes = λ k h. ((al.right k h).low, (al.right k h).away);
           carries = λ k h. (al.right k h).words;
           same_words = λ i k h l e. (al.right i h).words ∙ ap (λ (m : ℕ). map (swept p source) (held_by p m)) e ∙ sym (al.right k l).words;

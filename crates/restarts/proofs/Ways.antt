@@ -18,13 +18,13 @@ use Rattle.machine.proofs.Least.{AllDone, Least, least, here_less, reach, is_t}
 use Rattle.network.specs.Apart.{AreasApart, sender_at, taker_at}
 use Rattle.network.specs.Packets.{status_at}
 use Rattle.restarts.proofs.Life.{Life, life_fit}
-use Rattle.restarts.proofs.Measure.{sender_at_lem, progHere, statusHere}
+use Rattle.restarts.proofs.Measure.{sender_at_lem, prog_here, status_here}
 
 -- what can be done: a turn, a post, or a message that its sender has posted since its last start and its taker has not received
 pub data Way (p : Plan) (source : List ℕ) (a : AreasApart) : Type 0 where
   turns : (b : ℕ) → b < p.processors → tiles_left p (a b) b ≡ true → (turn p source (a b) b).number ≡ 0 → Way p source a
-  posts : (m : ℕ) → m < count p → statusHere p a m ≡ 1 → Way p source a
-  waits : (m : ℕ) → m < count p → sender_at p m ≢ taker_at p m → 2 ≤ statusHere p a m → status_at a (taker_at p m) m ≡ 0
+  posts : (m : ℕ) → m < count p → status_here p a m ≡ 1 → Way p source a
+  waits : (m : ℕ) → m < count p → sender_at p m ≢ taker_at p m → 2 ≤ status_here p a m → status_at a (taker_at p m) m ≡ 0
       → Way p source a
 
 module _ (p : Plan) (so : Sound p) (source : List ℕ) (a : AreasApart) (each : (b : ℕ) → b < p.processors → Life p source b (a b)) where
@@ -32,7 +32,7 @@ module _ (p : Plan) (so : Sound p) (source : List ℕ) (a : AreasApart) (each : 
   shape_at b low = (each b low).held.shape
 
   -- the least tile that is not done
-  module _ (t : ℕ) (low : t < p.tiles) (less : progHere p a t < full p t) (earlier : AllDone p a t) where
+  module _ (t : ℕ) (low : t < p.tiles) (less : prog_here p a t < full p t) (earlier : AllDone p a t) where
     abbrev b : ℕ
     b = p.processor_of t
 
@@ -56,7 +56,7 @@ module _ (p : Plan) (so : Sound p) (source : List ℕ) (a : AreasApart) (each : 
       at_b : taker_at p m ≡ b
       at_b = ap p.processor_of to
 
-      sent : 1 ≤ statusHere p a m
+      sent : 1 ≤ status_here p a m
       sent =
           (each (sender_at p m) (sender_at_lem p so m lo)).held.statuses.sent_status m lo
           (omega (arith, those_lt (sender_of p) (sender_of p m) (count p) m lo refl, earlier (sender_of p m) (omega (arith, so.forward m lo))))
@@ -64,10 +64,10 @@ module _ (p : Plan) (so : Sound p) (source : List ℕ) (a : AreasApart) (each : 
       not_three : status_of s m ≢ 3
       not_three e = let x : 1 ≤ prog p s t = rw to at (li.held.statuses.taken_begun m lo e) in omega arith
 
-      awaits : Dec (sender_at p m ≡ taker_at p m) → Dec (statusHere p a m ≡ 1) → Way p source a
+      awaits : Dec (sender_at p m ≡ taker_at p m) → Dec (status_here p a m ≡ 1) → Way p source a
       awaits d (yes y) = Way.posts m lo y
       awaits (yes e) (no k) =
-          let x : statusHere p a m ≡ status_of s m = ap (λ (c : ℕ). status_at a c m) (e ∙ at_b) in
+          let x : status_here p a m ≡ status_of s m = ap (λ (c : ℕ). status_at a c m) (e ∙ at_b) in
           absurd (k (omega (arith, sent, not-two, not_three, li.held.statuses.high m lo)))
       awaits (no q) (no k) =
           let x : status_at a (taker_at p m) m ≡ status_of s m = ap (λ (c : ℕ). status_at a c m) at_b in
@@ -103,7 +103,7 @@ module _ (p : Plan) (so : Sound p) (source : List ℕ) (a : AreasApart) (each : 
       go : AllDone p a p.tiles ⊎ Least p a p.tiles → Way p source a
       go (inl f) =
           let u : ℕ = current_tile p (a b) b in
-          let x : progHere p a u ≡ prog p (a b) u = ap (λ (c : ℕ). prog p (a c) u) (here_is p (a b) b h) in
+          let x : prog_here p a u ≡ prog p (a b) u = ap (λ (c : ℕ). prog p (a c) u) (here_is p (a b) b h) in
           let y = f u (here_low p (a b) b h) in
           absurd (omega (arith, here_less p a shape_at b low h))
       go (inr r) = way_least r.0 r.1 r.2 r.3

@@ -6,8 +6,8 @@ use Rattle.std.specs.Prelude.{ℕ, zero, suc, ◌≤◌, ◌<◌, ◌≡◌, ◌
 use Rattle.machine.specs.Plan.{Plan, count}
 use Rattle.machine.specs.Machine.{Answered, tiles_left, sweep}
 use Rattle.network.specs.Apart.{sender_at, taker_at, collect_apart}
-use Rattle.network.specs.Packets.{Network, packet_at, status_at, turn_by, post_of, arrivalOf, start_network}
-use Rattle.restarts.specs.Restarts.{LifeEvent, plain, repostOf, restartOf, act_lives, Finished, lived}
+use Rattle.network.specs.Packets.{Network, packet_at, status_at, turn_by, post_of, arrival_of, start_network}
+use Rattle.restarts.specs.Restarts.{LifeEvent, plain, repost_of, restart_of, act_lives, Finished, lived}
 
 -- events without an end, and the first n of them
 abbrev pub Endless : Type 0
@@ -19,8 +19,8 @@ firsts es (suc n) = firsts es n ++ (es n ∷ [])
 
 unfoldable pub new_start : LifeEvent → Bool
 new_start (plain e) = false
-new_start (repostOf m) = false
-new_start (restartOf b) = true
+new_start (repost_of m) = false
+new_start (restart_of b) = true
 
 -- at time n or later
 abbrev pub Later : ℕ → (ℕ → Type 0) → Type 0
@@ -40,7 +40,7 @@ module _ (acts : Network → LifeEvent → Answered Network) (start : Network) (
     pub packet : ℕ
     pub low : packet < length (when k).packets
     pub is : (packet_at (when k).packets packet).message ≡ m
-    pub event : es k ≡ plain (arrivalOf packet)
+    pub event : es k ≡ plain (arrival_of packet)
 
   -- what the processors do
   pub record Tries (p : Plan) : Type 0 where
@@ -62,10 +62,10 @@ module _ (acts : Network → LifeEvent → Answered Network) (start : Network) (
   pub record FairLoss (p : Plan) : Type 0 where
     pub tries : Tries p
     -- each message that goes to another processor is asked for again and again, and its sender then tries to post it again
-    pub asked : (m n : ℕ) → m < count p → sender_at p m ≢ taker_at p m → Later n (λ k. es k ≡ repostOf m)
+    pub asked : (m n : ℕ) → m < count p → sender_at p m ≢ taker_at p m → Later n (λ k. es k ≡ repost_of m)
     -- of a message that is posted again and again, packets arrive again and again: as many are lost as may be, but not all
     pub not_all_lost : (m : ℕ) → m < count p → sender_at p m ≢ taker_at p m
-        → ((n : ℕ) → Later n (λ k. (es k ≡ repostOf m) × ((acts (when k) (repostOf m)).number ≡ 0)))
+        → ((n : ℕ) → Later n (λ k. (es k ≡ repost_of m) × ((acts (when k) (repost_of m)).number ≡ 0)))
         → (n : ℕ) → Later n (Arrives m)
 
   -- ---- the claim

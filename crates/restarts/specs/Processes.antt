@@ -19,8 +19,8 @@ Roles = ℕ → ℕ
 
 -- a process starts with nothing; makes a turn; posts a message, posts it again; is given the k-th packet
 pub data ProcessEvent : Type 0 where
-  start_of turnFrom : ℕ → ProcessEvent
-  postFrom repostFrom arrivalAt : ℕ → ℕ → ProcessEvent
+  start_of turn_from : ℕ → ProcessEvent
+  post_from repost_from arrival_at : ℕ → ℕ → ProcessEvent
 
 -- what is posted of message m by one whose areas are s
 unfoldable pub posted_from : Plan → State → ℕ → List Packet
@@ -43,16 +43,16 @@ repost_by p n q m = answered (first_of (repost_from_lines p n q m)) (network_of 
 
 unfoldable pub act_process : Plan → List ℕ → Roles → Network → ProcessEvent → Answered Network
 act_process p source role n (start_of q) = record { number = 0; after = network_of (replaced n.areas q (fresh p)) n.packets }
-act_process p source role n (turnFrom q) =
+act_process p source role n (turn_from q) =
     record {
       number = (turn p source (n.areas q) (role q)).number;
       after = network_of (replaced n.areas q (turn p source (n.areas q) (role q)).after) n.packets;
     }
-act_process p source role n (postFrom q m) =
+act_process p source role n (post_from q m) =
     answered (first_of (post_from_lines p n q m))
     (network_of (replaced n.areas q (marked (n.areas q) m)) (n.packets ++ posted_from p (n.areas q) m)) n
-act_process p source role n (repostFrom q m) = repost_by p n q m
-act_process p source role n (arrivalAt q k) =
+act_process p source role n (repost_from q m) = repost_by p n q m
+act_process p source role n (arrival_at q k) =
     answered (first_of (arrival_at_lines p role n q k))
     (network_of (replaced n.areas q (received p (n.areas q) (packet_at n.packets k).message (packet_at n.packets k).words)) n.packets) n
 
@@ -61,10 +61,10 @@ act_process p source role n (arrivalAt q k) =
 -- a turn or a post by process q, or an arrival at it, that gave 0
 unfoldable pub deed_by : ℕ → ProcessEvent → ℕ → ℕ
 deed_by q (start_of c) x = 0
-deed_by q (turnFrom c) x = one (eqb c q and eqb x 0)
-deed_by q (postFrom c m) x = one (eqb c q and eqb x 0)
-deed_by q (repostFrom c m) x = 0
-deed_by q (arrivalAt c k) x = one (eqb c q and eqb x 0)
+deed_by q (turn_from c) x = one (eqb c q and eqb x 0)
+deed_by q (post_from c m) x = one (eqb c q and eqb x 0)
+deed_by q (repost_from c m) x = 0
+deed_by q (arrival_at c k) x = one (eqb c q and eqb x 0)
 
 unfoldable pub deeds_by : ℕ → List ProcessEvent → List ℕ → ℕ
 deeds_by q [] xs = 0
@@ -74,10 +74,10 @@ deeds_by q (e ∷ es) (x ∷ xs) = deed_by q e x + deeds_by q es xs
 -- the starts of process q
 unfoldable pub start_by : ℕ → ProcessEvent → ℕ
 start_by q (start_of c) = one (eqb c q)
-start_by q (turnFrom c) = 0
-start_by q (postFrom c m) = 0
-start_by q (repostFrom c m) = 0
-start_by q (arrivalAt c k) = 0
+start_by q (turn_from c) = 0
+start_by q (post_from c m) = 0
+start_by q (repost_from c m) = 0
+start_by q (arrival_at c k) = 0
 
 unfoldable pub starts_by : ℕ → List ProcessEvent → ℕ
 starts_by q [] = 0
@@ -95,10 +95,10 @@ areas_of n who b = n.areas (who b)
 
 -- one of these can make a turn or post, or posts again what another of them then takes in
 pub data GoesFor (acts : Network → ProcessEvent → Answered Network) (n : Network) (p : Plan) (who : ℕ → ℕ) : Type 0 where
-  turns : (b : ℕ) → b < p.processors → (acts n (turnFrom (who b))).number ≡ 0 → GoesFor acts n p who
-  posts : (m : ℕ) → m < count p → (acts n (postFrom (who (sender_at p m)) m)).number ≡ 0 → GoesFor acts n p who
-  resends : (m : ℕ) → m < count p → (acts n (repostFrom (who (sender_at p m)) m)).number ≡ 0
-      → (acts (acts n (repostFrom (who (sender_at p m)) m)).after (arrivalAt (who (taker_at p m)) (length n.packets))).number ≡ 0
+  turns : (b : ℕ) → b < p.processors → (acts n (turn_from (who b))).number ≡ 0 → GoesFor acts n p who
+  posts : (m : ℕ) → m < count p → (acts n (post_from (who (sender_at p m)) m)).number ≡ 0 → GoesFor acts n p who
+  resends : (m : ℕ) → m < count p → (acts n (repost_from (who (sender_at p m)) m)).number ≡ 0
+      → (acts (acts n (repost_from (who (sender_at p m)) m)).after (arrival_at (who (taker_at p m)) (length n.packets))).number ≡ 0
       → GoesFor acts n p who
 
 module _ (acts : Network → ProcessEvent → Answered Network) (start : Network) (events : List ProcessEvent) where
@@ -112,7 +112,7 @@ module _ (acts : Network → ProcessEvent → Answered Network) (start : Network
     pub refused : (e : ProcessEvent) → (acts now e).number ≢ 0 → (acts now e).after ≡ now
     -- and a packet that comes to a process of its taker where its message's status isn't 0, by whichever process it was posted, is refused
     pub turned_away : (q k : ℕ) → k < length now.packets → taker_at p (packet_at now.packets k).message ≡ role q
-        → status_at now.areas q (packet_at now.packets k).message ≢ 0 → (acts now (arrivalAt q k)).number ≡ 14
+        → status_at now.areas q (packet_at now.packets k).message ≢ 0 → (acts now (arrival_at q k)).number ≡ 14
     -- every packet ever posted, by whichever process, goes from one processor to another and has the sweep's words of its message's cells
     pub goes : (k : ℕ) → k < length now.packets
         → ((packet_at now.packets k).message < count p)

@@ -11,7 +11,7 @@ use Rattle.machine.specs.Plan.{Plan, count, taker_of, held_by, tiles_of}
 use Rattle.machine.specs.Machine.{State, finished_of, stage_of, memory_of, place_of, tiles_left, Answered, answered, collect, fresh, sweep}
 use Rattle.machine.specs.Runs.{total, program, last, answers}
 use Rattle.network.specs.Apart.{AreasApart, replaced, sender_at, taker_at, joined, collect_apart}
-use Rattle.network.specs.Packets.{Network, network_of, packet_at, status_at, NetworkEvent, turn_by, post_of, arrivalOf, posted, act_network, start_network}
+use Rattle.network.specs.Packets.{Network, network_of, packet_at, status_at, NetworkEvent, turn_by, post_of, arrival_of, posted, act_network, start_network}
 use Rattle.network.specs.Packets.{last_network, mailed}
 
 -- ---- the system: that of Packets, and two events more
@@ -19,7 +19,7 @@ use Rattle.network.specs.Packets.{last_network, mailed}
 -- a turn, a post or an arrival as there; the posting again of a message; the crash and new start of a processor
 pub data LifeEvent : Type 0 where
   plain : NetworkEvent → LifeEvent
-  repostOf restartOf : ℕ → LifeEvent
+  repost_of restart_of : ℕ → LifeEvent
 
 -- a message is posted again where its sender has posted it since its last start: what lies in its place there, once more; nothing is marked
 abbrev pub repost_lines : Plan → Network → ℕ → List Line
@@ -37,8 +37,8 @@ restart p n b = answered (first_of (restart_lines p b)) (network_of (replaced n.
 
 unfoldable pub act_lives : Plan → List ℕ → Network → LifeEvent → Answered Network
 act_lives p source n (plain e) = act_network p source n e
-act_lives p source n (repostOf m) = repost p n m
-act_lives p source n (restartOf b) = restart p n b
+act_lives p source n (repost_of m) = repost p n m
+act_lives p source n (restart_of b) = restart p n b
 
 -- ---- what is counted, of events and their answers
 
@@ -47,8 +47,8 @@ unfoldable pub deeds_of : List LifeEvent → List ℕ → ℕ
 deeds_of [] xs = 0
 deeds_of (e ∷ es) [] = 0
 deeds_of (plain e ∷ es) (x ∷ xs) = one (eqb x 0) + deeds_of es xs
-deeds_of (repostOf m ∷ es) (x ∷ xs) = deeds_of es xs
-deeds_of (restartOf b ∷ es) (x ∷ xs) = deeds_of es xs
+deeds_of (repost_of m ∷ es) (x ∷ xs) = deeds_of es xs
+deeds_of (restart_of b ∷ es) (x ∷ xs) = deeds_of es xs
 
 -- what processor b has to do from a fresh start: its turns, its posts, and the arrivals of the others' messages to it
 unfoldable pub work_of : Plan → ℕ → ℕ
@@ -61,8 +61,8 @@ unfoldable pub redone_of : Plan → List LifeEvent → List ℕ → ℕ
 redone_of p [] xs = 0
 redone_of p (e ∷ es) [] = 0
 redone_of p (plain e ∷ es) (x ∷ xs) = redone_of p es xs
-redone_of p (repostOf m ∷ es) (x ∷ xs) = redone_of p es xs
-redone_of p (restartOf b ∷ es) (x ∷ xs) = pick (eqb x 0) (work_of p b) 0 + redone_of p es xs
+redone_of p (repost_of m ∷ es) (x ∷ xs) = redone_of p es xs
+redone_of p (restart_of b ∷ es) (x ∷ xs) = pick (eqb x 0) (work_of p b) 0 + redone_of p es xs
 
 -- ---- what a record tells, since the processor's last start
 
@@ -83,7 +83,7 @@ Finished p areas = (b : ℕ) → b < p.processors → tiles_left p (areas b) b �
 pub data GoesWithout (acts : Network → LifeEvent → Answered Network) (n : Network) : Type 0 where
   turns : (b : ℕ) → (acts n (plain (turn_by b))).number ≡ 0 → GoesWithout acts n
   posts : (m : ℕ) → (acts n (plain (post_of m))).number ≡ 0 → GoesWithout acts n
-  resends : (m : ℕ) → (acts n (repostOf m)).number ≡ 0 → (acts (acts n (repostOf m)).after (plain (arrivalOf (length n.packets)))).number ≡ 0
+  resends : (m : ℕ) → (acts n (repost_of m)).number ≡ 0 → (acts (acts n (repost_of m)).after (plain (arrival_of (length n.packets)))).number ≡ 0
       → GoesWithout acts n
 
 module _ (acts : Network → LifeEvent → Answered Network) (start : Network) (events : List LifeEvent) where
@@ -93,16 +93,16 @@ module _ (acts : Network → LifeEvent → Answered Network) (start : Network) (
   pub record ByLives (p : Plan) (source : List ℕ) (collects : State → List ℕ → Answered (List ℕ)) : Type 0 where
     -- a processor can start again at any time: it has nothing then, and nothing else is changed
     pub restarts : (b : ℕ) → b < p.processors
-        → acts lived (restartOf b) ≡ record { number = 0; after = network_of (replaced lived.areas b (fresh p)) lived.packets }
+        → acts lived (restart_of b) ≡ record { number = 0; after = network_of (replaced lived.areas b (fresh p)) lived.packets }
     -- a message that its sender has posted since its last start can be posted again at any time, as often as one likes
     pub reposts : (m : ℕ) → m < count p → 2 ≤ status_at lived.areas (sender_at p m) m
-        → acts lived (repostOf m) ≡ record { number = 0; after = network_of lived.areas (lived.packets ++ posted p lived.areas m) }
+        → acts lived (repost_of m) ≡ record { number = 0; after = network_of lived.areas (lived.packets ++ posted p lived.areas m) }
     -- an event that is refused changes nothing
     pub refused : (e : LifeEvent) → (acts lived e).number ≢ 0 → (acts lived e).after ≡ lived
     -- and a packet that comes where its message's status isn't 0, in whatever life it was posted, is refused
     pub turned_away : (k : ℕ) → k < length lived.packets
         → status_at lived.areas (taker_at p (packet_at lived.packets k).message) (packet_at lived.packets k).message ≢ 0
-        → (acts lived (plain (arrivalOf k))).number ≡ 14
+        → (acts lived (plain (arrival_of k))).number ≡ 14
     -- every packet ever posted, in whatever life, goes from one processor to another and has the sweep's words of its message's cells
     pub goes : (k : ℕ) → k < length lived.packets
         → ((packet_at lived.packets k).message < count p)

@@ -16,12 +16,12 @@ use Rattle.base.proofs.Select.{at_is}
 use Rattle.machine.specs.Plan.{Plan, Sound, count, sender_of, tiles_of, sends_of, dues_of}
 use Rattle.machine.specs.Machine.{State, state_of, finished_of, stage_of, sent_of, set_progress, tiles_left, current_tile, Action, gather, calculate, send}
 use Rattle.machine.specs.Machine.{after_sends, carry_out, next_action, deliver, fresh}
-use Rattle.machine.specs.Runs.{Event, turn_of, deliveryOf, act, state_after}
+use Rattle.machine.specs.Runs.{Event, turn_of, delivery_of, act, state_after}
 use Rattle.machine.proofs.Records.{record_length, finished_same, stage_same, sent_same}
 use Rattle.machine.proofs.Turns.{next_zero, next_one, next_two, by_next}
 use Rattle.machine.proofs.Kept.{Inv}
 use Rattle.machine.proofs.RunLaws.{after_append}
-use Rattle.rounds.specs.Rounds.{couldGather, wholeTile, tilesBy, mailIn, roundBy, roundFrom, roundsFrom, rounds, afterRounds}
+use Rattle.rounds.specs.Rounds.{could_gather, whole_tile, tiles_by, mail_in, round_by, round_from, rounds_from, rounds, after_rounds}
 use Rattle.rounds.specs.ByState.{sent_to, calculated_tile, tile_done, may_gather, after_tile, after_tiles, delivered, with_mail, after_round, PlanAreas, Sending}
 use Rattle.rounds.proofs.WholeTile.{Clean, whole}
 use Rattle.rounds.proofs.OneRound.{Still, Ready, could_ready, ready_could, Mid, tiles_run}
@@ -133,7 +133,7 @@ module _ (p : Plan) (source : List ℕ) (b : ℕ) where
 module _ (p : Plan) (so : Sound p) (source : List ℕ) where
   -- ---- a whole tile
   tile_is : (s : State) (b : ℕ) → Still p so source s → b < p.processors → Ready p so source s b
-      → state_after (act p source) s (wholeTile (act p source) p s b) ≡ tile_done p source s b (current_tile p s b)
+      → state_after (act p source) s (whole_tile (act p source) p s b) ≡ tile_done p source s b (current_tile p s b)
   tile_is s b still low ready =
       let t = current_tile p s b in
       let n = length (sends_of p t) in
@@ -143,7 +143,7 @@ module _ (p : Plan) (so : Sound p) (source : List ℕ) where
       ∙ ap (λ (k : ℕ). carried p source b k s) e
       ∙ tile_carried p source b low t (finished_of s b) refl s still.inv.shape.progress refl (still.stage b low)
 
-  could_is : (s : State) (b : ℕ) → Still p so source s → b < p.processors → couldGather (act p source) p s b ≡ may_gather p s b
+  could_is : (s : State) (b : ℕ) → Still p so source s → b < p.processors → could_gather (act p source) p s b ≡ may_gather p s b
   unfolding may_gather tiles_left
   could_is s b still low =
       same_test
@@ -157,27 +157,27 @@ module _ (p : Plan) (so : Sound p) (source : List ℕ) where
       }))
 
   one_tile : (s : State) (b : ℕ) → Still p so source s → b < p.processors
-      → state_after (act p source) s (pick (couldGather (act p source) p s b) (wholeTile (act p source) p s b) []) ≡ after_tile p source s b
+      → state_after (act p source) s (pick (could_gather (act p source) p s b) (whole_tile (act p source) p s b) []) ≡ after_tile p source s b
   unfolding after_tile pick state_after
-  one_tile s b still low = rw (sym (could_is s b still low)) (go (couldGather (act p source) p s b) refl)
+  one_tile s b still low = rw (sym (could_is s b still low)) (go (could_gather (act p source) p s b) refl)
     where
-      go : (t : Bool) → couldGather (act p source) p s b ≡ t
-          → state_after (act p source) s (pick t (wholeTile (act p source) p s b) []) ≡ pick t (tile_done p source s b (current_tile p s b)) s
+      go : (t : Bool) → could_gather (act p source) p s b ≡ t
+          → state_after (act p source) s (pick t (whole_tile (act p source) p s b) []) ≡ pick t (tile_done p source s b (current_tile p s b)) s
       go true e = tile_is s b still low (could_ready p so source s b e)
       go false e = refl
 
   module _ (s : State) (start : Still p so source s) where
     mid : (n : ℕ) → n ≤ p.processors
-        → Mid p so source (couldGather (act p source) p s) s (state_after (act p source) s (tiles_as_it_goes (act p source) p s n)) n
-    mid n h = rw (as_it_goes p so source s start n h) (tiles_run p so source (couldGather (act p source) p s) s start (λ c e. e) n h).1
+        → Mid p so source (could_gather (act p source) p s) s (state_after (act p source) s (tiles_as_it_goes (act p source) p s n)) n
+    mid n h = rw (as_it_goes p so source s start n h) (tiles_run p so source (could_gather (act p source) p s) s start (λ c e. e) n h).1
 
     tiles_are : (n : ℕ) → n ≤ p.processors → state_after (act p source) s (tiles_as_it_goes (act p source) p s n) ≡ after_tiles p source s n
     unfolding tiles_as_it_goes after_tiles state_after
     tiles_are zero h = refl
     tiles_are (suc n) h =
         after_append (act p source) s (tiles_as_it_goes (act p source) p s n)
-        (pick (couldGather (act p source) p (state_after (act p source) s (tiles_as_it_goes (act p source) p s n)) n)
-        (wholeTile (act p source) p (state_after (act p source) s (tiles_as_it_goes (act p source) p s n)) n) [])
+        (pick (could_gather (act p source) p (state_after (act p source) s (tiles_as_it_goes (act p source) p s n)) n)
+        (whole_tile (act p source) p (state_after (act p source) s (tiles_as_it_goes (act p source) p s n)) n) [])
         ∙ one_tile (state_after (act p source) s (tiles_as_it_goes (act p source) p s n)) n (mid n (omega arith)).still (omega arith)
         ∙ ap (λ (x : State). after_tile p source x n) (tiles_are n (omega arith))
 
@@ -186,55 +186,55 @@ module _ (p : Plan) (so : Sound p) (source : List ℕ) where
   unfolding deliver
   delivered_one s m e = pick_true _ _ _ (eq-eqb _ 0 e)
 
-  mail_is : (ms : List ℕ) (s : State) → Clean (act p source) s (map deliveryOf ms)
-      → state_after (act p source) s (map deliveryOf ms) ≡ state_of s.memories s.buffer s.progress (set_all s.status ms 2)
+  mail_is : (ms : List ℕ) (s : State) → Clean (act p source) s (map delivery_of ms)
+      → state_after (act p source) s (map delivery_of ms) ≡ state_of s.memories s.buffer s.progress (set_all s.status ms 2)
   unfolding state_after act set_all
   mail_is [] s c = refl
   mail_is (m ∷ ms) s c =
-      ap (λ (x : State). state_after (act p source) x (map deliveryOf ms)) (delivered_one s m c.0)
+      ap (λ (x : State). state_after (act p source) x (map delivery_of ms)) (delivered_one s m c.0)
       ∙ mail_is ms (state_of s.memories s.buffer s.progress (set s.status m 2)) (rw (delivered_one s m c.0) at c.1)
 
-  all_mail : (s : State) → Inv p source s → state_after (act p source) s (mailIn (act p source) p s) ≡ with_mail s
-  unfolding mailIn delivered
+  all_mail : (s : State) → Inv p source s → state_after (act p source) s (mail_in (act p source) p s) ≡ with_mail s
+  unfolding mail_in delivered
   all_mail s inv =
       mail_is (keep (λ m. eqb (get_or s.status m 0) 1) (count p)) s (mail_all p so source s inv).0
       ∙ ap (λ (k : ℕ). state_of s.memories s.buffer s.progress (set_all s.status (keep (λ m. eqb (get_or s.status m 0) 1) k) 2))
       (sym inv.shape.status)
 
   -- ---- a round
-  round_is : (s : State) → Still p so source s → state_after (act p source) s (roundFrom (act p source) p s) ≡ after_round p source s
-  unfolding roundBy after_round
+  round_is : (s : State) → Still p so source s → state_after (act p source) s (round_from (act p source) p s) ≡ after_round p source s
+  unfolding round_by after_round
   round_is s start =
-      after_append (act p source) s turns (mailIn (act p source) p (state_after (act p source) s turns))
-      ∙ all_mail (state_after (act p source) s turns) (tiles_run p so source (couldGather (act p source) p s) s start (λ c e. e) p.processors
+      after_append (act p source) s turns (mail_in (act p source) p (state_after (act p source) s turns))
+      ∙ all_mail (state_after (act p source) s turns) (tiles_run p so source (could_gather (act p source) p s) s start (λ c e. e) p.processors
       (omega arith)).1.still.inv
       ∙ ap with_mail (ap (state_after (act p source) s) (sym (as_it_goes p so source s start p.processors (omega arith))) ∙ tiles_are s start
       p.processors (omega arith))
     where
       turns : List Event
-      turns = tilesBy (act p source) p (couldGather (act p source) p s) s p.processors
+      turns = tiles_by (act p source) p (could_gather (act p source) p s) s p.processors
 
   -- ---- the driver's rounds
-  pub next_round : (r : ℕ) → afterRounds p source (suc r) ≡ after_round p source (afterRounds p source r)
-  next_round r = next_state p so source r ∙ round_is (afterRounds p source r) (at p so source r).late.still
+  pub next_round : (r : ℕ) → after_rounds p source (suc r) ≡ after_round p source (after_rounds p source r)
+  next_round r = next_state p so source r ∙ round_is (after_rounds p source r) (at p so source r).late.still
 
-  pub no_round : afterRounds p source 0 ≡ fresh p
-  unfolding roundsFrom state_after
+  pub no_round : after_rounds p source 0 ≡ fresh p
+  unfolding rounds_from state_after
   no_round = refl
 
-  pub lent_then : (r : ℕ) → PlanAreas p (afterRounds p source r)
+  pub lent_then : (r : ℕ) → PlanAreas p (after_rounds p source r)
   lent_then r =
       let sh = (at p so source r).late.still.inv.shape in
       record { memories = sh.memories; buffer = sh.buffer; progress = sh.progress; status = sh.status }
 
-  pub left_then : (r : ℕ) → some (tiles_left p (afterRounds p source r)) p.processors ≡ true → r < rounds p
+  pub left_then : (r : ℕ) → some (tiles_left p (after_rounds p source r)) p.processors ≡ true → r < rounds p
   left_then r e = go (dec_lt r (rounds p))
     where
       go : Dec (r < rounds p) → r < rounds p
       go (yes q) = q
       go (no q) = absurd (never_both e (none_after p so source r (omega arith)))
 
-  pub over_then : (r : ℕ) → some (tiles_left p (afterRounds p source r)) p.processors ≡ false → rounds p ≤ r
+  pub over_then : (r : ℕ) → some (tiles_left p (after_rounds p source r)) p.processors ≡ false → rounds p ≤ r
   over_then r e = go (dec_lt r (rounds p))
     where
       go : Dec (r < rounds p) → rounds p ≤ r

@@ -10,7 +10,7 @@ use Rattle.machine.specs.Runs.{act}
 use Rattle.machine.proofs.RunLaws.{number_of, after_of}
 use Rattle.layout.specs.RouteWords.{route_of}
 use Rattle.recipe.specs.Routes.{lines_for}
-use Rattle.rounds.specs.Rounds.{Told, told, drive, rounds, afterRounds, RoundsHold}
+use Rattle.rounds.specs.Rounds.{Told, told, drive, rounds, after_rounds, RoundsHold}
 use Rattle.rounds.proofs.Theorem.{theorem213}
 use Rattle.rounds.proofs.Alike.{driver_is, rounds_hold}
 use Rattle.engine.specs.Calls.{answer, recipe, fresh_call_lines, fresh_call, collect_call}
@@ -24,7 +24,7 @@ use Rattle.schedule.specs.Calls.{rounds_call}
 module _ (bytes source : List ℕ) (ok : first_of (lines_for (route_of 0) bytes) ≡ 0) (so : Sound (recipe bytes 0))
     (long : length source ≡ (recipe bytes 0).cells) where
   pub driven : drive (calls bytes 0 source) (recipe bytes 0) (recipe bytes 0).tiles 0 (fresh (recipe bytes 0))
-      ≡ told (rounds (recipe bytes 0)) (afterRounds (recipe bytes 0) source (rounds (recipe bytes 0)))
+      ≡ told (rounds (recipe bytes 0)) (after_rounds (recipe bytes 0) source (rounds (recipe bytes 0)))
   driven =
       driver_is (recipe bytes 0) so source (calls bytes 0 source) (same bytes 0 source ok so long) (recipe bytes 0).tiles
       ∙ (theorem213 (recipe bytes 0) so source).tells (recipe bytes 0).tiles (theorem213 (recipe bytes 0) so source).few
@@ -56,7 +56,7 @@ module _ (bytes source : List ℕ) (s : State) where
 
   done_recipe : (x : State) → answer 0 x ≡ fresh_call bytes 0 source s → (ok : first_of (lines_for (route_of 0) bytes) ≡ 0) → Sound (recipe bytes 0)
       → length source ≡ (recipe bytes 0).cells → (r : ℕ) (y : State) → r ≡ rounds (recipe bytes 0)
-      → y ≡ afterRounds (recipe bytes 0) source (rounds (recipe bytes 0)) → answer 0 (told r y) ≡ rounds_call bytes source s
+      → y ≡ after_rounds (recipe bytes 0) source (rounds (recipe bytes 0)) → answer 0 (told r y) ≡ rounds_call bytes source s
   unfolding rounds_call
   done_recipe x e ok so long r y re ye =
       ap (λ (d : Told). answer 0 d)
@@ -70,6 +70,6 @@ module _ (bytes source : List ℕ) (s : State) where
     fresh_now x e = fresh_then x e ∙ ap fresh (sym o.is)
 
     pub done_too : Sound p → length source ≡ p.cells → (x : State) → answer 0 x ≡ fresh_call bytes 0 source s
-        → (r : ℕ) (y : State) → (r ≡ rounds p) × (y ≡ afterRounds p source (rounds p)) → answer 0 (told r y) ≡ rounds_call bytes source s
+        → (r : ℕ) (y : State) → (r ≡ rounds p) × (y ≡ after_rounds p source (rounds p)) → answer 0 (told r y) ≡ rounds_call bytes source s
     done_too so long x e r y d =
         done_recipe x e o.none (rw o.is at so) (rw o.is at long) r y (rw o.is at d.0) (rw o.is at d.1)

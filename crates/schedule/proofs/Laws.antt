@@ -30,7 +30,7 @@ use Rattle.stages.specs.Progress.{progress_only}
 use Rattle.stages.proofs.Parts as parts
 use Rattle.engine.proofs.Lines.{area_low}
 use Rattle.rounds.specs.ByState.{PlanAreas, tile_done, may_gather, after_tile, after_tiles, delivered, after_round}
-use Rattle.rounds.specs.Rounds.{rounds, afterRounds}
+use Rattle.rounds.specs.Rounds.{rounds, after_rounds}
 use Rattle.rounds.proofs.ByState.{next_round, no_round, lent_then, left_then, over_then}
 use Rattle.rounds.proofs.Theorem.{theorem213}
 use Rattle.schedule.specs.Given.{put_all, memory_then, status_then, mark_then}
@@ -324,7 +324,7 @@ pub record RoundsLoop (p : Plan) (source : List ℕ) (s x : State) (r : ℕ) : T
   pub buffer : length x.buffer ≡ length s.buffer
   pub progress : length x.progress ≡ length s.progress
   pub status : length x.status ≡ length s.status
-  pub state : x ≡ afterRounds p source r
+  pub state : x ≡ after_rounds p source r
 
 module _ (p : Plan) (so : Sound p) (source : List ℕ) (s : State) where
   lent_by : (x y : State) → x ≡ y → PlanAreas p y → PlanAreas p x
@@ -339,7 +339,7 @@ module _ (p : Plan) (so : Sound p) (source : List ℕ) (s : State) where
 
   module _ (x : State) (r : ℕ) (i : RoundsLoop p source s x r) where
     pub rounds_lent : PlanAreas p x
-    rounds_lent = lent_by x (afterRounds p source r) i.state (lent_then p so source r)
+    rounds_lent = lent_by x (after_rounds p source r) i.state (lent_then p so source r)
 
     left_in : (y : State) → x ≡ y → some (tiles_left p (progress_only x.progress)) p.processors ≡ some (tiles_left p y) p.processors
     unfolding tiles_left
@@ -348,7 +348,7 @@ module _ (p : Plan) (so : Sound p) (source : List ℕ) (s : State) where
         (λ b h. ap (λ (z : State). ltb (finished_of z b) (length (tiles_of p b))) e)
 
     pub rounds_more : some (tiles_left p (progress_only x.progress)) p.processors ≡ true → r < rounds p
-    rounds_more e = left_then p so source r (sym (left_in (afterRounds p source r) i.state) ∙ e)
+    rounds_more e = left_then p so source r (sym (left_in (after_rounds p source r) i.state) ∙ e)
 
     pub rounds_next : r < rounds p → (y : State) → length y.memories ≡ length x.memories → length y.buffer ≡ length x.buffer
         → length y.progress ≡ length x.progress → length y.status ≡ length x.status
@@ -361,12 +361,12 @@ module _ (p : Plan) (so : Sound p) (source : List ℕ) (s : State) where
           buffer = q2 ∙ i.buffer;
           progress = q3 ∙ i.progress;
           status = q4 ∙ i.status;
-          state = e ∙ ap (λ (z : State). after_round p source z) i.state ∙ sym (next_round p so source r) ∙ ap (λ (c : ℕ). afterRounds p source c) (sym k);
+          state = e ∙ ap (λ (z : State). after_round p source z) i.state ∙ sym (next_round p so source r) ∙ ap (λ (c : ℕ). after_rounds p source c) (sym k);
         }
 
     pub rounds_over : some (tiles_left p (progress_only x.progress)) p.processors ≡ false
-        → (r ≡ rounds p) × (x ≡ afterRounds p source (rounds p))
+        → (r ≡ rounds p) × (x ≡ after_rounds p source (rounds p))
     rounds_over e =
-        let k : rounds p ≤ r = over_then p so source r (sym (left_in (afterRounds p source r) i.state) ∙ e) in
+        let k : rounds p ≤ r = over_then p so source r (sym (left_in (after_rounds p source r) i.state) ∙ e) in
         let q : r ≡ rounds p = omega (arith, i.low) in
-        (q, i.state ∙ ap (λ (c : ℕ). afterRounds p source c) q)
+        (q, i.state ∙ ap (λ (c : ℕ). after_rounds p source c) q)

@@ -87,16 +87,16 @@ module _ (p : Plan) (source : List ℕ) (s : State) (b t f : ℕ) (lent : PlanAr
   part_back m e = ap (λ (k : ℕ). sublist (put s.memories a m) a k) (sym e) ∙ part_put_same s.memories a m (rw e room)
 
   -- the processor's record after j sends
-  unfoldable recordAt : ℕ → List ℕ
-  recordAt j = pick (ltb j (length sends)) (set_progress s.progress b f 2 j) (set_progress s.progress b (f + 1) 0 0)
+  unfoldable record_at : ℕ → List ℕ
+  record_at j = pick (ltb j (length sends)) (set_progress s.progress b f 2 j) (set_progress s.progress b (f + 1) 0 0)
 
   abbrev at : ℕ → State
-  at j = state_of (put s.memories a made) (put_all p made s.buffer (take j sends)) (recordAt j)
+  at j = state_of (put s.memories a made) (put_all p made s.buffer (take j sends)) (record_at j)
       (set_all (set_all s.status (dues_of p t) 3) (take j sends) 1)
 
   -- a record of j sends stored over the one before it
-  next_record : (x : State) (v y z j : ℕ) → x.progress ≡ set_progress s.progress b v y z → v ≡ f → (u : ℕ) → u ≡ t → after_sends p x b u j ≡ recordAt j
-  unfolding after_sends recordAt
+  next_record : (x : State) (v y z j : ℕ) → x.progress ≡ set_progress s.progress b v y z → v ≡ f → (u : ℕ) → u ≡ t → after_sends p x b u j ≡ record_at j
+  unfolding after_sends record_at
   next_record x v y z j e q u k =
       let i : finished_of x b ≡ f =
       ap (λ (l : List ℕ). get_or l (3 * b) 0) e ∙ finished_same s.progress b p.processors lent.progress low v y z ∙ q in
@@ -109,24 +109,24 @@ module _ (p : Plan) (source : List ℕ) (s : State) (b t f : ℕ) (lent : PlanAr
   unfolding carry_out put_all set_all
   calculated_is =
       let g : sublist (put s.memories a gathered) a p.cells ≡ gathered = part_back gathered gathered_long in
-      let r : after_sends p (carry_out p [] s b (gather t)) b t 0 ≡ recordAt 0 =
+      let r : after_sends p (carry_out p [] s b (gather t)) b t 0 ≡ record_at 0 =
       next_record (carry_out p [] s b (gather t)) (finished_of s b) 1 0 0 refl (sym finished) t refl in
       ap (λ (l : List ℕ). state_of (put (put s.memories a gathered) a
       (store_all (p.value source) (sublist (put s.memories a gathered) a p.cells) (p.cells_of t)))
       s.buffer l (set_all s.status (dues_of p t) 3)) r
-      ∙ ap (λ (m : List ℕ). state_of (put (put s.memories a gathered) a (store_all (p.value source) m (p.cells_of t))) s.buffer (recordAt 0)
+      ∙ ap (λ (m : List ℕ). state_of (put (put s.memories a gathered) a (store_all (p.value source) m (p.cells_of t))) s.buffer (record_at 0)
       (set_all s.status (dues_of p t) 3)) g
-      ∙ ap (λ (m : List ℕ). state_of m s.buffer (recordAt 0) (set_all s.status (dues_of p t) 3))
+      ∙ ap (λ (m : List ℕ). state_of m s.buffer (record_at 0) (set_all s.status (dues_of p t) 3))
       (put_over s.memories gathered made a (omega (arith, room)) (gathered_long ∙ sym made_long))
 
   sent_next : (j : ℕ) → j < length sends → carry_out p [] (at j) b (send (get_or sends j 0)) ≡ at (suc j)
-  unfolding carry_out put_all set_all recordAt
+  unfolding carry_out put_all set_all record_at
   sent_next j h =
-      let e : recordAt j ≡ set_progress s.progress b f 2 j = pick_true _ _ _ (lt-ltb j (length sends) h) in
+      let e : record_at j ≡ set_progress s.progress b f 2 j = pick_true _ _ _ (lt-ltb j (length sends) h) in
       let q : sent_of (at j) b + 1 ≡ suc j =
       ap (λ (l : List ℕ). get_or l (3 * b + 2) 0 + 1) e ∙ ap (λ (i : ℕ). i + 1) (sent_same s.progress b p.processors lent.progress low f 2 j) ∙
       omega arith in
-      let r : after_sends p (at j) b (sender_of p (get_or sends j 0)) (sent_of (at j) b + 1) ≡ recordAt (suc j) =
+      let r : after_sends p (at j) b (sender_of p (get_or sends j 0)) (sent_of (at j) b + 1) ≡ record_at (suc j) =
       ap (after_sends p (at j) b (sender_of p (get_or sends j 0))) q
       ∙ next_record (at j) f 2 j (suc j) e refl (sender_of p (get_or sends j 0)) (at_is (sender_of p) t (count p) j h) in
       let k : take (suc j) sends ≡ take j sends ++ (get_or sends j 0 ∷ []) = take-suc sends j 0 h in
@@ -136,12 +136,12 @@ module _ (p : Plan) (source : List ℕ) (s : State) (b t f : ℕ) (lent : PlanAr
       (pack (sublist (put s.memories a made) a p.cells) (held_by p (get_or sends j 0)))) l
       (set (set_all (set_all s.status (dues_of p t) 3) (take j sends) 1) (get_or sends j 0) 1)) r
       ∙ ap (λ (y : List ℕ). state_of (put s.memories a made)
-      (put (put_all p made s.buffer (take j sends)) (offset p.messages (get_or sends j 0)) (pack y (held_by p (get_or sends j 0)))) (recordAt (suc j))
+      (put (put_all p made s.buffer (take j sends)) (offset p.messages (get_or sends j 0)) (pack y (held_by p (get_or sends j 0)))) (record_at (suc j))
       (set (set_all (set_all s.status (dues_of p t) 3) (take j sends) 1) (get_or sends j 0) 1)) d
-      ∙ ap (λ (y : List ℕ). state_of (put s.memories a made) y (recordAt (suc j))
+      ∙ ap (λ (y : List ℕ). state_of (put s.memories a made) y (record_at (suc j))
       (set (set_all (set_all s.status (dues_of p t) 3) (take j sends) 1) (get_or sends j 0) 1))
       (sym (put_all_append p made (take j sends) (get_or sends j 0 ∷ []) s.buffer) ∙ ap (put_all p made s.buffer) (sym k))
-      ∙ ap (λ (y : List ℕ). state_of (put s.memories a made) (put_all p made s.buffer (take (suc j) sends)) (recordAt (suc j)) y)
+      ∙ ap (λ (y : List ℕ). state_of (put s.memories a made) (put_all p made s.buffer (take (suc j) sends)) (record_at (suc j)) y)
       (sym (set_all_append (set_all s.status (dues_of p t) 3) (take j sends) (get_or sends j 0 ∷ []) 1)
       ∙ ap (λ (y : List ℕ). set_all (set_all s.status (dues_of p t) 3) y 1) (sym k))
 
@@ -154,7 +154,7 @@ module _ (p : Plan) (source : List ℕ) (s : State) (b t f : ℕ) (lent : PlanAr
 
   pub done_is : tile_done p source s b t
       ≡ state_of (put s.memories a made) (put_all p made s.buffer sends) (set_progress s.progress b (f + 1) 0 0) (status_then p s.status t)
-  unfolding tile_done recordAt
+  unfolding tile_done record_at
   done_is =
       sent_are (length sends) (omega arith)
       ∙ ap (λ (l : List ℕ). state_of (put s.memories a made) (put_all p made s.buffer (take (length sends) sends)) l

@@ -7,7 +7,7 @@ use Rattle.base.specs.Numbers.{first_of}
 use Rattle.machine.specs.Machine as machine
 use Rattle.machine.specs.Machine.{State}
 use Rattle.nest.specs.Reader.{read_lines}
-use Rattle.rounds.specs.Rounds.{Told, told, drive, rounds, rounds_to, tile_round, roundsFrom, RoundsHold, stateThen}
+use Rattle.rounds.specs.Rounds.{Told, told, drive, rounds, rounds_to, tile_round, rounds_from, RoundsHold, state_then}
 use Rattle.engine.specs.Calls.{recipe, fresh_call_lines, fresh_call, collect_call}
 use Rattle.engine.specs.Demands.{Fixed, calls}
 use Rattle.schedule.specs.Calls.{rounds_call, rounds_of_lines, rounds_of_call}
@@ -24,7 +24,7 @@ pub record Demand213 : Type 0 where
   -- the driver tells the greatest round of a tile, and the areas are those after so many rounds of calls
   pub tells : (bytes source : List ℕ) (s : State) → Bytes bytes → (rounds_call bytes source s).number ≡ 0
       → (rounds_call bytes source s).after
-      ≡ told (rounds (recipe bytes 0)) (stateThen (calls bytes 0 source) (collect_call bytes 0 source) (recipe bytes 0) source (rounds (recipe bytes 0)))
+      ≡ told (rounds (recipe bytes 0)) (state_then (calls bytes 0 source) (collect_call bytes 0 source) (recipe bytes 0) source (rounds (recipe bytes 0)))
   -- all that is said of rounds holds of the calls
   pub by_rounds : (bytes source : List ℕ) (s : State) → Bytes bytes → (rounds_call bytes source s).number ≡ 0
       → RoundsHold (calls bytes 0 source) (collect_call bytes 0 source) (recipe bytes 0) source

@@ -10,7 +10,7 @@ ghost use Rattle.nest.specs.Nest.{cells, processors};
 ghost use Rattle.plan.specs.Shaped.{plan_of};
 ghost use Rattle.tables.specs.Tables.{FoundIn, Planned};
 ghost use Rattle.rounds.specs.ByState.{PlanAreas, after_tile, delivered, after_round};
-ghost use Rattle.rounds.specs.Rounds.{told, rounds, afterRounds, tile_round, rounds_to};
+ghost use Rattle.rounds.specs.Rounds.{told, rounds, after_rounds, tile_round, rounds_to};
 ghost use Rattle.engine.specs.Calls.{answer};
 ghost use Rattle.schedule.specs.Index.{Listed};
 ghost use Rattle.schedule.specs.Given.{Mailed, Indexed, Dued, put_all, memory_then, status_then, mark_then, TellsTo, last_before};
@@ -255,7 +255,7 @@ fn rounds_by(
     requires status_value { state_of memories.old buffer.old progress.old status.old ≡ fresh (plan_of sizes.route nest) }
     ensures { (result ≡ rounds (plan_of sizes.route nest))
         × (state_of memories.new buffer.new progress.new status.new
-        ≡ afterRounds (plan_of sizes.route nest) source.now (rounds (plan_of sizes.route nest))) }
+        ≡ after_rounds (plan_of sizes.route nest) source.now (rounds (plan_of sizes.route nest))) }
 {
     let mut done: u32 = 0;
     while tiles_left(nest, sizes, lens, progress) {
@@ -282,7 +282,7 @@ pub fn all_rounds(
     requires status_value { state_of memories.old buffer.old progress.old status.old ≡ fresh (plan_of sizes.route nest) }
     ensures { (result ≡ rounds (plan_of sizes.route nest))
         × (state_of memories.new buffer.new progress.new status.new
-        ≡ afterRounds (plan_of sizes.route nest) source.now (rounds (plan_of sizes.route nest))) }
+        ≡ after_rounds (plan_of sizes.route nest) source.now (rounds (plan_of sizes.route nest))) }
 {
     let mut spots = [0u32; SPOT_WORDS];
     let messages = list(nest, sizes, lens, &mut spots);

@@ -11,7 +11,7 @@ use Rattle.base.proofs.Tests.{both, and_true, true_not, pick_true, pick_false}
 use Rattle.base.proofs.Numbers.{none_first, none_front, none_behind}
 use Rattle.machine.specs.Plan.{Plan, Sound}
 use Rattle.machine.specs.Machine.{State}
-use Rattle.machine.specs.Runs.{Event, turn_of, deliveryOf}
+use Rattle.machine.specs.Runs.{Event, turn_of, delivery_of}
 use Rattle.tenants.specs.Tenants.{other_than, act_for, of_tenant, Sharing, Sources, source_for, own_of, other_of, lent_to, put_back, fresh_sharing, Call, act_on}
 use Rattle.tenants.specs.Tenants.{collect_on}
 use Rattle.tenants.specs.Demand208.{Demand208}
@@ -72,7 +72,7 @@ module _ (bytes : List ℕ) (route : ℕ) (sources : Sources) (ok : first_of (li
         ≡ act_for p (source_for sources o) o (lent_to r o) (other_of r o).progress e
     unfolding call_for act_for
     by_event o (turn_of b) = sym (as_turn bytes route (source_for sources o) o (lent_to r o) (other_of r o).progress b p opened (lengths o))
-    by_event o (deliveryOf m) = sym (as_delivery bytes route (source_for sources o) o (lent_to r o) (other_of r o).progress m p opened (lengths o))
+    by_event o (delivery_of m) = sym (as_delivery bytes route (source_for sources o) o (lent_to r o) (other_of r o).progress m p opened (lengths o))
 
     collects_is : (o : ℕ) (grid : List ℕ) → length grid ≡ p.cells → sharing_collects bytes route sources r o grid ≡ collect_on p r o grid
     unfolding sharing_collects collect_on

@@ -54,12 +54,12 @@ pub alone_for : (bytes : List ℕ) (route : ℕ) → first_of (lines_for (route_
     → (sources sources' : Sources) → source_for sources' o ≡ source_for sources o → length (source_for sources o) ≡ (recipe bytes route).cells
     → {C D : Type 0} (call_of : C → Call) (acts : Sharing → C → Answered Sharing) (allowed : C → Type 0)
     → Guards (SharingInv (recipe bytes route) sources) (act_on (recipe bytes route) sources) acts call_of allowed
-    → (callOf' : D → Call) (acts' : Sharing → D → Answered Sharing) (allowed' : D → Type 0)
-    → Guards (SharingInv (recipe bytes route) sources') (act_on (recipe bytes route) sources') acts' callOf' allowed'
-    → Alone208 call_of acts callOf' acts' (calls bytes route (source_for sources o)) (recipe bytes route) o
-alone_for bytes route ok so o low sources sources' same_source long call_of acts allowed gd callOf' acts' allowed' gd' =
+    → (call_of' : D → Call) (acts' : Sharing → D → Answered Sharing) (allowed' : D → Type 0)
+    → Guards (SharingInv (recipe bytes route) sources') (act_on (recipe bytes route) sources') acts' call_of' allowed'
+    → Alone208 call_of acts call_of' acts' (calls bytes route (source_for sources o)) (recipe bytes route) o
+alone_for bytes route ok so o low sources sources' same_source long call_of acts allowed gd call_of' acts' allowed' gd' =
     record {
-      same_words = (alone208 (recipe bytes route) so o low sources sources' same_source call_of acts allowed gd callOf' acts' allowed' gd').same_words;
+      same_words = (alone208 (recipe bytes route) so o low sources sources' same_source call_of acts allowed gd call_of' acts' allowed' gd').same_words;
       as_single = single bytes route sources ok so call_of acts allowed gd o low long;
     }
 

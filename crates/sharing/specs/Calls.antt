@@ -7,7 +7,7 @@ use Rattle.base.specs.Lists.{sublist}
 use Rattle.base.specs.Numbers.{Line, line, first_of}
 use Rattle.machine.specs.Plan.{Plan}
 use Rattle.machine.specs.Machine.{Answered, answered, next_action, collected}
-use Rattle.machine.specs.Runs.{Event, turn_of, deliveryOf}
+use Rattle.machine.specs.Runs.{Event, turn_of, delivery_of}
 use Rattle.tenants.specs.Tenants.{TenantAreas, turn_lines_for, carry_out_for, deliver_lines_for, delivered_for, collect_lines_for}
 use Rattle.tenants.specs.Tenants.{of_tenant, Sharing, Sources, source_for, other_of, lent_to, put_back, fresh_sharing, Call}
 use Rattle.nest.specs.Reader.{read_lines}
@@ -91,7 +91,7 @@ view_part bytes first second o b =
 
 unfoldable pub call_for : List ℕ → ℕ → List ℕ → ℕ → TenantAreas → List ℕ → Event → Answered TenantAreas
 call_for bytes route source o l theirs (turn_of b) = turn_call_for bytes route source o l theirs b
-call_for bytes route source o l theirs (deliveryOf m) = deliver_call_for bytes route source o l theirs m
+call_for bytes route source o l theirs (delivery_of m) = deliver_call_for bytes route source o l theirs m
 
 -- each lent what it names of the sharing
 unfoldable pub sharing_calls : List ℕ → ℕ → Sources → Sharing → Call → Answered Sharing

@@ -11,7 +11,7 @@ use Rattle.base.specs.Numbers.{first_of}
 use Rattle.machine.specs.Plan.{Plan, Sound, offset}
 use Rattle.machine.specs.Machine.{State, Answered, set_progress, tiles_left, fit_record, fit, unpack_all, after_sends, carry_out, action_at, waiting, turn, deliver}
 use Rattle.machine.specs.Machine.{fresh}
-use Rattle.machine.specs.Runs.{Event, turn_of, deliveryOf, act, state_after}
+use Rattle.machine.specs.Runs.{Event, turn_of, delivery_of, act, state_after}
 use Rattle.machine.specs.AnyCalls.{mixed, either}
 use Rattle.machine.proofs.Kept.{Inv}
 use Rattle.machine.proofs.Guards.{Guards}
@@ -56,7 +56,7 @@ unfoldable hours : Moment
 hours = moment_of (replicate 28 0 ++ (7 ∷ 8 ∷ replicate 54 0)) 7
 
 unfoldable before : List Mixed
-before = inl (turn_of 0) ∷ inl (turn_of 0) ∷ inl (turn_of 0) ∷ inl (turn_of 0) ∷ inl (deliveryOf 0) ∷ inl (deliveryOf 1) ∷ []
+before = inl (turn_of 0) ∷ inl (turn_of 0) ∷ inl (turn_of 0) ∷ inl (turn_of 0) ∷ inl (delivery_of 0) ∷ inl (delivery_of 1) ∷ []
 
 both_taken : CanTake (act_mixed fork source) (state_after (act_mixed fork source) (fresh fork) before) (inr (turn_at hours 1))
     × CanTake (act_mixed fork source) (state_after (act_mixed fork source) (fresh fork) before) (inl (turn_of 2))

@@ -6,7 +6,7 @@ use mathlib.Core.Logic.{◌≢◌}
 use mathlib.Core.List.{List}
 use Rattle.machine.specs.Plan.{Plan, Sound}
 use Rattle.machine.specs.Machine.{State, Answered, fresh}
-use Rattle.machine.specs.Runs.{Event, turn_of, deliveryOf, act, state_after}
+use Rattle.machine.specs.Runs.{Event, turn_of, delivery_of, act, state_after}
 use Rattle.machine.proofs.Kept.{Inv}
 use Rattle.machine.proofs.Fresh.{inv_fresh}
 use Rattle.machine.proofs.Along.{run_inv, next_inv}
@@ -22,9 +22,9 @@ pub either_event : (p : Plan) → Sound p → (source : List ℕ) (s : State) �
     → CanTake (act p source) s e → CanTake (act p source) s f → EitherWay (act p source) s e f
 unfolding act
 either_event p so source s inv (turn_of b) (turn_of c) ne x y = two_turns p so source s inv b c (λ q. ne (ap turn_of q)) x y
-either_event p so source s inv (turn_of b) (deliveryOf m) ne x y = turn_delivery p so source s inv b m x y
-either_event p so source s inv (deliveryOf m) (turn_of b) ne x y = turned_round (turn_delivery p so source s inv b m y x)
-either_event p so source s inv (deliveryOf m) (deliveryOf k) ne x y = two_deliveries p so source s inv m k (λ q. ne (ap deliveryOf q)) x y
+either_event p so source s inv (turn_of b) (delivery_of m) ne x y = turn_delivery p so source s inv b m x y
+either_event p so source s inv (delivery_of m) (turn_of b) ne x y = turned_round (turn_delivery p so source s inv b m y x)
+either_event p so source s inv (delivery_of m) (delivery_of k) ne x y = two_deliveries p so source s inv m k (λ q. ne (ap delivery_of q)) x y
 
 pub swaps : (p : Plan) → Sound p → (source : List ℕ) (events : List Event)
     → Swaps (Different plainly) (act p source) (state_after (act p source) (fresh p) events)

@@ -11,7 +11,7 @@ use Rattle.base.specs.Lists.{In, put}
 use Rattle.base.proofs.Lists.{piece_fits, put_none, put_put, set_all_set, set_all_set_all}
 use Rattle.machine.specs.Plan.{Plan, Sound, count, sender_of}
 use Rattle.machine.specs.Machine.{State, Answered, state_of, set_progress, turn, deliver}
-use Rattle.machine.specs.Runs.{turn_of, deliveryOf, act}
+use Rattle.machine.specs.Runs.{turn_of, delivery_of, act}
 use Rattle.machine.proofs.Turns.{Delivered, delivered, can_deliver, can}
 use Rattle.machine.proofs.Values.{offset_apart}
 use Rattle.machine.proofs.Progress.{Shape}
@@ -124,7 +124,7 @@ module _ (p : Plan) (so : Sound p) (source : List ℕ) (s : State) (inv : Inv p 
 
   inv_deliver : (m : ℕ) → Inv p source (deliver p s m).after
   unfolding act
-  inv_deliver m = next_inv p so source s inv (deliveryOf m)
+  inv_deliver m = next_inv p so source s inv (delivery_of m)
 
   module _ (b : ℕ) (z : (turn p source s b).number ≡ 0) where
     after_b : (turn p source s b).after ≡ changed p b (change_of p source s b) s
@@ -192,7 +192,7 @@ module _ (p : Plan) (so : Sound p) (source : List ℕ) (s : State) (inv : Inv p 
       }
 
   pub turn_delivery : (b m : ℕ) → (turn p source s b).number ≡ 0 → (deliver p s m).number ≡ 0
-      → EitherWay (act p source) s (turn_of b) (deliveryOf m)
+      → EitherWay (act p source) s (turn_of b) (delivery_of m)
   unfolding act
   turn_delivery b m zb zm =
       let x = then_delivery b zb m zm in
@@ -207,7 +207,7 @@ module _ (p : Plan) (so : Sound p) (source : List ℕ) (s : State) (inv : Inv p 
       untouched = in_flight p s inv.shape b (change_of p source s b) (proper_b b zb) m (flew p s m zm).1
 
   pub two_deliveries : (m k : ℕ) → m ≢ k → (deliver p s m).number ≡ 0 → (deliver p s k).number ≡ 0
-      → EitherWay (act p source) s (deliveryOf m) (deliveryOf k)
+      → EitherWay (act p source) s (delivery_of m) (delivery_of k)
   unfolding act
   two_deliveries m k ne zm zk =
       let x = delivery_then m zm k (λ e. ne (sym e)) zk in

@@ -10,7 +10,7 @@ use lib.Dec.{ltb}
 use Rattle.base.specs.Tests.{pick}
 use Rattle.machine.specs.Plan.{Plan, sender_of, tiles_of, sends_of}
 use Rattle.machine.specs.Machine.{State, finished_of, stage_of, sent_of, action_at}
-use Rattle.machine.specs.Runs.{Event, turn_of, deliveryOf, act}
+use Rattle.machine.specs.Runs.{Event, turn_of, delivery_of, act}
 use Rattle.machine.proofs.Records.{SameRecord}
 use Rattle.machine.proofs.Deeds.{turn_away, delivery_away}
 use Rattle.tenants.specs.Tenants.{TenantAreas, holder_of, freed_after, engaged_after, carry_out_for, Sharing, Sources, source_for, own_of, other_of, lent_to}
@@ -25,7 +25,7 @@ touch_at p o b f (suc (suc g)) n l = freed_after p l b (sender_of p (get_or (sen
 
 unfoldable pub words_by : Plan → ℕ → State → Event → List ℕ → List ℕ
 words_by p o s (turn_of b) l = touch_at p o b (finished_of s b) (stage_of s b) (sent_of s b) l
-words_by p o s (deliveryOf m) l = l
+words_by p o s (delivery_of m) l = l
 
 is_touch : (p : Plan) (o : ℕ) (l : TenantAreas) (b f g : ℕ)
     → engaged_after p o l b (action_at p g (get_or (tiles_of p b) f 0) (sent_of l.own b)) ≡ touch_at p o b f g (sent_of l.own b) l.engaged
@@ -41,7 +41,7 @@ unfolding act_on act_for returned carry_out_for words_by
 words_after p sources r o (turn_of b) z =
     ap (λ (l : TenantAreas). l.engaged) (turn_done p o (lent_to r o) (other_of r o).progress (source_for sources o) b z)
     ∙ is_touch p o (lent_to r o) b (finished_of (own_of r o) b) (stage_of (own_of r o) b)
-words_after p sources r o (deliveryOf m) z = deliver_words p o (lent_to r o) (other_of r o).progress m
+words_after p sources r o (delivery_of m) z = deliver_words p o (lent_to r o) (other_of r o).progress m
 
 -- a gather engages its processor
 pub words_gather : (p : Plan) (o : ℕ) (s : State) (b : ℕ) (l : List ℕ) → stage_of s b ≡ 0 → words_by p o s (turn_of b) l ≡ set l b o
@@ -67,7 +67,7 @@ pub words_away : (p : Plan) (o : ℕ) (s : State) (e : Event) (l : List ℕ) (c 
     → holder_of (words_by p o s e l) c ≡ holder_of l c
 unfolding words_by
 words_away p o s (turn_of b) l c ne = touch_away p o b _ _ _ l c (λ q. ne (ap turn_of (sym q)))
-words_away p o s (deliveryOf m) l c ne = refl
+words_away p o s (delivery_of m) l c ne = refl
 
 -- ---- two processors' words, in either order
 freed_set : (p : Plan) (l : List ℕ) (b t n c v : ℕ) → c ≢ b → freed_after p (set l c v) b t n ≡ set (freed_after p l b t n) c v
@@ -104,19 +104,19 @@ pub words_swap : (p : Plan) (o q : ℕ) (s t : State) (e f : Event) (l : List �
     → words_by p q t f (words_by p o s e l) ≡ words_by p o s e (words_by p q t f l)
 unfolding words_by
 words_swap p o q s t (turn_of b) (turn_of c) l n = touch_touch p q c _ _ _ o b _ _ _ l (λ h. n b refl (ap turn_of (sym h)))
-words_swap p o q s t (turn_of b) (deliveryOf m) l n = refl
-words_swap p o q s t (deliveryOf m) f l n = refl
+words_swap p o q s t (turn_of b) (delivery_of m) l n = refl
+words_swap p o q s t (delivery_of m) f l n = refl
 
 -- ---- who has the same record does the same to the words
 pub words_same : (p : Plan) (o : ℕ) (s s' : State) (e : Event) (l : List ℕ)
     → ((b : ℕ) → e ≡ turn_of b → SameRecord b s'.progress s.progress) → words_by p o s' e l ≡ words_by p o s e l
 unfolding words_by
 words_same p o s s' (turn_of b) l h = let r = h b refl in rw (r.finished, r.stage, r.sent)
-words_same p o s s' (deliveryOf m) l h = refl
+words_same p o s s' (delivery_of m) l h = refl
 
 -- an event of the single tenant leaves the record of every processor but the one it turns
 pub record_kept : (p : Plan) (source : List ℕ) (s : State) (e : Event) (b : ℕ) → e ≢ turn_of b
     → SameRecord b (act p source s e).after.progress s.progress
 unfolding act
 record_kept p source s (turn_of c) b ne = turn_away p s c source b (λ q. ne (ap turn_of (sym q)))
-record_kept p source s (deliveryOf m) b ne = delivery_away p s m b
+record_kept p source s (delivery_of m) b ne = delivery_away p s m b

@@ -14,7 +14,7 @@ use Rattle.base.proofs.Tests.{and_true, and_no, never_both, not-true}
 use Rattle.base.proofs.Numbers.{first_false, first_true}
 use Rattle.machine.specs.Plan.{Plan, Sound}
 use Rattle.machine.specs.Machine.{State, Answered, stage_of, tiles_left, current_tile, action_at}
-use Rattle.machine.specs.Runs.{Event, turn_of, deliveryOf, act, state_after}
+use Rattle.machine.specs.Runs.{Event, turn_of, delivery_of, act, state_after}
 use Rattle.machine.proofs.Turns.{turn_lines}
 use Rattle.machine.proofs.Records.{SameRecord}
 use Rattle.machine.proofs.RunLaws.{number_of}
@@ -58,7 +58,7 @@ sharing_same r r' h k = go r.first r'.first r.second r'.second r.engaged r'.enga
 -- the other tenant does not hold the processor
 abbrev Free : Sharing → ℕ → Event → Type 0
 Free r o (turn_of b) = holder_of r.engaged b ≢ other_than o
-Free r o (deliveryOf m) = Unit {0}
+Free r o (delivery_of m) = Unit {0}
 
 module _ (p : Plan) (sources : Sources) (r : Sharing) where
   takes_when : SharingInv p sources r → (o : ℕ) → o ≤ 1 → (e : Event) → (act p (source_for sources o) (own_of r o) e).number ≡ 0 → Free r o e
@@ -75,7 +75,7 @@ module _ (p : Plan) (sources : Sources) (r : Sharing) where
         ready = q.1;
         left = q.2;
       })
-  takes_when inv o low (deliveryOf m) z free =
+  takes_when inv o low (delivery_of m) z free =
       open_mail p o (lent_to r o) (other_of r o).progress m (le-leb _ _ low) (sharing_fit p sources r inv o low) z
 
   turn_is_open : (o b : ℕ) → (act_on p sources r (call o (turn_of b))).number ≡ 0 → OpenTurn p o (lent_to r o) (other_of r o).progress b
@@ -85,7 +85,7 @@ module _ (p : Plan) (sources : Sources) (r : Sharing) where
   taken_free : (o : ℕ) (e : Event) → (act_on p sources r (call o e)).number ≡ 0 → Free r o e
   unfolding held_by_other
   taken_free o (turn_of b) z = λ e. let q = turn_is_open o b z in never_both (and_true q.left (eq-eqb _ _ e)) q.free
-  taken_free o (deliveryOf m) z = tt
+  taken_free o (delivery_of m) z = tt
 
   -- a turn of a processor that is held, after all that comes before in the table
   held_off : SharingInv p sources r → (o b : ℕ) → o ≤ 1 → ltb b p.processors ≡ true → tiles_left p (own_of r o) b ≡ true
@@ -138,7 +138,7 @@ module _ (p : Plan) (so : Sound p) (sources : Sources) (r : Sharing) (inv : Shar
         free (turn_of b) k =
             λ w. (taken_free p sources r q (turn_of b) (ap (λ (g : Event). (act_on p sources r (call q g)).number) (sym k) ∙ zd))
             (sym (ap (λ (l : List ℕ). holder_of l b) (words_after p sources r o e zc) ∙ words_away p o (own_of r o) e r.engaged b (λ h. apart b h k)) ∙ w)
-        free (deliveryOf m) k = tt
+        free (delivery_of m) k = tt
 
     -- the second's record of the processor that it turns
     record_stays : (b : ℕ) → f ≡ turn_of b → SameRecord b (own_of (after o e) q).progress (own_of r q).progress

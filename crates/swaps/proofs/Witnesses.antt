@@ -9,7 +9,7 @@ use Rattle.base.specs.Lists.{sublist, put, set_all, store_all, all_at, unpack, p
 use Rattle.base.specs.Numbers.{first_of}
 use Rattle.machine.specs.Plan.{offset}
 use Rattle.machine.specs.Machine.{set_progress, tiles_left, fit_record, fit, unpack_all, after_sends, carry_out, action_at, waiting, turn, deliver, fresh}
-use Rattle.machine.specs.Runs.{Event, turn_of, deliveryOf, act, state_after}
+use Rattle.machine.specs.Runs.{Event, turn_of, delivery_of, act, state_after}
 use Rattle.tenants.specs.Tenants.{stage_agrees, fit_word, fit_for, held_by_other, freed_after, engaged_after, carry_out_for, turn_for, deliver_for, act_for, act_on}
 use Rattle.tenants.specs.Tenants.{of_tenant, sources_of, returned, fresh_sharing, Call, turn_by, delivery_by}
 use Rattle.swaps.specs.Swaps.{CanTake, Swapped, CanSwap}
@@ -40,7 +40,7 @@ turned = turn_by 0 0 ∷ turn_by 0 0 ∷ turn_by 0 0 ∷ turn_by 0 0 ∷ []
 
 unfoldable is_turn : Event → Bool
 is_turn (turn_of b) = true
-is_turn (deliveryOf m) = false
+is_turn (delivery_of m) = false
 
 -- its message 0 can be delivered, and tenant 1 can gather there
 both_taken : CanTake call (state_after call (fresh_sharing fork) turned) (delivery_by 0 0) × CanTake call (state_after call (fresh_sharing fork) turned) (turn_by 1 0)

@@ -12,7 +12,7 @@ use borrow.Author.Tests.{eq-eqb, lt-ltb, le-leb}
 use Rattle.base.proofs.Tests.{and_true, never_both, every_all}
 use Rattle.machine.specs.Plan.{Plan, Sound}
 use Rattle.machine.specs.Machine.{State, stage_of, fit_record, tiles_left, fresh}
-use Rattle.machine.specs.Runs.{Event, turn_of, deliveryOf, state_after}
+use Rattle.machine.specs.Runs.{Event, turn_of, delivery_of, state_after}
 use Rattle.machine.proofs.Turns.{Can, can}
 use Rattle.machine.proofs.Kept.{Inv, inv_fit}
 use Rattle.machine.proofs.Fresh.{inv_fresh, stage_fresh}
@@ -192,7 +192,7 @@ module _ (p : Plan) (so : Sound p) (sources : Sources) (r : Sharing) (inv : Shar
       → SharingInv p sources (returned r q (act_for p source q lent theirs e).after)
   unfolding act_for
   after_event (turn_of b) z own = after_turn b z own
-  after_event (deliveryOf m) z own = after_delivery m own
+  after_event (delivery_of m) z own = after_delivery m own
 
   after_own : (e : Event) → (act_for p source q lent theirs e).number ≡ 0
       → SharingInv p sources (returned r q (act_for p source q lent theirs e).after)

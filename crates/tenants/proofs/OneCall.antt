@@ -14,7 +14,7 @@ use Rattle.base.proofs.Tests.{both, not-true, true_not, pick_true, pick_false}
 use Rattle.base.proofs.Numbers.{first_false, first_cons, none_first}
 use Rattle.machine.specs.Plan.{Plan}
 use Rattle.machine.specs.Machine.{State, fit, answered, next_action, collected, turn_lines, turn, deliver_lines, deliver, collect}
-use Rattle.machine.specs.Runs.{Event, turn_of, deliveryOf, act}
+use Rattle.machine.specs.Runs.{Event, turn_of, delivery_of, act}
 use Rattle.tenants.specs.Tenants.{TenantAreas, fit_for, held_by_other, turn_lines_for, carry_out_for, turn_for}
 use Rattle.tenants.specs.Tenants.{deliver_lines_for, delivered_for, deliver_for, collect_for, act_for}
 use Rattle.tenants.specs.Tenants.{of_tenant, Sharing, sharing_of, Sources, source_for, own_of, other_of, lent_to, returned, Call, act_on}
@@ -126,23 +126,23 @@ module _ (p : Plan) (o : ℕ) (l : TenantAreas) (theirs : List ℕ) where
     pub act_admits : (e : Event) → (act_for p source o l theirs e).number ≡ 0 → Admits p o l theirs
     unfolding act_for
     act_admits (turn_of b) z = (turn_admits source b z).0
-    act_admits (deliveryOf m) z = deliver_admits m z
+    act_admits (delivery_of m) z = deliver_admits m z
 
     pub act_number : (e : Event) → (act_for p source o l theirs e).number ≡ 0 → (act p source l.own e).number ≡ 0
     unfolding act_for act
     act_number (turn_of b) z = let a = turn_admits source b z in sym (turn_number source b a.0 a.1) ∙ z
-    act_number (deliveryOf m) z = sym (deliver_number m (deliver_admits m z)) ∙ z
+    act_number (delivery_of m) z = sym (deliver_number m (deliver_admits m z)) ∙ z
 
     pub act_own : (e : Event) → (act_for p source o l theirs e).number ≡ 0
         → (act_for p source o l theirs e).after.own ≡ (act p source l.own e).after
     unfolding act_for act
     act_own (turn_of b) z = let a = turn_admits source b z in turn_own source b a.0 a.1
-    act_own (deliveryOf m) z = deliver_own m (deliver_admits m z)
+    act_own (delivery_of m) z = deliver_own m (deliver_admits m z)
 
     act_refused : (e : Event) → (act_for p source o l theirs e).number ≢ 0 → (act_for p source o l theirs e).after ≡ l
     unfolding act_for turn_for deliver_for
     act_refused (turn_of b) n = pick_false _ _ _ (ne_eqb _ 0 n)
-    act_refused (deliveryOf m) n = pick_false _ _ _ (ne_eqb _ 0 n)
+    act_refused (delivery_of m) n = pick_false _ _ _ (ne_eqb _ 0 n)
 
 -- ---- of two things, a tenant's
 

@@ -29,14 +29,14 @@ module _ (p : Plan) (sources : Sources) (o : ℕ) (low : o ≤ 1) where
         ∙ ap (λ (q : ℕ). (act p (source_for sources q) (own_of r q) c.event).after) e
 
   -- its calls from the sharing r on, and its areas after them
-  abbrev answersFrom : List Call → Sharing → List ℕ
-  answersFrom cs r = answers_of o cs (answers_to (act_on p sources) r cs)
+  abbrev answers_from : List Call → Sharing → List ℕ
+  answers_from cs r = answers_of o cs (answers_to (act_on p sources) r cs)
 
-  abbrev ownAfter : List Call → Sharing → State
-  ownAfter cs r = own_of (state_after (act_on p sources) r cs) o
+  abbrev own_after : List Call → Sharing → State
+  own_after cs r = own_of (state_after (act_on p sources) r cs) o
 
   pub matched : (cs : List Call) (r : Sharing)
-      → (ps : List Event) × Passed (act p source) (own_of r o) (events_of o cs) (answersFrom cs r) ps (ownAfter cs r)
+      → (ps : List Event) × Passed (act p source) (own_of r o) (events_of o cs) (answers_from cs r) ps (own_after cs r)
   unfolding events_of answers_of answers_to state_after pick
   matched [] r = ([], Passed.none)
   matched (c ∷ cs) r = go (ℕ_discrete c.tenant o) (ℕ_discrete (act_on p sources r c).number 0) (matched cs next).0 (matched cs next).1
@@ -45,12 +45,12 @@ module _ (p : Plan) (sources : Sources) (o : ℕ) (low : o ≤ 1) where
       next = (act_on p sources r c).after
 
       M : Sharing → List Event → Type 0
-      M from ps = Passed (act p source) (own_of from o) (events_of o cs) (answersFrom cs next) ps (ownAfter cs next)
+      M from ps = Passed (act p source) (own_of from o) (events_of o cs) (answers_from cs next) ps (own_after cs next)
 
       go : Dec (c.tenant ≡ o) → Dec ((act_on p sources r c).number ≡ 0) → (qs : List Event) → M next qs
           → (ps : List Event)
           × Passed (act p source) (own_of r o) (pick (eqb c.tenant o) (c.event ∷ events_of o cs) (events_of o cs))
-          (pick (eqb c.tenant o) ((act_on p sources r c).number ∷ answersFrom cs next) (answersFrom cs next)) ps (ownAfter cs next)
+          (pick (eqb c.tenant o) ((act_on p sources r c).number ∷ answers_from cs next) (answers_from cs next)) ps (own_after cs next)
       go (yes e) (yes z) qs m =
           rw (eq-eqb c.tenant o e) (c.event ∷ qs, Passed.step z (step_number r c e z) (rw (step_own r c e z) at m))
       go (yes e) (no n) qs m =

@@ -12,7 +12,7 @@ use Rattle.base.proofs.Tests.{and_no}
 use Rattle.machine.specs.Plan.{Plan, Sound, tiles_of}
 use Rattle.machine.specs.Machine.{State, finished_of, stage_of, sent_of, turn, collect, fresh}
 use Rattle.machine.specs.Machine.{gather, carry_out, next_action}
-use Rattle.machine.specs.Runs.{Event, turn_of, deliveryOf, act, state_after, answers_to, last, steps, total, program}
+use Rattle.machine.specs.Runs.{Event, turn_of, delivery_of, act, state_after, answers_to, last, steps, total, program}
 use Rattle.machine.specs.Runs.{turns_of, Demand3}
 use Rattle.machine.proofs.Records.{fit_at, fit_is, fit_over}
 use Rattle.machine.proofs.Turns.{by_next, can, gives}
@@ -23,7 +23,7 @@ use Rattle.machine.proofs.Once.{once_passed, collects_like}
 use Rattle.tenants.specs.Tenants.{TenantAreas, holder_of, other_than, held_by_other, carry_out_for, engaged_after}
 use Rattle.tenants.specs.Tenants.{Sharing, Sources, source_for, own_of, other_of, lent_to, returned, fresh_sharing}
 use Rattle.tenants.specs.Tenants.{Call, turn_by, delivery_by, act_for, act_on, collect_on}
-use Rattle.tenants.specs.Demand208.{events_of, CarriedOutFor, answersFor, stepsFor, TenantDemand, Demand208, Isolated}
+use Rattle.tenants.specs.Demand208.{events_of, CarriedOutFor, answers_for, steps_for, TenantDemand, Demand208, Isolated}
 use Rattle.tenants.proofs.OneCall.{Admits, turn_number, turn_done, deliver_number, collect_is}
 use Rattle.tenants.proofs.OneCall.{tenant_cases, tenant_both, call_tenant, call_number, call_own, call_other}
 use Rattle.tenants.proofs.SharedWords.{held_begun}
@@ -62,7 +62,7 @@ module _ (p : Plan) (so : Sound p) (sources : Sources) (o : ℕ) (low : o ≤ 1)
   sharing = last (act_on p sources) (fresh_sharing p) cs
 
   abbrev numbers : List ℕ
-  numbers = answersFor (act_on p sources) (fresh_sharing p) cs o
+  numbers = answers_for (act_on p sources) (fresh_sharing p) cs o
 
   sharing_inv : SharingInv p sources sharing
   sharing_inv = inv_run p so sources cs (fresh_sharing p) (inv_start p sources)
@@ -88,7 +88,7 @@ module _ (p : Plan) (so : Sound p) (sources : Sources) (o : ℕ) (low : o ≤ 1)
   single : Demand3 (act p source) (fresh p) passed p source (collect p)
   single = theorem p so source passed
 
-  same_steps : steps (act p source) (fresh p) passed ≡ stepsFor (act_on p sources) (fresh_sharing p) cs o
+  same_steps : steps (act p source) (fresh p) passed ≡ steps_for (act_on p sources) (fresh_sharing p) cs o
   same_steps = steps_same (act p source) as_single
 
   same_turns : (b : ℕ) → turns_of b (events_of o cs) numbers ≡ turns_of b passed (answers_to (act p source) (fresh p) passed)
@@ -130,11 +130,11 @@ module _ (p : Plan) (so : Sound p) (sources : Sources) (o : ℕ) (low : o ≤ 1)
   -- ---- progress
 
   -- a call of this tenant gives 0: it has fewer steps
-  fewer : (e : Event) → (act p source (own_of sharing o) e).number ≡ 0 → stepsFor (act_on p sources) (fresh_sharing p) cs o < total p
+  fewer : (e : Event) → (act p source (own_of sharing o) e).number ≡ 0 → steps_for (act_on p sources) (fresh_sharing p) cs o < total p
   fewer e z = let k = single.then_fewer e (rw led_to z) in omega (arith, same_steps)
 
   -- what the machine would do the tenant can, where the other doesn't hold the processor
-  delivers : (m : ℕ) → (act p source (own_of sharing o) (deliveryOf m)).number ≡ 0 → (act_on p sources sharing (delivery_by o m)).number ≡ 0
+  delivers : (m : ℕ) → (act p source (own_of sharing o) (delivery_of m)).number ≡ 0 → (act_on p sources sharing (delivery_by o m)).number ≡ 0
   unfolding act_on act_for act
   delivers m z = deliver_number p o (lent_to sharing o) (other_of sharing o).progress m admits ∙ z
 
@@ -160,11 +160,11 @@ module _ (p : Plan) (so : Sound p) (sources : Sources) (cs : List Call) where
   abbrev after : Sharing
   after = last (act_on p sources) (fresh_sharing p) cs
 
-  abbrev stepsOn : ℕ → ℕ
-  stepsOn o = stepsFor (act_on p sources) (fresh_sharing p) cs o
+  abbrev steps_on : ℕ → ℕ
+  steps_on o = steps_for (act_on p sources) (fresh_sharing p) cs o
 
   -- a tenant with fewer steps: a call of it gives 0, or of the other, which holds the processor
-  goes : (o : ℕ) → o ≤ 1 → stepsOn o < total p → (c : Call) × ((act_on p sources after c).number ≡ 0)
+  goes : (o : ℕ) → o ≤ 1 → steps_on o < total p → (c : Call) × ((act_on p sources after c).number ≡ 0)
   goes o low h = start ((single p so sources o low cs).goes_on (omega (arith, same_steps p so sources o low cs)))
     where
       source : List ℕ
@@ -180,22 +180,22 @@ module _ (p : Plan) (so : Sound p) (sources : Sources) (cs : List Call) where
 
       by_event : (e : Event) → (act p source (own_of after o) e).number ≡ 0 → Goes
       by_event (turn_of b) z = by_turn b z (ℕ_discrete _ _)
-      by_event (deliveryOf m) z = (delivery_by o m, delivers p so sources o low cs m z)
+      by_event (delivery_of m) z = (delivery_by o m, delivers p so sources o low cs m z)
 
       start : (e : Event) × ((act p source (state_after (act p source) (fresh p) (passed p so sources o low cs)) e).number ≡ 0) → Goes
       start r = by_event r.0 (rw (led_to p so sources o low cs) at r).1
 
-  either_goes : (stepsOn 0 < total p) ⊎ (stepsOn 1 < total p) → (c : Call) × ((act_on p sources after c).number ≡ 0)
+  either_goes : (steps_on 0 < total p) ⊎ (steps_on 1 < total p) → (c : Call) × ((act_on p sources after c).number ≡ 0)
   either_goes (inl h) = goes 0 (omega arith) h
   either_goes (inr h) = goes 1 (omega arith) h
 
-  one_fewer : (c : Call) → (act_on p sources after c).number ≡ 0 → (stepsOn 0 < total p) ⊎ (stepsOn 1 < total p)
+  one_fewer : (c : Call) → (act_on p sources after c).number ≡ 0 → (steps_on 0 < total p) ⊎ (steps_on 1 < total p)
   one_fewer c z = go (tenant_cases c.tenant low) (fewer p so sources c.tenant low cs c.event (call_number p sources after c z))
     where
       low : c.tenant ≤ 1
       low = call_tenant p sources after c z
 
-      go : (c.tenant ≡ 0) ⊎ (c.tenant ≡ 1) → stepsOn c.tenant < total p → (stepsOn 0 < total p) ⊎ (stepsOn 1 < total p)
+      go : (c.tenant ≡ 0) ⊎ (c.tenant ≡ 1) → steps_on c.tenant < total p → (steps_on 0 < total p) ⊎ (steps_on 1 < total p)
       go (inl e) h = inl (rw e at h)
       go (inr e) h = inr (rw e at h)
 
@@ -204,7 +204,7 @@ module _ (p : Plan) (so : Sound p) (sources : Sources) (cs : List Call) where
       record {
         once = once_passed p (act p source) (as_single p so sources o low cs) D.once;
         collecting =
-            collects_like p source (stepsOn o ≡ total p) _ (collect_on p after o) _ (λ e. same ∙ e) (λ e. sym same ∙ e)
+            collects_like p source (steps_on o ≡ total p) _ (collect_on p after o) _ (λ e. same ∙ e) (λ e. sym same ∙ e)
             (λ grid len. collects_same p so sources o low cs grid) D.collecting;
         carried_out = λ before then b e z. carried p so sources o low before b z;
       }
@@ -215,7 +215,7 @@ module _ (p : Plan) (so : Sound p) (sources : Sources) (cs : List Call) where
       D : Demand3 (act p source) (fresh p) (passed p so sources o low cs) p source (collect p)
       D = single p so sources o low cs
 
-      same : steps (act p source) (fresh p) (passed p so sources o low cs) ≡ stepsOn o
+      same : steps (act p source) (fresh p) (passed p so sources o low cs) ≡ steps_on o
       same = same_steps p so sources o low cs
 
 pub theorem208 : (p : Plan) → Sound p → (sources : Sources) (calls : List Call)

@@ -17,7 +17,7 @@ use Rattle.machine.proofs.RunLaws.{after_of, ends}
 use Rattle.machine.proofs.Guards.{Guards, is_plain, plain_zero, guarded_zero, good_after, good_end, passes, alike_guards}
 use Rattle.machine.proofs.AnyCalls.{Follows, demand3_in, words_in, alone, follows, itself}
 use Rattle.tenants.specs.Tenants.{Sharing, Sources, source_for, own_of, other_of, lent_to, fresh_sharing, Call, act_on, collect_on}
-use Rattle.tenants.specs.Demand208.{Demand208, stepsFor}
+use Rattle.tenants.specs.Demand208.{Demand208, steps_for}
 use Rattle.tenants.specs.AnyCalls.{tenant_view, Words208, Demand3For, GoesOnFor, Alone208}
 use Rattle.tenants.proofs.OneCall.{collect_is, tenant_both, tenant_cases, call_refused, call_tenant, call_away}
 use Rattle.tenants.proofs.Engaged.{SharingInv, sharing_fit, inv_start, inv_next}
@@ -122,10 +122,10 @@ module _ (p : Plan) (so : Sound p) (sources : Sources) {C : Type 0} (call_of : C
     here = each (collect_on p) (λ r inv o grid len. refl) cs
 
     -- a tenant with steps left in one list has steps left in the other: else it could be collected
-    there : (o : ℕ) → o ≤ 1 → steps_of (tenant_view call_of o) calls (fresh_sharing p) cs < total p → stepsFor (act_on p sources) (fresh_sharing p) passed o < total p
-    there o low h = go (ℕ_discrete (stepsFor (act_on p sources) (fresh_sharing p) passed o) (total p))
+    there : (o : ℕ) → o ≤ 1 → steps_of (tenant_view call_of o) calls (fresh_sharing p) cs < total p → steps_for (act_on p sources) (fresh_sharing p) passed o < total p
+    there o low h = go (ℕ_discrete (steps_for (act_on p sources) (fresh_sharing p) passed o) (total p))
       where
-        go : Dec (stepsFor (act_on p sources) (fresh_sharing p) passed o ≡ total p) → stepsFor (act_on p sources) (fresh_sharing p) passed o < total p
+        go : Dec (steps_for (act_on p sources) (fresh_sharing p) passed o ≡ total p) → steps_for (act_on p sources) (fresh_sharing p) passed o < total p
         go (yes e) =
             let z = (plainly.each o low).collecting.can_collect e (replicate p.cells 0) (length-replicate _ _) in
             let k = (here o low).collecting.then_all (replicate p.cells 0) (length-replicate _ _) (rw led_to at z) in
@@ -133,7 +133,7 @@ module _ (p : Plan) (so : Sound p) (sources : Sources) {C : Type 0} (call_of : C
         go (no n) = let b = (plainly.each o low).once.bound in omega arith
 
     either_there : (steps_of (tenant_view call_of 0) calls (fresh_sharing p) cs < total p) ⊎ (steps_of (tenant_view call_of 1) calls (fresh_sharing p) cs < total p)
-        → (stepsFor (act_on p sources) (fresh_sharing p) passed 0 < total p) ⊎ (stepsFor (act_on p sources) (fresh_sharing p) passed 1 < total p)
+        → (steps_for (act_on p sources) (fresh_sharing p) passed 0 < total p) ⊎ (steps_for (act_on p sources) (fresh_sharing p) passed 1 < total p)
     either_there (inl h) = inl (there 0 (omega arith) h)
     either_there (inr h) = inr (there 1 (omega arith) h)
 
@@ -159,15 +159,15 @@ module _ (p : Plan) (so : Sound p) (sources : Sources) {C : Type 0} (call_of : C
 pub alone208 : (p : Plan) → Sound p → (o : ℕ) → o ≤ 1 → (sources sources' : Sources) → source_for sources' o ≡ source_for sources o
     → {C D : Type 0} (call_of : C → Call) (calls : Sharing → C → Answered Sharing) (allowed : C → Type 0)
     → Guards (SharingInv p sources) (act_on p sources) calls call_of allowed
-    → (callOf' : D → Call) (calls' : Sharing → D → Answered Sharing) (allowed' : D → Type 0)
-    → Guards (SharingInv p sources') (act_on p sources') calls' callOf' allowed'
-    → Alone208 call_of calls callOf' calls' (act p (source_for sources o)) p o
-alone208 p so o low sources sources' same call_of calls allowed gd callOf' calls' allowed' gd' =
+    → (call_of' : D → Call) (calls' : Sharing → D → Answered Sharing) (allowed' : D → Type 0)
+    → Guards (SharingInv p sources') (act_on p sources') calls' call_of' allowed'
+    → Alone208 call_of calls call_of' calls' (act p (source_for sources o)) p o
+alone208 p so o low sources sources' same call_of calls allowed gd call_of' calls' allowed' gd' =
     record {
       same_words =
           alone p so (source_for sources o) (SharingInv p sources) (tenant_view call_of o) calls (follows_for p so sources call_of calls allowed gd o low)
-          (fresh_sharing p) (inv_start p sources) (fresh_own p o) (SharingInv p sources') (tenant_view callOf' o) calls'
-          (rw same at (follows_for p so sources' callOf' calls' allowed' gd' o low)) (fresh_sharing p) (inv_start p sources') (fresh_own p o);
+          (fresh_sharing p) (inv_start p sources) (fresh_own p o) (SharingInv p sources') (tenant_view call_of' o) calls'
+          (rw same at (follows_for p so sources' call_of' calls' allowed' gd' o low)) (fresh_sharing p) (inv_start p sources') (fresh_own p o);
       as_single =
           alone p so (source_for sources o) (SharingInv p sources) (tenant_view call_of o) calls (follows_for p so sources call_of calls allowed gd o low)
           (fresh_sharing p) (inv_start p sources) (fresh_own p o) (Inv p (source_for sources o)) (whole (λ e. e)) (act p (source_for sources o))

@@ -12,7 +12,7 @@ use Rattle.machine.specs.Runs.{state_after, answers_to, last}
 use Rattle.machine.proofs.ComputedCalls.{small}
 use Rattle.tenants.specs.Tenants.{TenantAreas, tenant_areas, stage_agrees, fit_word, fit_for, held_by_other, freed_after, engaged_after, carry_out_for, turn_for}
 use Rattle.tenants.specs.Tenants.{deliver_for, act_for, act_on, of_tenant, Sources, sources_of, own_of, returned, fresh_sharing, Call, turn_by, delivery_by}
-use Rattle.tenants.specs.Demand208.{events_of, answers_of, answersFor}
+use Rattle.tenants.specs.Demand208.{events_of, answers_of, answers_for}
 use Rattle.tenants.specs.Fit.{FitWord, FitFor, Engaged}
 use Rattle.tenants.proofs.Theorem208.{isolated}
 use Rattle.tenants.proofs.Fit.{tests_for}
@@ -57,7 +57,7 @@ same_events : events_of 0 run ≡ events_of 0 run'
 unfolding run run' events_of pick
 same_events = refl
 
-same_answers : answersFor (act_on small left) (fresh_sharing small) run 0 ≡ answersFor (act_on small right) (fresh_sharing small) run' 0
+same_answers : answers_for (act_on small left) (fresh_sharing small) run 0 ≡ answers_for (act_on small right) (fresh_sharing small) run' 0
 unfolding small run run' answers_of those keep offset sublist put unpack unpack_all set_all store_all pack all_at every some one not pick ◌and◌ ◌or◌ first_of
     set_progress tiles_left fit_record fit after_sends carry_out action_at waiting fresh stage_agrees fit_word fit_for held_by_other freed_after engaged_after
     carry_out_for turn_for deliver_for of_tenant returned fresh_sharing act_for act_on state_after answers_to

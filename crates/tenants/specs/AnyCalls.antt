@@ -33,7 +33,7 @@ module _ {C : Type 0} (call_of : C → Call) (acts : Sharing → C → Answered 
         → (c : C) × ((acts (state_after acts start calls) c).number ≡ 0)
 
 -- nothing but the numbers tells one tenant of the other: two rigs, by calls of any kind each, and a tenant alone on a machine of its own
-pub record Alone208 {C D : Type 0} (call_of : C → Call) (acts : Sharing → C → Answered Sharing) (callOf' : D → Call) (acts' : Sharing → D → Answered Sharing)
+pub record Alone208 {C D : Type 0} (call_of : C → Call) (acts : Sharing → C → Answered Sharing) (call_of' : D → Call) (acts' : Sharing → D → Answered Sharing)
     (single : State → Event → Answered State) (p : Plan) (o : ℕ) : Type 0 where
-  pub same_words : Alone (tenant_view call_of o) acts (fresh_sharing p) (tenant_view callOf' o) acts' (fresh_sharing p)
+  pub same_words : Alone (tenant_view call_of o) acts (fresh_sharing p) (tenant_view call_of' o) acts' (fresh_sharing p)
   pub as_single : Alone (tenant_view call_of o) acts (fresh_sharing p) (whole (λ e. e)) single (fresh p)

@@ -28,18 +28,18 @@ pub record CarriedOutFor (p : Plan) (source : List ℕ) (r r' : Sharing) (o b k 
 -- the claim about a list of calls from `start`, by the answers that `acts` gives
 module _ (acts : Sharing → Call → Answered Sharing) (start : Sharing) (calls : List Call) where
   -- the numbers that tenant o's events got
-  abbrev pub answersFor : ℕ → List ℕ
-  answersFor o = answers_of o calls (answers acts start calls)
+  abbrev pub answers_for : ℕ → List ℕ
+  answers_for o = answers_of o calls (answers acts start calls)
 
   -- a step of tenant o is an event of it that gave 0
-  abbrev pub stepsFor : ℕ → ℕ
-  stepsFor o = steps_in (answersFor o)
+  abbrev pub steps_for : ℕ → ℕ
+  steps_for o = steps_in (answers_for o)
 
   -- one tenant's part, as document 01 has it for one
   pub record TenantDemand (p : Plan) (o : ℕ) (source : List ℕ) (collects : Sharing → ℕ → List ℕ → Answered (List ℕ)) : Type 0 where
-    pub once : Once p (events_of o calls) (answersFor o)
+    pub once : Once p (events_of o calls) (answers_for o)
     -- collecting for this tenant, and the sweep of its own source
-    pub collecting : Collects p source (stepsFor o ≡ total p) (collects (last acts start calls) o)
+    pub collecting : Collects p source (steps_for o ≡ total p) (collects (last acts start calls) o)
     -- each turn of this tenant that gave 0 carried out, by the rules, the action that the program names
     pub carried_out : (before after : List Call) (b : ℕ) → calls ≡ before ++ (turn_by o b ∷ after)
         → (acts (state_after acts start before) (turn_by o b)).number ≡ 0
@@ -49,12 +49,12 @@ module _ (acts : Sharing → Call → Answered Sharing) (start : Sharing) (calls
   pub record Demand208 (p : Plan) (sources : Sources) (collects : Sharing → ℕ → List ℕ → Answered (List ℕ)) : Type 0 where
     pub each : (o : ℕ) → o ≤ 1 → TenantDemand p o (source_for sources o) collects
     -- some turn or delivery of one of the two would give 0 exactly while either has fewer steps
-    pub goes_on : (stepsFor 0 < total p) ⊎ (stepsFor 1 < total p) → (c : Call) × ((acts (last acts start calls) c).number ≡ 0)
-    pub then_fewer : (c : Call) → (acts (last acts start calls) c).number ≡ 0 → (stepsFor 0 < total p) ⊎ (stepsFor 1 < total p)
+    pub goes_on : (steps_for 0 < total p) ⊎ (steps_for 1 < total p) → (c : Call) × ((acts (last acts start calls) c).number ≡ 0)
+    pub then_fewer : (c : Call) → (acts (last acts start calls) c).number ≡ 0 → (steps_for 0 < total p) ⊎ (steps_for 1 < total p)
 
 -- two runs that agree on tenant o's events and the numbers they got leave the same words in its own areas, whatever the other
 -- tenant's source and calls were, and however the two were mixed. The shared words are no part of it.
 pub record Isolated (o : ℕ) (acts acts' : Sharing → Call → Answered Sharing) (start start' : Sharing) : Type 0 where
   pub same_words : (calls calls' : List Call) → events_of o calls ≡ events_of o calls'
-      → answersFor acts start calls o ≡ answersFor acts' start' calls' o
+      → answers_for acts start calls o ≡ answers_for acts' start' calls' o
       → own_of (last acts start calls) o ≡ own_of (last acts' start' calls') o

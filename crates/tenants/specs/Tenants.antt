@@ -8,7 +8,7 @@ use Rattle.machine.specs.Plan.{Plan, count, sender_of, sends_of}
 use Rattle.machine.specs.Machine as machine
 use Rattle.machine.specs.Machine.{State, state_of, progress_only, stage_of, sent_of, tiles_left, fit_record, fit, waiting, collected}
 use Rattle.machine.specs.Machine.{Action, gather, calculate, send, carry_out, next_action, Answered, answered}
-use Rattle.machine.specs.Runs.{Event, turn_of, deliveryOf}
+use Rattle.machine.specs.Runs.{Event, turn_of, delivery_of}
 
 -- ---- what a call of one tenant is lent
 
@@ -152,11 +152,11 @@ abbrev pub turn_by : ℕ → ℕ → Call
 turn_by o b = record { tenant = o; event = turn_of b }
 
 abbrev pub delivery_by : ℕ → ℕ → Call
-delivery_by o m = record { tenant = o; event = deliveryOf m }
+delivery_by o m = record { tenant = o; event = delivery_of m }
 
 unfoldable pub act_for : Plan → List ℕ → ℕ → TenantAreas → List ℕ → Event → Answered TenantAreas
 act_for p source o l theirs (turn_of b) = turn_for p source o l theirs b
-act_for p source o l theirs (deliveryOf m) = deliver_for p o l theirs m
+act_for p source o l theirs (delivery_of m) = deliver_for p o l theirs m
 
 abbrev pub put_back : Sharing → ℕ → Answered TenantAreas → Answered Sharing
 put_back r o a = record { number = a.number; after = returned r o a.after }

@@ -80,8 +80,8 @@ module _ (l out : List ℕ) where
 
 -- ---- what a processor waits for
 
-abbrev askedLines : Plan → State → ℕ → List Line
-askedLines p s b = line 11 (not (ltb b p.processors)) ∷ line 13 (not (tiles_left p s b)) ∷ []
+abbrev asked_lines : Plan → State → ℕ → List Line
+asked_lines p s b = line 11 (not (ltb b p.processors)) ∷ line 13 (not (tiles_left p s b)) ∷ []
 
 module _ (l : List ℕ) (route : ℕ) (s : State) (b : ℕ) (marks : List ℕ) where
   -- as a refusal leaves it
@@ -93,9 +93,9 @@ module _ (l : List ℕ) (route : ℕ) (s : State) (b : ℕ) (marks : List ℕ) w
   awaited-read r e h = call_read (lines_for (route_of route) l) (numbered_for (route_of route) l) _ r _ w e h
 
   module _ (p : Plan) (o : Opened l route p) where
-    awaited-at : answered (first_of (lines_for (route_of route) l ++ (unasked_lines p s marks ++ askedLines p s b))) (waited p s b) w ≡ awaited_call l route s b marks
+    awaited-at : answered (first_of (lines_for (route_of route) l ++ (unasked_lines p s marks ++ asked_lines p s b))) (waited p s b) w ≡ awaited_call l route s b marks
     unfolding awaited_call
-    awaited-at = ap (λ (q : Plan). answered (first_of (lines_for (route_of route) l ++ (unasked_lines q s marks ++ askedLines q s b))) (waited q s b) w) o.is
+    awaited-at = ap (λ (q : Plan). answered (first_of (lines_for (route_of route) l ++ (unasked_lines q s marks ++ asked_lines q s b))) (waited q s b) w) o.is
 
     module _ (r : ℕ) (e : r ≡ first_of (unasked_lines p s marks)) where
       pub awaited-unasked : r ≢ 0 → answer r w ≡ awaited_call l route s b marks
@@ -105,10 +105,10 @@ module _ (l : List ℕ) (route : ℕ) (s : State) (b : ℕ) (marks : List ℕ) w
           ∙ awaited-at
 
       module _ (z : r ≡ 0) where
-        past : first_of (unasked_lines p s marks ++ askedLines p s b) ≡ first_of (askedLines p s b)
+        past : first_of (unasked_lines p s marks ++ asked_lines p s b) ≡ first_of (asked_lines p s b)
         past =
             let q = lines_none p s marks r e z in
-            first_false 9 (not (wait_areas p s marks)) _ (not-true q.0) ∙ first_false 10 (not (fit p s)) (askedLines p s b) (not-true q.1)
+            first_false 9 (not (wait_areas p s marks)) _ (not-true q.0) ∙ first_false 10 (not (fit p s)) (asked_lines p s b) (not-true q.1)
 
         pub awaited-beyond : p.processors ≤ b → answer 11 w ≡ awaited_call l route s b marks
         awaited-beyond h =
@@ -121,17 +121,17 @@ module _ (l : List ℕ) (route : ℕ) (s : State) (b : ℕ) (marks : List ℕ) w
             t
             ∙ ap (λ (n : ℕ). answered n (waited p s b) w)
             (sym
-            (first_behind (lines_for (route_of route) l) (unasked_lines p s marks ++ askedLines p s b) (numbered_for (route_of route) l) o.none
+            (first_behind (lines_for (route_of route) l) (unasked_lines p s marks ++ asked_lines p s b) (numbered_for (route_of route) l) o.none
             ∙ past ∙ first_false 11 (not (ltb b p.processors)) (line 13 (not (tiles_left p s b)) ∷ []) (not-true (lt-ltb b p.processors h))))
             ∙ awaited-at
 
 -- ---- a message taken in
 
-abbrev takingLines : Plan → State → ℕ → ℕ → List Line
-takingLines p s b m = line 11 (not (taken_by p b m)) ∷ line 14 (not (eqb (get_or s.status m 0) 0)) ∷ []
+abbrev taking_lines : Plan → State → ℕ → ℕ → List Line
+taking_lines p s b m = line 11 (not (taken_by p b m)) ∷ line 14 (not (eqb (get_or s.status m 0) 0)) ∷ []
 
-abbrev longLine : Plan → List ℕ → State → ℕ → List ℕ → Line
-longLine p source s m ws = line 9 (not (areas p source s and as_long p m ws))
+abbrev long_line : Plan → List ℕ → State → ℕ → List ℕ → Line
+long_line p source s m ws = line 9 (not (areas p source s and as_long p m ws))
 
 module _ (l : List ℕ) (route : ℕ) (source : List ℕ) (s : State) (b m : ℕ) (ws : List ℕ) where
   pub take-in-read : (r : ℕ) → r ≡ first_of (lines_for (route_of route) l) → r ≢ 0 → answer r s ≡ take_in_call l route source s b m ws
@@ -139,13 +139,13 @@ module _ (l : List ℕ) (route : ℕ) (source : List ℕ) (s : State) (b m : ℕ
   take-in-read r e h = call_read (lines_for (route_of route) l) (numbered_for (route_of route) l) _ r _ s e h
 
   module _ (p : Plan) (o : Opened l route p) where
-    take-in-at : answered (first_of (lines_for (route_of route) l ++ (longLine p source s m ws ∷ line 10 (not (fit p s)) ∷ takingLines p s b m)))
+    take-in-at : answered (first_of (lines_for (route_of route) l ++ (long_line p source s m ws ∷ line 10 (not (fit p s)) ∷ taking_lines p s b m)))
         (received p s m ws) s ≡ take_in_call l route source s b m ws
     unfolding take_in_call
     take-in-at =
         ap
         (λ (q : Plan).
-        answered (first_of (lines_for (route_of route) l ++ (longLine q source s m ws ∷ line 10 (not (fit q s)) ∷ takingLines q s b m)))
+        answered (first_of (lines_for (route_of route) l ++ (long_line q source s m ws ∷ line 10 (not (fit q s)) ∷ taking_lines q s b m)))
         (received q s m ws) s)
         o.is
 
@@ -155,10 +155,10 @@ module _ (l : List ℕ) (route : ℕ) (source : List ℕ) (s : State) (b m : ℕ
         (λ q. omega arith) ∙ take-in-at
 
     module _ (long : as_long p m ws ≡ true) (r : ℕ) (e : r ≡ first_of (unfit_lines p source s)) where
-      same_lines : first_of (longLine p source s m ws ∷ line 10 (not (fit p s)) ∷ takingLines p s b m)
-          ≡ first_of (unfit_lines p source s ++ takingLines p s b m)
+      same_lines : first_of (long_line p source s m ws ∷ line 10 (not (fit p s)) ∷ taking_lines p s b m)
+          ≡ first_of (unfit_lines p source s ++ taking_lines p s b m)
       same_lines =
-          ap (λ (t : Bool). first_of (line 9 (not t) ∷ line 10 (not (fit p s)) ∷ takingLines p s b m)) (and_right (areas p source s) (as_long p m ws) long)
+          ap (λ (t : Bool). first_of (line 9 (not t) ∷ line 10 (not (fit p s)) ∷ taking_lines p s b m)) (and_right (areas p source s) (as_long p m ws) long)
 
       pub take-in-unfit : r ≢ 0 → answer r s ≡ take_in_call l route source s b m ws
       take-in-unfit h =
@@ -172,7 +172,7 @@ module _ (l : List ℕ) (route : ℕ) (source : List ℕ) (s : State) (b m : ℕ
           t
           ∙ ap (λ (n : ℕ). answered n (received p s m ws) s)
           (sym
-          (first_behind (lines_for (route_of route) l) (longLine p source s m ws ∷ line 10 (not (fit p s)) ∷ takingLines p s b m)
+          (first_behind (lines_for (route_of route) l) (long_line p source s m ws ∷ line 10 (not (fit p s)) ∷ taking_lines p s b m)
           (numbered_for (route_of route) l) o.none
-          ∙ same_lines ∙ first_false 9 (not (areas p source s)) _ (not-true q.0) ∙ first_false 10 (not (fit p s)) (takingLines p s b m) (not-true q.1)))
+          ∙ same_lines ∙ first_false 9 (not (areas p source s)) _ (not-true q.0) ∙ first_false 10 (not (fit p s)) (taking_lines p s b m) (not-true q.1)))
           ∙ take-in-at

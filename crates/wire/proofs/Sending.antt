@@ -37,7 +37,7 @@ use Rattle.packets.specs.Fingerprint.{fingerprint_of}
 use Rattle.packets.specs.Packet.{packet_length, encode_packet, unfit}
 use Rattle.packets.specs.Cut.{chunks_of, chunk_length, cut}
 use Rattle.packets.specs.Calls.{Written, written_of, write_call}
-use Rattle.packets.proofs.Answers.{headerFrom, fit_is, write_done}
+use Rattle.packets.proofs.Answers.{header_from, fit_is, write_done}
 use Rattle.packets.proofs.Assembling.{begins, ends, cut_length}
 use Rattle.packets.proofs.RoundTrip.{encode_length}
 use Rattle.wire.specs.Wire.{Label, label, headed, item_packet, Letter, letter_of, letter, packet_lines, packet_call, message_label, packet_of, send_lines}
@@ -145,11 +145,11 @@ module _ (ws : List ℕ) (k j s : ℕ) (ej : j ≡ k) (es : s ≡ chunk_length (
 
   -- and its packet
   pub chunk_packet : (f n life kind from to item c : ℕ) (space : List ℕ) → c ≡ chunks_of (length ws) → (x : Letter)
-      → x ≡ letter (encode_packet (headerFrom f n life kind from to item k c) (take (j * 285 + s - j * 285) (drop (j * 285) ws))) space
+      → x ≡ letter (encode_packet (header_from f n life kind from to item k c) (take (j * 285 + s - j * 285) (drop (j * 285) ws))) space
       → x ≡ letter (item_packet (label f n life kind from to item) ws k) space
   unfolding item_packet headed
   chunk_packet f n life kind from to item c space ec x e =
-      e ∙ ap₂ (λ (y : ℕ) (l : List ℕ). letter (encode_packet (headerFrom f n life kind from to item k y) l) space) ec chunk_words
+      e ∙ ap₂ (λ (y : ℕ) (l : List ℕ). letter (encode_packet (header_from f n life kind from to item k y) l) space) ec chunk_words
 
 -- ---- a message: the number
 

@@ -38,19 +38,19 @@ module _ (x : Nest) where
   bound_long k = refl
 
   -- a distance's record by its width
-  abbrev narrowOf : ℕ → List ℕ
-  narrowOf e = narrow_record (component x e 0) (component x e 1) (component x e 2) (component x e 3) (weight x e)
+  abbrev narrow_of : ℕ → List ℕ
+  narrow_of e = narrow_record (component x e 0) (component x e 1) (component x e 2) (component x e 3) (weight x e)
 
   abbrev wide_of : ℕ → List ℕ
   wide_of e = wide_record (component x e 0) (component x e 1) (component x e 2) (component x e 3) (weight x e)
 
-  pub spelled_narrow : (e : ℕ) → narrow x e ≡ true → distance_of x e ≡ narrowOf e
+  pub spelled_narrow : (e : ℕ) → narrow x e ≡ true → distance_of x e ≡ narrow_of e
   unfolding distance_of
-  spelled_narrow e h = pick_true (narrow x e) (narrowOf e) (wide_of e) h
+  spelled_narrow e h = pick_true (narrow x e) (narrow_of e) (wide_of e) h
 
   pub spelled_wide : (e : ℕ) → narrow x e ≡ false → distance_of x e ≡ wide_of e
   unfolding distance_of
-  spelled_wide e h = pick_false (narrow x e) (narrowOf e) (wide_of e) h
+  spelled_wide e h = pick_false (narrow x e) (narrow_of e) (wide_of e) h
 
   distance_long : (e : ℕ) → length (distance_of x e) ≡ 16
   unfolding narrow_record wide_record

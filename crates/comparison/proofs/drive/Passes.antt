@@ -12,7 +12,7 @@ use Rattle.base.specs.Tests.{◌and◌, ◌or◌, one, pick}
 use Rattle.base.specs.Lists.{count_if}
 use Rattle.base.proofs.Tests.{or_right, pick_true, pick_false, one_true}
 use Rattle.machine.specs.Machine.{State, Answered}
-use Rattle.machine.specs.Runs.{Event, turn_of, deliveryOf, state_after, answers_to, steps}
+use Rattle.machine.specs.Runs.{Event, turn_of, delivery_of, state_after, answers_to, steps}
 use Rattle.machine.proofs.RunLaws.{steps_append, steps_one}
 use Rattle.comparison.specs.drive.Drive.{in_order, turns_to, turns, deliveries_to, took, round_of}
 use Rattle.comparison.specs.declared.drive.Order.{Order}
@@ -86,15 +86,15 @@ module _ (acts : State → Event → Answered State) where
         go below here (inl e) = rw e here
         go below here (inr l) = below l
 
-    pub idle_delivery : (s : State) (n : ℕ) → steps acts s (deliveries_to n) ≡ 0 → (k : ℕ) → k < n → (acts s (deliveryOf k)).number ≢ 0
+    pub idle_delivery : (s : State) (n : ℕ) → steps acts s (deliveries_to n) ≡ 0 → (k : ℕ) → k < n → (acts s (delivery_of k)).number ≢ 0
     unfolding deliveries_to
     idle_delivery s zero h k l = absurd (omega arith)
     idle_delivery s (suc n) h k l =
-        let x = idle_both s (deliveries_to n) (deliveryOf n ∷ []) h in
+        let x = idle_both s (deliveries_to n) (delivery_of n ∷ []) h in
         go (λ l. idle_delivery s n x.0 k l) (idle_one s _ (sym (steps_one acts s _) ∙ x.1)) (eq-or-lt_of_le (omega arith))
       where
-        go : (k < n → (acts s (deliveryOf k)).number ≢ 0) → (acts s (deliveryOf n)).number ≢ 0 → (k ≡ n) ⊎ (k < n)
-            → (acts s (deliveryOf k)).number ≢ 0
+        go : (k < n → (acts s (delivery_of k)).number ≢ 0) → (acts s (delivery_of n)).number ≢ 0 → (k ≡ n) ⊎ (k < n)
+            → (acts s (delivery_of k)).number ≢ 0
         go below here (inl e) = rw e here
         go below here (inr l) = below l
 
@@ -114,5 +114,5 @@ module _ (acts : State → Event → Answered State) where
           let k = placed o.processors o.falling b l in
           rw k.2 at (idle_turn o.processors o.falling s o.processors idle_parts.0 k.0 k.1)
 
-      pub no_delivery : (m : ℕ) → m < o.messages → (acts s (deliveryOf m)).number ≢ 0
+      pub no_delivery : (m : ℕ) → m < o.messages → (acts s (delivery_of m)).number ≢ 0
       no_delivery m l = idle_delivery s o.messages idle_parts.1 m l

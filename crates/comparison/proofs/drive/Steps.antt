@@ -13,7 +13,7 @@ use Rattle.base.specs.Tests.{◌and◌, ◌or◌}
 use Rattle.base.specs.Lists.{count_if}
 use Rattle.base.proofs.Tests.{pick_true, pick_false}
 use Rattle.machine.specs.Machine.{State, Answered}
-use Rattle.machine.specs.Runs.{Event, turn_of, deliveryOf, state_after, answers_to, steps}
+use Rattle.machine.specs.Runs.{Event, turn_of, delivery_of, state_after, answers_to, steps}
 use Rattle.base.specs.Lists.{Bytes}
 use Rattle.engine.specs.Calls.{answer, turn_call, deliver_call}
 use Rattle.engine.specs.Demands.{calls}
@@ -117,7 +117,7 @@ module _ (bytes source : List ℕ) (s : State) where
   unfolding deliveries_to calls
   deliveries_next n done this next t u h d k =
       rw add-one
-      (more (calls bytes 0 source) s (deliveries_to n) (deliveryOf n) done next t u (deliver_call bytes 0 source t n).number h
+      (more (calls bytes 0 source) s (deliveries_to n) (delivery_of n) done next t u (deliver_call bytes 0 source t n).number h
       (ap (λ (x : State). answer (deliver_call bytes 0 source t n).number x) d.state) (k ∙ ap (λ (x : Bool). done or x) d.done))
 
   pub deliveries_done : (M n : ℕ) (done : Bool) (t : State) → n ≤ M → M ≤ n → Tried (calls bytes 0 source) s (deliveries_to n) done t

@@ -14,7 +14,7 @@ use Rattle.base.proofs.Tests.{true_not}
 use Rattle.base.proofs.Numbers.{none_first, none_behind}
 use Rattle.machine.specs.Plan.{count}
 use Rattle.machine.specs.Machine.{State, Answered}
-use Rattle.machine.specs.Runs.{Event, turn_of, deliveryOf, state_after, answers_to, total, steps, Demand3}
+use Rattle.machine.specs.Runs.{Event, turn_of, delivery_of, state_after, answers_to, total, steps, Demand3}
 use Rattle.base.specs.Lists.{Bytes}
 use Rattle.layout.specs.RouteWords.{route_of}
 use Rattle.recipe.specs.Routes.{lines_for}
@@ -56,7 +56,7 @@ module _ (bytes source : List ℕ) where
   pub refuses : (s : State) (e : Event) → (acts s e).number ≢ 0 → (acts s e).after ≡ s
   unfolding calls
   refuses s (turn_of b) h = ((demands.one bytes 0 source s).turn b).refuses h
-  refuses s (deliveryOf m) h = ((demands.one bytes 0 source s).deliver m).refuses h
+  refuses s (delivery_of m) h = ((demands.one bytes 0 source s).deliver m).refuses h
 
   -- after a round in which nothing was done no call gives 0
   module _ (o : Order) (sized : o.processors ≡ (recipe bytes 0).processors) (counted : o.messages ≡ count (recipe bytes 0)) where
@@ -64,7 +64,7 @@ module _ (bytes source : List ℕ) where
     unfolding calls
     stuck s idle (turn_of b) z =
         passes.no_turn acts refuses o s idle b (omega (arith, sized, turn_low bytes source s b z)) z
-    stuck s idle (deliveryOf m) z =
+    stuck s idle (delivery_of m) z =
         passes.no_delivery acts refuses o s idle m (omega (arith, counted, (delivery_low bytes source s m z).0)) z
 
     module _ (start : State) (run : (es : List Event) → Demand3 acts start es (recipe bytes 0) source (collect_call bytes 0 source)) where

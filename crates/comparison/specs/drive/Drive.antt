@@ -5,7 +5,7 @@ use Rattle.std.specs.Prelude.{ℕ, zero, suc, ◌-◌, ◌≡◌, Bool, List, []
 use Rattle.base.specs.Tests.{◌and◌, pick}
 use Rattle.machine.specs.Plan.{count}
 use Rattle.machine.specs.Machine.{State, Answered}
-use Rattle.machine.specs.Runs.{Event, turn_of, deliveryOf, state_after, total, steps}
+use Rattle.machine.specs.Runs.{Event, turn_of, delivery_of, state_after, total, steps}
 use Rattle.engine.specs.Calls.{recipe, fresh_call}
 use Rattle.engine.specs.Demands.{calls}
 use Rattle.comparison.specs.declared.drive.Order.{Order}
@@ -22,7 +22,7 @@ turns_to processors falling (suc n) = turns_to processors falling n ++ (turn_of 
 -- the deliveries of the first n messages
 unfoldable pub deliveries_to : ℕ → List Event
 deliveries_to zero = []
-deliveries_to (suc n) = deliveries_to n ++ (deliveryOf n ∷ [])
+deliveries_to (suc n) = deliveries_to n ++ (delivery_of n ∷ [])
 
 abbrev pub turns : Order → List Event
 turns o = turns_to o.processors o.falling o.processors

@@ -40,7 +40,7 @@ use Rattle.network_runs.proofs.Demands.{apart_demands}
 use Rattle.part.specs.Part.{part_fits}
 use Rattle.part_calls.specs.front.Calls.{from_part, to_part, part_collected, part_collect_call}
 use Rattle.network_runs.specs.part.Runs.{PartSources, part_start, acts_on_parts, collected_to}
-use Rattle.network_runs.specs.part.Demands.{BegunApart, ownAfter, stepsTaken, PartDemand3, PartDemands}
+use Rattle.network_runs.specs.part.Demands.{BegunApart, own_after, steps_taken, PartDemand3, PartDemands}
 use Rattle.network_runs.proofs.part.OnePart.{part_fits_lem, fresh_gives, fresh_leaves, collect_on_part, own_word_in}
 use Rattle.network_runs.proofs.part.Steps.{Parts, Likened, event_likened}
 
@@ -188,39 +188,39 @@ module _ (bytes : List ℕ) (route : ℕ) (source : List ℕ) (sources : PartSou
       cc
 
   module _ (events : List NetworkEvent) where
-    abbrev reached : (t : State) × Relates t (last_network plan source events) (ownAfter bytes route source sources lent events)
+    abbrev reached : (t : State) × Relates t (last_network plan source events) (own_after bytes route source sources lent events)
     reached = ends events (fresh plan) (start_network plan) (part_start bytes route lent) starts
 
-    abbrev there-areas : AreasApart
-    there-areas = (last_network plan source events).areas
+    abbrev there_areas : AreasApart
+    there_areas = (last_network plan source events).areas
 
     known : MachineByPackets plan source events
     known = theorem_packets plan so source events
 
-    lent_there : (b : ℕ) → b < plan.processors → PlanLengths plan source (there-areas b)
+    lent_there : (b : ℕ) → b < plan.processors → PlanLengths plan source (there_areas b)
     lent_there = lent_here plan so reads_own source bg.whole reached.0 (last_network plan source events) reached.1.follows
 
-    fit_there : (b : ℕ) → b < plan.processors → fit plan (there-areas b) ≡ true
+    fit_there : (b : ℕ) → b < plan.processors → fit plan (there_areas b) ≡ true
     fit_there = fit_here plan so reads_own source bg.whole reached.0 (last_network plan source events) reached.1.follows
 
-    module _ (all : stepsTaken bytes route source sources lent events ≡ total plan) where
-      none_left : some (λ b. tiles_left plan (there-areas b) b) plan.processors ≡ false
+    module _ (all : steps_taken bytes route source sources lent events ≡ total plan) where
+      none_left : some (λ b. tiles_left plan (there_areas b) b) plan.processors ≡ false
       unfolding collect_apart
       none_left =
           is_false (λ e. let z = known.collecting.can_collect all (tabulate (λ c. 0) plan.cells) (length_tabulate (λ c. 0) plan.cells) in
           omega (arith, sym (first_true 15 _ [] e) ∙ z))
 
-      done_there : (b : ℕ) → b < plan.processors → tiles_left plan (there-areas b) b ≡ false
-      done_there = none_some (λ b. tiles_left plan (there-areas b) b) plan.processors none_left
+      done_there : (b : ℕ) → b < plan.processors → tiles_left plan (there_areas b) b ≡ false
+      done_there = none_some (λ b. tiles_left plan (there_areas b) b) plan.processors none_left
 
-      after_is : (old : List ℕ) → length old ≡ plan.cells → (collect_apart plan there-areas old).after ≡ assembled plan there-areas
+      after_is : (old : List ℕ) → length old ≡ plan.cells → (collect_apart plan there_areas old).after ≡ assembled plan there_areas
       unfolding collect_apart
       after_is old long = pick_true _ _ _ (eq-eqb _ 0 (known.collecting.can_collect all old long))
 
       grid_is : (old : List ℕ) → length old ≡ plan.cells
-          → collected_to bytes route (ownAfter bytes route source sources lent events).areas old plan.processors ≡ sweep plan source
+          → collected_to bytes route (own_after bytes route source sources lent events).areas old plan.processors ≡ sweep plan source
       grid_is old long =
-          all_there bytes route bg.accepted so source there-areas (ownAfter bytes route source sources lent events).areas reached.1.parts lent_there
+          all_there bytes route bg.accepted so source there_areas (own_after bytes route source sources lent events).areas reached.1.parts lent_there
           fit_there done_there old long plan.processors refl (some_processor bytes route bg.small bg.accepted)
           ∙ sym (after_is old long) ∙ known.collecting.grid all old long
 
@@ -233,7 +233,7 @@ module _ (bytes : List ℕ) (route : ℕ) (source : List ℕ) (sources : PartSou
           same_parts = reached.1.parts;
           each_collects = λ all b h grid long.
               ap (λ (x : Answered (List ℕ)). x.number)
-              (collects bytes route bg.accepted so source there-areas (ownAfter bytes route source sources lent events).areas reached.1.parts lent_there
+              (collects bytes route bg.accepted so source there_areas (own_after bytes route source sources lent events).areas reached.1.parts lent_there
               fit_there (done_there all) b h grid long);
           grid = grid_is;
         }

@@ -20,7 +20,7 @@ use Rattle.layout.specs.RouteWords.{route_of}
 use Rattle.recipe.specs.Routes.{lines_for}
 use Rattle.engine.specs.Calls.{recipe}
 use Rattle.network.specs.Apart.{AreasApart, replaced, sender_at, taker_at, marked, received, sent_off, arrived, turn_apart}
-use Rattle.network.specs.Packets.{Packet, Network, network_of, packet_at, status_at, NetworkEvent, turn_by, post_of, arrivalOf, posted, post, arrive}
+use Rattle.network.specs.Packets.{Packet, Network, network_of, packet_at, status_at, NetworkEvent, turn_by, post_of, arrival_of, posted, post, arrive}
 use Rattle.network.specs.Packets.{turn_network, act_network}
 use Rattle.network.specs.Locality.{PlanLengths, ReadsOwnWord}
 use Rattle.network.specs.Own.{handles, own_cells}
@@ -292,4 +292,4 @@ module _ (bytes : List ℕ) (route : ℕ) (ok : first_of (lines_for (route_of ro
     unfolding acts_on_parts act_network
     event_likened (turn_by b) = turn_likened b
     event_likened (post_of m) = post_likened m
-    event_likened (arrivalOf k) = arrive_likened k
+    event_likened (arrival_of k) = arrive_likened k

@@ -10,7 +10,7 @@ use Rattle.layout.specs.RouteWords.{route_of}
 use Rattle.recipe.specs.Routes.{lines_for}
 use Rattle.engine.specs.Calls.{recipe}
 use Rattle.network.specs.Apart.{AreasApart}
-use Rattle.network.specs.Packets.{Network, NetworkEvent, act_network, start_network, stepsBeside, last_network, MachineByPackets}
+use Rattle.network.specs.Packets.{Network, NetworkEvent, act_network, start_network, steps_beside, last_network, MachineByPackets}
 use Rattle.network.specs.Own.{own_cells}
 use Rattle.part.specs.Part.{part_fits}
 use Rattle.part_calls.specs.front.Calls.{to_part, part_fresh_call, part_collect_call}
@@ -26,28 +26,28 @@ pub record BegunApart (bytes : List ℕ) (route : ℕ) (source : List ℕ) (sour
 
 -- after these events
 module _ (bytes : List ℕ) (route : ℕ) (source : List ℕ) (sources : PartSources) (lent : AreasApart) (events : List NetworkEvent) where
-  abbrev pub ownAfter : Network
-  ownAfter = last (acts_on_parts bytes route sources) (part_start bytes route lent) events
+  abbrev pub own_after : Network
+  own_after = last (acts_on_parts bytes route sources) (part_start bytes route lent) events
 
   -- steps that the machine has taken
-  abbrev pub stepsTaken : ℕ
-  stepsTaken =
-      stepsBeside (act_network (recipe bytes route) source) (start_network (recipe bytes route)) events (recipe bytes route) (act (recipe bytes route) source)
+  abbrev pub steps_taken : ℕ
+  steps_taken =
+      steps_beside (act_network (recipe bytes route) source) (start_network (recipe bytes route)) events (recipe bytes route) (act (recipe bytes route) source)
 
   pub record PartDemand3 : Type 0 where
     -- the answers, one by one, and the packets are those of the machine's network, of which all is known
     pub same_answers : answers (acts_on_parts bytes route sources) (part_start bytes route lent) events
         ≡ answers (act_network (recipe bytes route) source) (start_network (recipe bytes route)) events
-    pub same_packets : ownAfter.packets ≡ (last_network (recipe bytes route) source events).packets
+    pub same_packets : own_after.packets ≡ (last_network (recipe bytes route) source events).packets
     pub by_packets : MachineByPackets (recipe bytes route) source events
     -- each processor has its part
     pub same_parts : (b : ℕ) → b < (recipe bytes route).processors
-        → ownAfter.areas b ≡ to_part (recipe bytes route) b ((last_network (recipe bytes route) source events).areas b)
+        → own_after.areas b ≡ to_part (recipe bytes route) b ((last_network (recipe bytes route) source events).areas b)
     -- once all steps are taken each part is collected, into a grid of any content, and all of them make up the sequential sweep
-    pub each_collects : stepsTaken ≡ total (recipe bytes route) → (b : ℕ) → b < (recipe bytes route).processors
-        → (grid : List ℕ) → length grid ≡ (recipe bytes route).cells → (part_collect_call bytes route (ownAfter.areas b) b grid).number ≡ 0
-    pub grid : stepsTaken ≡ total (recipe bytes route) → (old : List ℕ) → length old ≡ (recipe bytes route).cells
-        → collected_to bytes route ownAfter.areas old (recipe bytes route).processors ≡ sweep (recipe bytes route) source
+    pub each_collects : steps_taken ≡ total (recipe bytes route) → (b : ℕ) → b < (recipe bytes route).processors
+        → (grid : List ℕ) → length grid ≡ (recipe bytes route).cells → (part_collect_call bytes route (own_after.areas b) b grid).number ≡ 0
+    pub grid : steps_taken ≡ total (recipe bytes route) → (old : List ℕ) → length old ≡ (recipe bytes route).cells
+        → collected_to bytes route own_after.areas old (recipe bytes route).processors ≡ sweep (recipe bytes route) source
 
 pub record PartDemands : Type 0 where
   -- every accepted recipe can so begin, with any source of its length, in areas of their lengths and any content; and there are such

@@ -8,7 +8,7 @@ use Rattle.machine.specs.Plan.{Plan, count, held_by}
 use Rattle.machine.specs.Machine.{State, Answered}
 use Rattle.engine.specs.Calls.{recipe}
 use Rattle.network.specs.Apart.{AreasApart, replaced, sender_at, taker_at}
-use Rattle.network.specs.Packets.{Packet, Network, network_of, packet_at, NetworkEvent, turn_by, post_of, arrivalOf}
+use Rattle.network.specs.Packets.{Packet, Network, network_of, packet_at, NetworkEvent, turn_by, post_of, arrival_of}
 use Rattle.part.specs.Part.{mail_at}
 use Rattle.part_calls.specs.front.Calls.{part_fresh_call, part_turn_call, part_post_call, part_arrive_call, part_collect_call}
 
@@ -83,7 +83,7 @@ arrive_on_part bytes route n k =
 unfoldable pub acts_on_parts : List ℕ → ℕ → PartSources → Network → NetworkEvent → Answered Network
 acts_on_parts bytes route sources n (turn_by b) = turn_on_part bytes route sources n b
 acts_on_parts bytes route sources n (post_of m) = post_on_part bytes route n m
-acts_on_parts bytes route sources n (arrivalOf k) = arrive_on_part bytes route n k
+acts_on_parts bytes route sources n (arrival_of k) = arrive_on_part bytes route n k
 
 -- ---- a grid into which the parts of the processors below n were put, one after the other
 unfoldable pub collected_to : List ℕ → ℕ → AreasApart → List ℕ → ℕ → List ℕ

@@ -63,13 +63,13 @@ module _ (x : Nest) (ok : Accepted x) where
           (λ t. every_all _ x.dimensions (λ j o. rw (h j o, (g j o).0, (g j o).1) (every_at _ x.dimensions t j o)))
 
   module _ (t v c : ℕ) (lt : t < box_tiles x) (lc : c < cells x) where
-    abbrev shapedTest : Bool
-    shapedTest = among x (direct_box x t) (cell_place x c) and comes_shaped x (direct_window x t v) (cell_place x c)
+    abbrev shaped_test : Bool
+    shaped_test = among x (direct_box x t) (cell_place x c) and comes_shaped x (direct_window x t v) (cell_place x c)
 
-    abbrev crossesShape : Bool
-    crossesShape = in_shape x c and eqb (box_tile_of x c) t and some (reaches_shape x t v c) x.distances
+    abbrev crosses_shape : Bool
+    crosses_shape = in_shape x c and eqb (box_tile_of x c) t and some (reaches_shape x t v c) x.distances
 
-    there : crossesShape ≡ true → shapedTest ≡ true
+    there : crosses_shape ≡ true → shaped_test ≡ true
     unfolding reaches_shape reaches inside comes_shaped
     there h =
         let b = both h in
@@ -89,7 +89,7 @@ module _ (x : Nest) (ok : Accepted x) where
         (and_true (window_all x ok _ _ (λ j. cell_place x c j + component x r.0 j) stays (λ j s. (omega (arith, steps j s), omega (arith, steps j s))))
         (sym (shape_at x ok (λ j. cell_place x c j + component x r.0 j) stays) ∙ m.1))))
 
-    back : shapedTest ≡ true → crossesShape ≡ true
+    back : shaped_test ≡ true → crosses_shape ≡ true
     unfolding reaches_shape reaches inside comes_shaped
     back h =
         let b = both h in
@@ -108,13 +108,13 @@ module _ (x : Nest) (ok : Accepted x) where
         (let p = steps j s in omega (arith, p.0, p.1)))))
         (shape_at x ok (λ j. cell_place x c j + component x r.0 j) stays ∙ n.1))))
 
-    shaped_test : crossesShape ≡ shapedTest
-    shaped_test = same_test there back
+    shaped_test_lem : crosses_shape ≡ shaped_test
+    shaped_test_lem = same_test there back
 
   -- the smaller box has the same
   module _ (s : ℕ) (l : s < slots Direct x) (z : Sending) (p : Sends Direct x s z) (y : Sending) (q : Near x z y) where
-    abbrev nearTest : ℕ → Bool
-    nearTest c = among x (box_of y.block) (cell_place x c) and comes_shaped x (window_of y.window) (cell_place x c)
+    abbrev near_test : ℕ → Bool
+    near_test c = among x (box_of y.block) (cell_place x c) and comes_shaped x (window_of y.window) (cell_place x c)
 
     window_is : (i : ℕ → ℕ) → comes_shaped x (slot_window Direct x s) i ≡ comes_shaped x (window_of y.window) i
     window_is i =
@@ -142,9 +142,9 @@ module _ (x : Nest) (ok : Accepted x) where
         let g = p.box.lengths.each j o in
         (omega (arith, a.0, f, q.from j o), omega (arith, a.1, f, g, q.to j o, p.shape.least j o)))
 
-    near_test : (c : ℕ) (h : c < cells x) → crossesShape (slot_tile Direct x s) (slot_direction x s) c (slot_tile_low x Direct s l) h ≡ nearTest c
-    near_test c h =
-        shaped_test (slot_tile Direct x s) (slot_direction x s) c (slot_tile_low x Direct s l) h
+    near_test_lem : (c : ℕ) (h : c < cells x) → crosses_shape (slot_tile Direct x s) (slot_direction x s) c (slot_tile_low x Direct s l) h ≡ near_test c
+    near_test_lem c h =
+        shaped_test_lem (slot_tile Direct x s) (slot_direction x s) c (slot_tile_low x Direct s l) h
         ∙ same_test
         (λ t. let b = both t in and_true (inner (cell_place x c) b.0 b.1) (sym (window_is (cell_place x c)) ∙ b.1))
         (λ t. let b = both t in and_true (outer (cell_place x c) b.0) (window_is (cell_place x c) ∙ b.1))
@@ -158,7 +158,7 @@ module _ (x : Nest) (ok : Accepted x) where
     pub near_found : shaped_parcel x (slot_tile Direct x s) (slot_direction x s) ≡ shaped_found x y (y.rows * y.width)
     unfolding shaped_parcel shaped_found region_cell
     near_found =
-        keep_same _ nearTest (cells x) near_test
+        keep_same _ near_test (cells x) near_test_lem
         ∙ keep_both (λ c. among x (box_of y.block) (cell_place x c)) (λ c. comes_shaped x (window_of y.window) (cell_place x c))
         (cell_in x y) (cells x) (region_size x (box_of y.block)) (region_cells x (box_of y.block) (λ j h. (omega arith, q.shape.inside j h)))
         ∙ ap (map (cell_in x y)) (keep_same _ _ (region_size x (box_of y.block))
@@ -290,10 +290,10 @@ module _ (x : Nest) (z : Sending) where
     abbrev cell : ℕ
     cell = cell_in x z (r * z.width)
 
-    abbrev rowHits : ℕ → List ℕ
-    rowHits c = hit_row starts ends n c (get_or at (last x) 0) z.width
+    abbrev row_hits : ℕ → List ℕ
+    row_hits c = hit_row starts ends n c (get_or at (last x) 0) z.width
 
-    pub counting_row : (count more : ℕ) → Counting x z count r → ((c : ℕ) → more ≡ length (rowHits c)) → Counting x z (count + more) (r + 1)
+    pub counting_row : (count more : ℕ) → Counting x z count r → ((c : ℕ) → more ≡ length (row_hits c)) → Counting x z (count + more) (r + 1)
     counting_row count more g h =
         record {
           low = omega arith;
@@ -302,12 +302,12 @@ module _ (x : Nest) (z : Sending) where
             g.is,
             h cell,
             ap length (row_found x ok z p r at n starts ends f),
-            length-append (shaped_found x z (r * z.width)) (rowHits cell),
+            length-append (shaped_found x z (r * z.width)) (row_hits cell),
           );
         }
 
     module _ (count : ℕ) (g : Counting x z count r) where
-      counted : (count' : ℕ) → count' ≡ count + length (rowHits cell) → Counting x z count' (r + 1)
+      counted : (count' : ℕ) → count' ≡ count + length (row_hits cell) → Counting x z count' (r + 1)
       counted count' e =
           record {
             low = omega arith;
@@ -316,11 +316,11 @@ module _ (x : Nest) (z : Sending) where
               e,
               g.is,
               ap length (row_found x ok z p r at n starts ends f),
-              length-append (shaped_found x z (r * z.width)) (rowHits cell),
+              length-append (shaped_found x z (r * z.width)) (row_hits cell),
             );
           }
 
-      pub counting_room : count + length (rowHits cell) ≤ length (shaped_found x z (z.rows * z.width))
+      pub counting_room : count + length (row_hits cell) ≤ length (shaped_found x z (z.rows * z.width))
       counting_room = counting_upto _ (r + 1) (counted _ refl)
 
     module _ (c : ℕ) (is : c ≡ cell) where
@@ -332,8 +332,8 @@ module _ (x : Nest) (z : Sending) where
             counted = counted count g.counted count' d'.count_is;
             long = d'.long ∙ g.long;
             is = d'.is
-                ∙ ap (λ (l : List ℕ). l ++ pack memory (rowHits cell)) g.is
-                ∙ sym (ap (pack memory) (row_found x ok z p r at n starts ends f) ∙ pack_append memory (shaped_found x z (r * z.width)) (rowHits cell));
+                ∙ ap (λ (l : List ℕ). l ++ pack memory (row_hits cell)) g.is
+                ∙ sym (ap (pack memory) (row_found x ok z p r at n starts ends f) ∙ pack_append memory (shaped_found x z (r * z.width)) (row_hits cell));
           }
 
       pub unpacking_row : (memory₀ words memory : List ℕ) (count : ℕ) → Unpacking x z memory₀ words memory count r → count ≤ length words
@@ -345,11 +345,11 @@ module _ (x : Nest) (z : Sending) where
           record {
             counted = counted count g.counted count' d'.count_is;
             is = d'.is
-                ∙ ap (λ (l : List ℕ). unpack l (rowHits cell) (sublist words count (length (rowHits cell)))) g.is
-                ∙ sym (unpack_append memory₀ (shaped_found x z (r * z.width)) (rowHits cell) (take count words) (sublist words count (length (rowHits cell)))
+                ∙ ap (λ (l : List ℕ). unpack l (row_hits cell) (sublist words count (length (row_hits cell)))) g.is
+                ∙ sym (unpack_append memory₀ (shaped_found x z (r * z.width)) (row_hits cell) (take count words) (sublist words count (length (row_hits cell)))
                 (length-take-le count words low ∙ g.counted.is))
-                ∙ ap (λ (l : List ℕ). unpack memory₀ l (take count words ++ sublist words count (length (rowHits cell))))
+                ∙ ap (λ (l : List ℕ). unpack memory₀ l (take count words ++ sublist words count (length (row_hits cell))))
                 (sym (row_found x ok z p r at n starts ends f))
                 ∙ ap (unpack memory₀ (shaped_found x z ((r + 1) * z.width)))
-                (sym (take-add count (length (rowHits cell)) words) ∙ ap (λ (i : ℕ). take i words) (sym d'.count_is));
+                (sym (take-add count (length (row_hits cell)) words) ∙ ap (λ (i : ℕ). take i words) (sym d'.count_is));
           }

@@ -227,10 +227,10 @@ module _ (p : Plan) (b : ℕ) (s : State) (low : b < p.processors) (g : PartLeng
   wide_record q c l (yes e) = rw e q
   wide_record q c l (no n) = same_fit c (fresh p) (others c n) (fresh_shape.records c l)
 
-  abbrev marksFit : Bool
-  marksFit = every (λ i. leb (get_or s.status i 0) 3) (length s.status)
+  abbrev marks_fit : Bool
+  marks_fit = every (λ i. leb (get_or s.status i 0) 3) (length s.status)
 
-  wide_mark : marksFit ≡ true → (m : ℕ) → m < count p → (h : Bool) → handles p b m ≡ h → get_or (from_part p b s).status m 0 ≤ 3
+  wide_mark : marks_fit ≡ true → (m : ℕ) → m < count p → (h : Bool) → handles p b m ≡ h → get_or (from_part p b s).status m 0 ≤ 3
   wide_mark q m lo true e =
       omega (
         arith,
@@ -246,7 +246,7 @@ module _ (p : Plan) (b : ℕ) (s : State) (low : b < p.processors) (g : PartLeng
       ap (λ (k : ℕ). leb k 3) (ap (λ (j : ℕ). get_or s.status j 0) (sym r.4) ∙ mark_at r.0 r.2 r.3)
       ∙ every_at (λ m. leb (get_or (from_part p b s).status m 0) 3) (count p) q r.0 r.2
 
-  pub wide_fit : fit p (from_part p b s) ≡ (fit_record p (from_part p b s) b and marksFit)
+  pub wide_fit : fit p (from_part p b s) ≡ (fit_record p (from_part p b s) b and marks_fit)
   unfolding fit
   wide_fit =
       same_test

@@ -24,9 +24,9 @@ rounds-by-requires : tie.Need-rounds-by-requires
 rounds-by-requires c κs =
     let at-chain-ends2 = c.before.before.before.before.before.before.before in
     let at-chain-ends = at-chain-ends2.before.before.before in
-    let at-list = at-chain-ends.before.before.before in
-    let S = at-list.before.before.before.before.before.before.before in
-    let list = at-list.list in
+    let at_list = at-chain-ends.before.before.before in
+    let S = at_list.before.before.before.before.before.before.before in
+    let list = at_list.list in
     let chain-ends = at-chain-ends.chain-ends in
     let chain-ends2 = at-chain-ends2.chain-ends2 in (
       (

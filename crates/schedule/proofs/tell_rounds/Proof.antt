@@ -16,9 +16,9 @@ chain-ends-requires c κs =
 tell-by-requires : tie.Need-tell-by-requires
 tell-by-requires c κs =
     let at-chain-ends = c.before.before.before in
-    let at-list = at-chain-ends.before.before.before in
-    let S = at-list.before.before.before in
-    let list = at-list.list in
+    let at_list = at-chain-ends.before.before.before in
+    let S = at_list.before.before.before in
+    let list = at_list.list in
     (record { planned = S.requires.0; listed = list.ensures.1; by_taker = at-chain-ends.chain-ends.ensures; all = list.ensures.0 }, S.requires.1)
 
 same_length : tie.Need-same-length

@@ -417,10 +417,10 @@ module _ (x : Nest) (ok : Accepted x) where
   at_end_is (suc side) t = refl
 
   module _ (side t : ℕ) where
-    abbrev pub seenTo : ℕ → ℕ
-    seenTo s = seen (shaped_message x) (shaped_slots x) (end_of side) t s
+    abbrev pub seen_to : ℕ → ℕ
+    seen_to s = seen (shaped_message x) (shaped_slots x) (end_of side) t s
 
-    pub seen_few : (s : ℕ) → seenTo s ≤ s
+    pub seen_few : (s : ℕ) → seen_to s ≤ s
     seen_few s = omega (
       arith,
       those_few (λ m. end_of side (get_or (messages_of (shaped_message x) (shaped_slots x)) m no_message)) t
@@ -428,58 +428,58 @@ module _ (x : Nest) (ok : Accepted x) where
       listed.few (shaped_message x) s,
     )
 
-    pub seen_turn : (s n n' : ℕ) (r : Bool) → s < shaped_slots x → n ≡ seenTo s
+    pub seen_turn : (s n n' : ℕ) (r : Bool) → s < shaped_slots x → n ≡ seen_to s
         → (r ≡ true → (0 < length (shaped_slot_parcel x s)) × (end_of side (shaped_message x s) ≡ t)) × (r ≡ false → 0 < length (shaped_slot_parcel x s)
         → end_of side (shaped_message x s) ≢ t)
-        → ((r ≡ true) × (n' ≡ n + 1)) ⊎ ((r ≡ false) × (n' ≡ n)) → n' ≡ seenTo (s + 1)
+        → ((r ≡ true) × (n' ≡ n + 1)) ⊎ ((r ≡ false) × (n' ≡ n)) → n' ≡ seen_to (s + 1)
     seen_turn s n n' r l e f (inl (h, q)) =
         let k = f.0 h in omega (arith, seen_hit (shaped_message x) (shaped_slots x) (end_of side) t s l k.0 k.1)
     seen_turn s n n' r l e f (inr (h, q)) = go (dec_lt 0 (length (shaped_slot_parcel x s)))
       where
-        go : Dec (0 < length (shaped_slot_parcel x s)) → n' ≡ seenTo (s + 1)
+        go : Dec (0 < length (shaped_slot_parcel x s)) → n' ≡ seen_to (s + 1)
         go (yes k) = omega (arith, seen_miss (shaped_message x) (shaped_slots x) (end_of side) t s l k (f.1 h k))
         go (no k) = omega (arith, seen_none (shaped_message x) (shaped_slots x) (end_of side) t s (omega arith))
 
-    pub seen_end : (s n : ℕ) → s ≤ shaped_slots x → shaped_slots x ≤ s → n ≡ seenTo s → (n ≡ length (at_end side (plan_of Direct x) t)) × (n ≤ 7168)
+    pub seen_end : (s n : ℕ) → s ≤ shaped_slots x → shaped_slots x ≤ s → n ≡ seen_to s → (n ≡ length (at_end side (plan_of Direct x) t)) × (n ≤ 7168)
     seen_end s n h k e =
         let z : s ≡ shaped_slots x = omega arith in
-        (e ∙ ap seenTo z ∙ at_end_lem side t, omega (arith, seen_few s, slots_few))
+        (e ∙ ap seen_to z ∙ at_end_lem side t, omega (arith, seen_few s, slots_few))
 
-    pub seen_nowhere : (s n j : ℕ) → s ≤ shaped_slots x → shaped_slots x ≤ s → n ≡ seenTo s → n ≤ j → j < length (at_end side (plan_of Direct x) t) → ⊥
+    pub seen_nowhere : (s n j : ℕ) → s ≤ shaped_slots x → shaped_slots x ≤ s → n ≡ seen_to s → n ≤ j → j < length (at_end side (plan_of Direct x) t) → ⊥
     seen_nowhere s n j h k e l q = omega (arith, (seen_end s n h k e).0)
 
     -- slots that have it not
     seen_flat : (a k : ℕ) → a + k ≤ shaped_slots x
-        → ((s : ℕ) → a ≤ s → s < a + k → 0 < length (shaped_slot_parcel x s) → end_of side (shaped_message x s) ≢ t) → seenTo a ≡ seenTo (a + k)
-    seen_flat a zero h f = ap seenTo (sym (add-zero a))
+        → ((s : ℕ) → a ≤ s → s < a + k → 0 < length (shaped_slot_parcel x s) → end_of side (shaped_message x s) ≢ t) → seen_to a ≡ seen_to (a + k)
+    seen_flat a zero h f = ap seen_to (sym (add-zero a))
     seen_flat a (suc k) h f =
         let q : a + suc k ≡ a + k + 1 = omega arith in
         seen_flat a k (omega arith) (λ s l m. f s l (omega arith))
-        ∙ seen_turn (a + k) (seenTo (a + k)) (seenTo (a + k)) false (omega arith) refl
+        ∙ seen_turn (a + k) (seen_to (a + k)) (seen_to (a + k)) false (omega arith) refl
         ((λ z. absurd (never_both z refl)), λ z m. f (a + k) (omega arith) (omega arith) m) (inr (refl, refl))
-        ∙ ap seenTo (sym q)
+        ∙ ap seen_to (sym q)
 
     module _ (first end : ℕ) (r : Ranged x side t first end) where
-      pub range_start : ◌≡◌ {A = ℕ} 0 (seenTo first)
+      pub range_start : ◌≡◌ {A = ℕ} 0 (seen_to first)
       range_start =
           let z : 0 + first ≡ first = omega arith in
           sym (seen_start (shaped_message x) (shaped_slots x) (end_of side) t)
-          ∙ seen_flat 0 first (omega (arith, r.first_low, r.end_low)) (λ s l m. r.before s (omega arith)) ∙ ap seenTo z
+          ∙ seen_flat 0 first (omega (arith, r.first_low, r.end_low)) (λ s l m. r.before s (omega arith)) ∙ ap seen_to z
 
-      range_end : (s n : ℕ) → s ≤ end → end ≤ s → n ≡ seenTo s → n ≡ seenTo (shaped_slots x)
+      range_end : (s n : ℕ) → s ≤ end → end ≤ s → n ≡ seen_to s → n ≡ seen_to (shaped_slots x)
       range_end s n h k e =
           let z : s ≡ end = omega arith in
           let y : end + (shaped_slots x - end) ≡ shaped_slots x = omega (arith, r.end_low) in
-          e ∙ ap seenTo z ∙ seen_flat end (shaped_slots x - end) (omega (arith, r.end_low)) (λ i l m. r.after i l (omega (arith, r.end_low))) ∙ ap seenTo y
+          e ∙ ap seen_to z ∙ seen_flat end (shaped_slots x - end) (omega (arith, r.end_low)) (λ i l m. r.after i l (omega (arith, r.end_low))) ∙ ap seen_to y
 
-      pub ranged_all : (s n : ℕ) → s ≤ end → end ≤ s → n ≡ seenTo s → (n ≡ length (at_end side (plan_of Direct x) t)) × (n ≤ 7168)
+      pub ranged_all : (s n : ℕ) → s ≤ end → end ≤ s → n ≡ seen_to s → (n ≡ length (at_end side (plan_of Direct x) t)) × (n ≤ 7168)
       ranged_all s n h k e = seen_end (shaped_slots x) n (omega arith) (omega arith) (range_end s n h k e)
 
-      pub ranged_nowhere : (s n j : ℕ) → s ≤ end → end ≤ s → n ≡ seenTo s → n ≤ j → j < length (at_end side (plan_of Direct x) t) → ⊥
+      pub ranged_nowhere : (s n j : ℕ) → s ≤ end → end ≤ s → n ≡ seen_to s → n ≤ j → j < length (at_end side (plan_of Direct x) t) → ⊥
       ranged_nowhere s n j h k e l q = seen_nowhere (shaped_slots x) n j (omega arith) (omega arith) (range_end s n h k e) l q
 
     -- the j-th of them is the message of slot s
-    pub seen_found : (s n j m o w : ℕ) → s < shaped_slots x → n ≡ seenTo s → n ≡ j → 0 < length (shaped_slot_parcel x s) → end_of side (shaped_message x s) ≡ t
+    pub seen_found : (s n j m o w : ℕ) → s < shaped_slots x → n ≡ seen_to s → n ≡ j → 0 < length (shaped_slot_parcel x s) → end_of side (shaped_message x s) ≡ t
         → Summing (shaped_message x) s m o → w ≡ length (shaped_slot_parcel x s)
         → Found (shaped_message x) (shaped_slots x) (get_or (at_end side (plan_of Direct x) t) j 0) (record { slot = s; number = m; offset = o; words = w })
     seen_found s n j m o w l e q full here sums is =
