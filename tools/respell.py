@@ -40,7 +40,7 @@ BESIDE = {
     "in-shape": "is_in_shape",
     "own-cells": "cells_are_own",
 }
-KEPT_FILES = ("Proof.antt", "Answers.antt", "Invariants.antt")
+KEPT_FILES = ("Proof.antt",)
 
 
 def read(path):

@@ -64,7 +64,7 @@ module _ (bytes grid : List ℕ) (x y : ℤ) (size : ℕ) where
     told_is = ap (λ w. w.told) e ∙ by_number (first_of (write_lines bytes grid x y size old)) text old
 
     number_is : t.number ≡ first_of (write_lines bytes grid x y size old)
-    number_is = C.write-number bytes grid x y size old t space e
+    number_is = C.write_number bytes grid x y size old t space e
 
     number : Tells (λ t. t.number) (write_lines bytes grid x y size old) (tells 0 (length text)) (λ n. tells n 0) t
     number =
@@ -77,24 +77,24 @@ module _ (bytes grid : List ℕ) (x y : ℤ) (size : ℕ) where
         let q = none_first 23 (not_charted (nest_of bytes) size) _ (λ k. omega arith)
         (none_behind (read_lines bytes) _ (numbered bytes) (sym number_is ∙ z)) in
         let r = none_first 9 _ [] (λ k. omega arith) q.1 in
-        omega (arith, C.write-length bytes grid x y size old t space e z, ltb-false (length old) (length text) (neither r.0).1)
+        omega (arith, C.write_length bytes grid x y size old t space e z, ltb-false (length old) (length text) (neither r.0).1)
 
     charted : Charted bytes grid x y size old t space
     charted =
         record {
           number = number;
-          text = λ z. C.write-wrote bytes grid x y size old t space e z
-              ∙ ap (λ (n : ℕ). text ++ drop n old) (sym (C.write-length bytes grid x y size old t space e z));
+          text = λ z. C.write_wrote bytes grid x y size old t space e z
+              ∙ ap (λ (n : ℕ). text ++ drop n old) (sym (C.write_length bytes grid x y size old t space e z));
           fits = roomy;
-          as_before = λ h. C.write-left bytes grid x y size old t space e h;
+          as_before = λ h. C.write_left bytes grid x y size old t space e h;
           first_23 = λ r k. number_is ∙ first_behind (read_lines bytes) _ (numbered bytes) r ∙ first_true 23 _ _ k;
         }
 
     -- the bytes written
     is_text : t.number ≡ 0 → take t.length space ≡ text
     is_text z =
-        ap (λ (n : ℕ). take n space) (C.write-length bytes grid x y size old t space e z)
-        ∙ ap (take (length text)) (C.write-wrote bytes grid x y size old t space e z)
+        ap (λ (n : ℕ). take n space) (C.write_length bytes grid x y size old t space e z)
+        ∙ ap (take (length text)) (C.write_wrote bytes grid x y size old t space e z)
         ∙ take_at text (drop (length text) old) (length text) refl
 
     -- the call for the length refuses nothing that this one did not
@@ -103,7 +103,7 @@ module _ (bytes grid : List ℕ) (x y : ℤ) (size : ℕ) where
       where
         go : Dec (first_of (length_lines bytes grid size) ≡ 0) → first_of (length_lines bytes grid size) ≡ 0
         go (yes q) = q
-        go (no h) = absurd (h (sym (C.lines-kept bytes grid x y size old h) ∙ sym number_is ∙ z))
+        go (no h) = absurd (h (sym (C.lines_kept bytes grid x y size old h) ∙ sym number_is ∙ z))
 
     same_length : (other : Told) → ChartLengthGave bytes grid x y size other → t.number ≡ 0 → other ≡ t
     same_length other g z = (told_length other g).works (measured z) ∙ sym (number.works (sym number_is ∙ z))

@@ -14,7 +14,7 @@ use Rattle.engine.specs.Calls.{answer, recipe}
 use Rattle.network.specs.Own.{own_cells}
 use Rattle.part.specs.Part.{part_fits}
 use Rattle.part_calls.specs.front.Calls.{from_part, board_lines, part_turn_call}
-use Rattle.part_calls.proofs.front.Answers.{behind-board}
+use Rattle.part_calls.proofs.front.Answers.{behind_board}
 use Rattle.part_calls.proofs.front.Wide.{fits_are}
 
 pub own_there : (l : List ℕ) (route : ℕ) (source m u t : List ℕ) (rs : List Progress) (b n : ℕ) (x : State)
@@ -23,7 +23,7 @@ unfolding part_turn_call
 own_there l route source m u t rs b n x e z =
     let p = recipe l route in
     let s = state_of m u (flat_words rs) t in
-    let k = behind-board l route b
+    let k = behind_board l route b
     (line 9 (not (eqb (length source) (length (own_cells p b)) and part_fits p b s)) ∷ turn_lines p (from_part p b s) b)
     (ap (λ (y : Answered State). y.number) (sym e) ∙ z) in
     let a = none_first 9 (not (eqb (length source) (length (own_cells p b)) and part_fits p b s)) (turn_lines p (from_part p b s) b) (λ q. omega arith) k in

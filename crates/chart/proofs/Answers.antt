@@ -25,7 +25,7 @@ use Rattle.nest.specs.declared.Reading.{Reading}
 use Rattle.nest.specs.Nest.{length_of, cells}
 use Rattle.nest.specs.Reader.{read_lines, nest_of, reading_of}
 use Rattle.nest.proofs.Numbered.{numbered}
-use Rattle.nest.proofs.Answers.{number_read, nest-read}
+use Rattle.nest.proofs.Answers.{number_read, nest_read}
 use Rattle.chart.specs.declared.Told.{Told}
 use Rattle.chart.specs.grid_text.Text.{chart_text}
 use Rattle.chart.specs.Call.{not_charted, wrong_grid, measure_lines, told_of, length_lines, length_call, write_lines, Written, written, written_if, write_call}
@@ -43,19 +43,19 @@ unfolding told_of
 told_no r zero text h t = absurd (h refl)
 told_no r (suc n) text h t = same_told r.number (suc n) r.length 0 t.0 t.1
 
-told-yes : (r : Told) (text : List ℕ) → Tells r 0 (length text) → r ≡ told_of 0 text
+told_yes : (r : Told) (text : List ℕ) → Tells r 0 (length text) → r ≡ told_of 0 text
 unfolding told_of
-told-yes r text t = same_told r.number 0 r.length (length text) t.0 t.1
+told_yes r text t = same_told r.number 0 r.length (length text) t.0 t.1
 
 number_told : (n : ℕ) (text : List ℕ) → (told_of n text).number ≡ n
 unfolding told_of
 number_told zero text = refl
 number_told (suc n) text = refl
 
-pub length-told : (n : ℕ) (text : List ℕ) → n ≡ 0 → (told_of n text).length ≡ length text
+pub length_told : (n : ℕ) (text : List ℕ) → n ≡ 0 → (told_of n text).length ≡ length text
 unfolding told_of
-length-told zero text e = refl
-length-told (suc n) text e = absurd (omega arith)
+length_told zero text e = refl
+length_told (suc n) text e = absurd (omega arith)
 
 -- ---- lines 23 and 9 of a nest
 
@@ -66,46 +66,46 @@ module _ (nest : Nest) (g : List ℕ) (x y : ℤ) (size : ℕ) (r : Told) where
   by_line : (n : ℕ) → n ≢ 0 → Tells r n 0 → first_of (measure_lines nest g size) ≡ n → Measured
   by_line n h t e = told_no r n _ h t ∙ ap (λ (k : ℕ). told_of k (chart_text nest g x y size)) (sym e)
 
-  line-23 : Tells r 23 0 → not_charted nest size ≡ true → Measured
-  line-23 t e = by_line 23 (λ q. omega arith) t (first_true 23 _ _ e)
+  line_23 : Tells r 23 0 → not_charted nest size ≡ true → Measured
+  line_23 t e = by_line 23 (λ q. omega arith) t (first_true 23 _ _ e)
 
-  pub not-flat : Tells r 23 0 → nest.dimensions ≢ 2 → Measured
+  pub not_flat : Tells r 23 0 → nest.dimensions ≢ 2 → Measured
   unfolding not_charted
-  not-flat t h = line-23 t (or_left _ (not-false (ne_eqb _ _ h)))
+  not_flat t h = line_23 t (or_left _ (not-false (ne_eqb _ _ h)))
 
-  pub size-zero : Tells r 23 0 → size ≡ 0 → Measured
+  pub size_zero : Tells r 23 0 → size ≡ 0 → Measured
   unfolding not_charted
-  size-zero t e = line-23 t (or_right _ (or_left _ (eq-eqb _ _ e)))
+  size_zero t e = line_23 t (or_right _ (or_left _ (eq-eqb _ _ e)))
 
-  pub size-large : Tells r 23 0 → 65535 < size → Measured
+  pub size_large : Tells r 23 0 → 65535 < size → Measured
   unfolding not_charted
-  size-large t h = line-23 t (or_right _ (or_right _ (lt-ltb _ _ h)))
+  size_large t h = line_23 t (or_right _ (or_right _ (lt-ltb _ _ h)))
 
   module _ (flat : nest.dimensions ≡ 2) (some : size ≢ 0) (low : size ≤ 65535) where
     charted : not_charted nest size ≡ false
     unfolding not_charted
     charted = or_false (not-true (eq-eqb _ _ flat)) (or_false (ne_eqb _ _ some) (le-ltb _ _ low))
 
-    pub grid-wrong : Tells r 9 0 → length g ≢ length_of nest 0 * length_of nest 1 → Measured
+    pub grid_wrong : Tells r 9 0 → length g ≢ length_of nest 0 * length_of nest 1 → Measured
     unfolding wrong_grid
-    grid-wrong t h =
+    grid_wrong t h =
         by_line 9 (λ q. omega arith) t
         (first_false 23 _ _ charted ∙ first_true 9 _ _ (not-false (ne_eqb _ _ (λ q. h (q ∙ cells_are nest flat)))))
 
-    pub grid-right : length g ≡ length_of nest 0 * length_of nest 1 → length g ≡ cells nest
-    grid-right e = e ∙ sym (cells_are nest flat)
+    pub grid_right : length g ≡ length_of nest 0 * length_of nest 1 → length g ≡ cells nest
+    grid_right e = e ∙ sym (cells_are nest flat)
 
-    pub measured-all : length g ≡ length_of nest 0 * length_of nest 1 → (q : ℕ) (s t : List ℕ) → SFits w32 x → SFits w32 y
+    pub measured_all : length g ≡ length_of nest 0 * length_of nest 1 → (q : ℕ) (s t : List ℕ) → SFits w32 x → SFits w32 y
         → pen q t ≡ write (pen 0 s) (chart_text nest g (to_z w32 (of_z w32 x)) (to_z w32 (of_z w32 y)) size) → Tells r 0 q → Measured
     unfolding wrong_grid first_of
-    measured-all e q s t fx fy w k =
+    measured_all e q s t fx fy w k =
         let w' : pen q t ≡ write (pen 0 s) (chart_text nest g x y size) = rw (to_z-of_z w32 x fx, to_z-of_z w32 y fy) at w in
         let p : q ≡ length (chart_text nest g x y size) =
         ap (λ (z : Pen). z.at) w' ∙ write_at (pen 0 s) (chart_text nest g x y size) ∙ omega arith in
         let z : first_of (measure_lines nest g size) ≡ 0 =
         first_false 23 (not_charted nest size) (line 9 (wrong_grid nest g) ∷ []) charted
-        ∙ first_false 9 (not (eqb (length g) (cells nest))) [] (not-true (eq-eqb _ _ (grid-right e))) in
-        told-yes r _ (k.0, k.1 ∙ p) ∙ ap (λ (n : ℕ). told_of n (chart_text nest g x y size)) (sym z)
+        ∙ first_false 9 (not (eqb (length g) (cells nest))) [] (not-true (eq-eqb _ _ (grid_right e))) in
+        told_yes r _ (k.0, k.1 ∙ p) ∙ ap (λ (n : ℕ). told_of n (chart_text nest g x y size)) (sym z)
 
 -- where neither line holds, the nest has two dimensions and the grid one word a cell
 module _ (nest : Nest) (g : List ℕ) (size : ℕ) (text : List ℕ) (m : Told) (e : m ≡ told_of (first_of (measure_lines nest g size)) text) (z : m.number ≡ 0) where
@@ -119,9 +119,9 @@ module _ (nest : Nest) (g : List ℕ) (size : ℕ) (text : List ℕ) (m : Told) 
   unfolding not_charted
   two = eqb-true _ _ (true_not (neither first.0).0)
 
-  pub a-word-a-cell : length g ≡ cells nest
+  pub a_word_a_cell : length g ≡ cells nest
   unfolding wrong_grid
-  a-word-a-cell = eqb-true _ _ (true_not (none_first 9 (not (eqb (length g) (cells nest))) [] (λ q. omega arith) first.1).0)
+  a_word_a_cell = eqb-true _ _ (true_not (none_first 9 (not (eqb (length g) (cells nest))) [] (λ q. omega arith) first.1).0)
 
 -- ---- the reader's lines before them
 
@@ -133,9 +133,9 @@ module _ (l : List ℕ) (r : Reading) (e : r ≡ reading_of l) where
   before h more = first_some (read_lines l) more (λ q. h (number_read l r e ∙ q)) ∙ sym (number_read l r e)
 
   module _ (g : List ℕ) (x y : ℤ) (size : ℕ) where
-    pub length-read : (t : Told) → r.number ≢ 0 → Tells t r.number 0 → t ≡ length_call l g x y size
+    pub length_read : (t : Told) → r.number ≢ 0 → Tells t r.number 0 → t ≡ length_call l g x y size
     unfolding length_call
-    length-read t h k =
+    length_read t h k =
         told_no t r.number (chart_text (nest_of l) g x y size) h k
         ∙ ap (λ (n : ℕ). told_of n (chart_text (nest_of l) g x y size)) (sym (before h _))
 
@@ -146,11 +146,11 @@ module _ (l : List ℕ) (r : Reading) (e : r ≡ reading_of l) where
       told_is =
           let k' : t ≡ told_of (first_of (measure_lines r.nest g size)) (chart_text r.nest g x y size) =
           rw (to_z-of_z w32 x fx, to_z-of_z w32 y fy) at k in
-          k' ∙ ap (λ (n : Nest). told_of (first_of (measure_lines n g size)) (chart_text n g x y size)) (nest-read l r e h)
+          k' ∙ ap (λ (n : Nest). told_of (first_of (measure_lines n g size)) (chart_text n g x y size)) (nest_read l r e h)
 
-      pub length-done : t ≡ length_call l g x y size
+      pub length_done : t ≡ length_call l g x y size
       unfolding length_call
-      length-done = told_is ∙ ap (λ (n : ℕ). told_of n (chart_text (nest_of l) g x y size)) (sym (behind h _))
+      length_done = told_is ∙ ap (λ (n : ℕ). told_of n (chart_text (nest_of l) g x y size)) (sym (behind h _))
 
 -- ---- the text
 
@@ -203,9 +203,9 @@ module _ (l g : List ℕ) (x y : ℤ) (size : ℕ) (s : List ℕ) where
       number_is : m.number ≡ first_of (measure_lines (nest_of l) g size)
       number_is = ap (λ (z : Told). z.number) is ∙ number_told _ text
 
-      pub write-fault : (t : Told) → m.number ≢ 0 → Tells t m.number 0 → written t s ≡ write_call l g x y size s
+      pub write_fault : (t : Told) → m.number ≢ 0 → Tells t m.number 0 → written t s ≡ write_call l g x y size s
       unfolding pair
-      write-fault t j q =
+      write_fault t j q =
           refused t m.number j q
           (behind l r e h _
           ∙ kept (not_charted (nest_of l) size) (wrong_grid (nest_of l) g) (ltb (length s) (length text)) (λ z. j (number_is ∙ z))
@@ -216,11 +216,11 @@ module _ (l g : List ℕ) (x y : ℤ) (size : ℕ) (s : List ℕ) where
         none = sym number_is ∙ j
 
         long : m.length ≡ length text
-        long = ap (λ (z : Told). z.length) is ∙ length-told _ text none
+        long = ap (λ (z : Told). z.length) is ∙ length_told _ text none
 
-        pub write-short : (t : Told) → length s < m.length → Tells t 9 0 → written t s ≡ write_call l g x y size s
+        pub write_short : (t : Told) → length s < m.length → Tells t 9 0 → written t s ≡ write_call l g x y size s
         unfolding pair pick
-        write-short t q w =
+        write_short t q w =
             refused t 9 (λ z. omega arith) w
             (behind l r e h _ ∙ late (not_charted (nest_of l) size) (wrong_grid (nest_of l) g) (ltb (length s) (length text)) none true
             (lt-ltb (length s) (length text) (omega (arith, long))))
@@ -231,7 +231,7 @@ module _ (l g : List ℕ) (x y : ℤ) (size : ℕ) (s : List ℕ) where
         unfolding write_call written_if pair pick
         write_done f q t w =
             let w₁ : pen q t ≡ write (pen 0 s) (chart_text r.nest g x y size) = rw (to_z-of_z w32 x fx, to_z-of_z w32 y fy) at w in
-            let w₂ : pen q t ≡ write (pen 0 s) text = w₁ ∙ ap (λ (n : Nest). write (pen 0 s) (chart_text n g x y size)) (nest-read l r e h) in
+            let w₂ : pen q t ≡ write (pen 0 s) text = w₁ ∙ ap (λ (n : Nest). write (pen 0 s) (chart_text n g x y size)) (nest_read l r e h) in
             let u : t ≡ text ++ drop (length text) s = ap (λ (z : Pen). z.space) w₂ ∙ write_front s text (omega (arith, long, f)) in
             let m' : m ≡ told_of 0 text = is ∙ ap (λ (n : ℕ). told_of n text) none in
             let z : first_of (write_lines l g x y size s) ≡ 0 =
@@ -242,75 +242,75 @@ module _ (l g : List ℕ) (x y : ℤ) (size : ℕ) (s : List ℕ) where
 -- ---- what a caller has of the two calls
 
 module _ (l g : List ℕ) (x y : ℤ) (size : ℕ) (t : Told) (e : t ≡ length_call l g x y size) where
-  pub length-number : t.number ≡ first_of (length_lines l g size)
+  pub length_number : t.number ≡ first_of (length_lines l g size)
   unfolding length_call
-  length-number = ap (λ (z : Told). z.number) e ∙ number_told _ (chart_text (nest_of l) g x y size)
+  length_number = ap (λ (z : Told). z.number) e ∙ number_told _ (chart_text (nest_of l) g x y size)
 
-  pub length-length : t.number ≡ 0 → t.length ≡ length (chart_text (nest_of l) g x y size)
+  pub length_length : t.number ≡ 0 → t.length ≡ length (chart_text (nest_of l) g x y size)
   unfolding length_call
-  length-length h =
-      ap (λ (z : Told). z.length) e ∙ length-told _ (chart_text (nest_of l) g x y size) (sym length-number ∙ h)
+  length_length h =
+      ap (λ (z : Told). z.length) e ∙ length_told _ (chart_text (nest_of l) g x y size) (sym length_number ∙ h)
 
-written-number : (n : ℕ) (text s : List ℕ) → (written_if n text s).told.number ≡ n
+written_number : (n : ℕ) (text s : List ℕ) → (written_if n text s).told.number ≡ n
 unfolding written_if told_of
-written-number zero text s = refl
-written-number (suc n) text s = refl
+written_number zero text s = refl
+written_number (suc n) text s = refl
 
-written-left : (n : ℕ) (text s : List ℕ) → n ≢ 0 → (written_if n text s).space ≡ s
+written_left : (n : ℕ) (text s : List ℕ) → n ≢ 0 → (written_if n text s).space ≡ s
 unfolding written_if
-written-left zero text s h = absurd (h refl)
-written-left (suc n) text s h = refl
+written_left zero text s h = absurd (h refl)
+written_left (suc n) text s h = refl
 
-written-wrote : (n : ℕ) (text s : List ℕ) → n ≡ 0 → written_if n text s ≡ written (told_of 0 text) (text ++ drop (length text) s)
+written_wrote : (n : ℕ) (text s : List ℕ) → n ≡ 0 → written_if n text s ≡ written (told_of 0 text) (text ++ drop (length text) s)
 unfolding written_if
-written-wrote zero text s h = refl
-written-wrote (suc n) text s h = absurd (omega arith)
+written_wrote zero text s h = refl
+written_wrote (suc n) text s h = absurd (omega arith)
 
 module _ (l g : List ℕ) (x y : ℤ) (size : ℕ) (s : List ℕ) (t : Told) (u : List ℕ) (e : written t u ≡ write_call l g x y size s) where
   abbrev its : List ℕ
   its = chart_text (nest_of l) g x y size
 
-  pub write-number : t.number ≡ first_of (write_lines l g x y size s)
+  pub write_number : t.number ≡ first_of (write_lines l g x y size s)
   unfolding write_call
-  write-number = ap (λ (z : Written). z.told.number) e ∙ written-number _ its s
+  write_number = ap (λ (z : Written). z.told.number) e ∙ written_number _ its s
 
-  pub write-left : t.number ≢ 0 → u ≡ s
+  pub write_left : t.number ≢ 0 → u ≡ s
   unfolding write_call
-  write-left h = ap (λ (z : Written). z.space) e ∙ written-left _ its s (λ q. h (write-number ∙ q))
+  write_left h = ap (λ (z : Written). z.space) e ∙ written_left _ its s (λ q. h (write_number ∙ q))
 
   whole : t.number ≡ 0 → written t u ≡ written (told_of 0 its) (its ++ drop (length its) s)
   unfolding write_call
-  whole h = e ∙ written-wrote _ its s (sym write-number ∙ h)
+  whole h = e ∙ written_wrote _ its s (sym write_number ∙ h)
 
-  pub write-wrote : t.number ≡ 0 → u ≡ its ++ drop (length its) s
-  write-wrote h = ap (λ (z : Written). z.space) (whole h)
+  pub write_wrote : t.number ≡ 0 → u ≡ its ++ drop (length its) s
+  write_wrote h = ap (λ (z : Written). z.space) (whole h)
 
-  pub write-length : t.number ≡ 0 → t.length ≡ length its
-  write-length h = ap (λ (z : Written). z.told.length) (whole h) ∙ length-told 0 its refl
+  pub write_length : t.number ≡ 0 → t.length ≡ length its
+  write_length h = ap (λ (z : Written). z.told.length) (whole h) ∙ length_told 0 its refl
 
 -- a line of the call for the length is one of the other call's
 module _ (l g : List ℕ) (x y : ℤ) (size : ℕ) (s : List ℕ) where
-  abbrev behind-read : List Line
-  behind-read =
+  abbrev behind_read : List Line
+  behind_read =
       line 23 (not_charted (nest_of l) size)
       ∷ line 9 (wrong_grid (nest_of l) g or ltb (length s) (length (chart_text (nest_of l) g x y size)))
       ∷ []
 
-  pub lines-kept : first_of (length_lines l g size) ≢ 0 → first_of (write_lines l g x y size s) ≡ first_of (length_lines l g size)
+  pub lines_kept : first_of (length_lines l g size) ≢ 0 → first_of (write_lines l g x y size s) ≡ first_of (length_lines l g size)
   unfolding pair
-  lines-kept h = go (ℕ_discrete (first_of (read_lines l)) 0)
+  lines_kept h = go (ℕ_discrete (first_of (read_lines l)) 0)
     where
       go : Dec (first_of (read_lines l) ≡ 0) → first_of (write_lines l g x y size s) ≡ first_of (length_lines l g size)
-      go (no k) = first_some (read_lines l) behind-read k ∙ sym (first_some (read_lines l) (measure_lines (nest_of l) g size) k)
+      go (no k) = first_some (read_lines l) behind_read k ∙ sym (first_some (read_lines l) (measure_lines (nest_of l) g size) k)
       go (yes z) =
           let e = first_behind (read_lines l) (measure_lines (nest_of l) g size) (numbered l) z in
-          first_behind (read_lines l) behind-read (numbered l) z
+          first_behind (read_lines l) behind_read (numbered l) z
           ∙ kept (not_charted (nest_of l) size) (wrong_grid (nest_of l) g) (ltb (length s) (length (chart_text (nest_of l) g x y size))) (λ q. h (e ∙ q))
           ∙ sym e
 
-  pub lines-late : first_of (length_lines l g size) ≡ 0 → (first_of (write_lines l g x y size s) ≡ 0) ⊎ (first_of (write_lines l g x y size s) ≡ 9)
+  pub lines_late : first_of (length_lines l g size) ≡ 0 → (first_of (write_lines l g x y size s) ≡ 0) ⊎ (first_of (write_lines l g x y size s) ≡ 9)
   unfolding pair pick
-  lines-late h = go (ltb (length s) (length (chart_text (nest_of l) g x y size))) refl
+  lines_late h = go (ltb (length s) (length (chart_text (nest_of l) g x y size))) refl
     where
       behind_none : first_of (measure_lines (nest_of l) g size) ≡ 0
       behind_none = none_behind (read_lines l) (measure_lines (nest_of l) g size) (numbered l) h
@@ -321,21 +321,21 @@ module _ (l g : List ℕ) (x y : ℤ) (size : ℕ) (s : List ℕ) where
       go : (d : Bool) → ltb (length s) (length (chart_text (nest_of l) g x y size)) ≡ d
           → (first_of (write_lines l g x y size s) ≡ 0) ⊎ (first_of (write_lines l g x y size s) ≡ 9)
       go true e =
-          inr (first_behind (read_lines l) behind-read (numbered l) first_none
+          inr (first_behind (read_lines l) behind_read (numbered l) first_none
           ∙ late (not_charted (nest_of l) size) (wrong_grid (nest_of l) g) (ltb (length s) (length (chart_text (nest_of l) g x y size))) behind_none true e)
       go false e =
-          inl (first_behind (read_lines l) behind-read (numbered l) first_none
+          inl (first_behind (read_lines l) behind_read (numbered l) first_none
           ∙ late (not_charted (nest_of l) size) (wrong_grid (nest_of l) g) (ltb (length s) (length (chart_text (nest_of l) g x y size))) behind_none false e)
 
-  pub write-numbered : Numbered (write_lines l g x y size s)
-  write-numbered = go (read_lines l) (numbered l)
+  pub write_numbered : Numbered (write_lines l g x y size s)
+  write_numbered = go (read_lines l) (numbered l)
     where
-      go : (a : List Line) → Numbered a → Numbered (a ++ behind-read)
+      go : (a : List Line) → Numbered a → Numbered (a ++ behind_read)
       go [] n = (λ q. omega arith, (λ q. omega arith, tt))
       go (k ∷ a) n = (n.0, go a n.1)
 
-pub length-numbered : (l g : List ℕ) (size : ℕ) → Numbered (length_lines l g size)
-length-numbered l g size = go (read_lines l) (numbered l)
+pub length_numbered : (l g : List ℕ) (size : ℕ) → Numbered (length_lines l g size)
+length_numbered l g size = go (read_lines l) (numbered l)
   where
     go : (a : List Line) → Numbered a → Numbered (a ++ measure_lines (nest_of l) g size)
     go [] n = (λ q. omega arith, (λ q. omega arith, tt))

@@ -25,13 +25,13 @@ use Rattle.nest.specs.Nest.{cells, processors}
 use Rattle.base.specs.Lists.{Bytes}
 use Rattle.nest.specs.Reader.{read_lines, nest_of, reading_of}
 use Rattle.nest.proofs.Facts.{accepted}
-use Rattle.nest.proofs.Answers.{nest-read}
+use Rattle.nest.proofs.Answers.{nest_read}
 use Rattle.layout.specs.declared.Sizes.{Sizes}
 use Rattle.layout.specs.Sizes.{Sized}
 use Rattle.layout.specs.RouteWords.{route_of}
 use Rattle.summary.specs.declared.Figures.{Figures}
 use Rattle.summary.specs.Summary.{figures_of, summary_of}
-use Rattle.summary.proofs.Answers.{summary-is}
+use Rattle.summary.proofs.Answers.{summary_is}
 use Rattle.engine.specs.Calls.{answer, recipe, areas, fresh_call, collect_call, sweep_call}
 use Rattle.engine.specs.Demands.{calls}
 use Rattle.engine.proofs.Demands.{demands}
@@ -255,8 +255,8 @@ pub in_limits : (bytes : List ℕ) (r : Reading) (z : Sizes) (f : Figures) (c p 
     → Within bytes (record { cells = c; processors = p; messages = f.messages; words = f.words; steps = f.steps })
 in_limits bytes r z f c p is zero-read g narrow narrow2 low e =
     let read : first_of (read_lines bytes) ≡ 0 = sym (ap (λ (x : Reading). x.number) is) ∙ zero-read in
-    let nest = nest-read bytes r is zero-read in
-    let figures : f ≡ figures_of (recipe bytes 0) = e ∙ sym (summary-is bytes 0 _ (record { none = open_direct bytes read; is = refl })) in
+    let nest = nest_read bytes r is zero-read in
+    let figures : f ≡ figures_of (recipe bytes 0) = e ∙ sym (summary_is bytes 0 _ (record { none = open_direct bytes read; is = refl })) in
     record {
       read = read;
       measured =

@@ -19,7 +19,7 @@ use Rattle.machine.specs.Runs.{total}
 use Rattle.nest.specs.declared.Reading.{Reading}
 use Rattle.nest.specs.Nest.{cells, processors}
 use Rattle.nest.specs.Reader.{read_lines, nest_of, reading_of}
-use Rattle.nest.proofs.Answers.{number_read, nest-read}
+use Rattle.nest.proofs.Answers.{number_read, nest_read}
 use Rattle.layout.specs.declared.Sizes.{Sizes}
 use Rattle.layout.specs.Sizes.{Sized}
 use Rattle.engine.specs.Calls.{recipe}
@@ -127,7 +127,7 @@ module _ (l : List ℕ) (u w : Pen) where
         (narrow2 : s.processors < 4294967296 → p ≡ s.processors) (r : Bool) (e : r ≡ is_beyond c p) where
       limit : r ≡ is_beyond (recipe l 0).cells (recipe l 0).processors
       limit =
-          let nest = nest-read l i is z in
+          let nest = nest_read l i is z in
           let a : c ≡ cells (nest_of l) = narrow (omega (arith, g.cells, g.accepted.cells_most)) ∙ g.cells ∙ ap cells nest in
           let b : p ≡ processors (nest_of l) = narrow2 (omega (arith, g.processors, g.accepted.processors_most)) ∙ g.processors ∙ ap processors nest in
           e ∙ ap (λ (k : ℕ). is_beyond k p) a ∙ ap (is_beyond (cells (nest_of l))) b

@@ -26,7 +26,7 @@ use Rattle.layout.specs.RouteWords.{route_of}
 use Rattle.nest.specs.declared.Reading.{Reading}
 use Rattle.nest.specs.Reader.{read_lines, nest_of, reading_of}
 use Rattle.nest.proofs.Numbered.{numbered}
-use Rattle.nest.proofs.Answers.{nest-read}
+use Rattle.nest.proofs.Answers.{nest_read}
 pub use Rattle.nest.proofs.Answers.{number_read as read_number}
 use Rattle.recipe.specs.Routes.{lines_for}
 pub use Rattle.recipe.specs.Given.{Opened}
@@ -135,7 +135,7 @@ module _ (l : List ℕ) (r : Reading) (e : r ≡ reading_of l) where
   opened_direct h {route} k =
       record {
         none = passed_for Direct l (sym (read_number l r e) ∙ h) (direct_open (nest_of l));
-        is = ap (λ (z : Route). plan_of z r.nest) k ∙ ap (plan_of Direct) (nest-read l r e h);
+        is = ap (λ (z : Route). plan_of z r.nest) k ∙ ap (plan_of Direct) (nest_read l r e h);
       }
 
 -- behind lines of which none has the number 0

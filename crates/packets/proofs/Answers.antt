@@ -31,25 +31,25 @@ not_same false = refl
 
 -- ---- so many words in so many bytes
 
-pub unfit-many : (n m : ℕ) → 285 < n → true ≡ unfit n m
+pub unfit_many : (n m : ℕ) → 285 < n → true ≡ unfit n m
 unfolding unfit
-unfit-many n m h = sym (or_left _ (lt-ltb 285 n h))
+unfit_many n m h = sym (or_left _ (lt-ltb 285 n h))
 
-pub unfit-long : (n m : ℕ) → n ≤ 285 → (t : Bool) → t ≡ mathlib.Core.Bool.not (eqb m (56 + 4 * n + 4)) → t ≡ unfit n m
+pub unfit_long : (n m : ℕ) → n ≤ 285 → (t : Bool) → t ≡ mathlib.Core.Bool.not (eqb m (56 + 4 * n + 4)) → t ≡ unfit n m
 unfolding unfit ◌or◌
-unfit-long n m h t e =
+unfit_long n m h t e =
     e ∙ not_same _ ∙ ap (λ (k : ℕ). not (eqb m k)) ends ∙ sym (ap (λ (b : Bool). b or not (eqb m (packet_length n))) (le-ltb 285 n h))
   where
     ends : 56 + 4 * n + 4 ≡ packet_length n
     ends = omega arith
 
-pub fit-short : (n m : ℕ) → unfit n m ≡ false → n ≤ 285
+pub fit_short : (n m : ℕ) → unfit n m ≡ false → n ≤ 285
 unfolding unfit
-fit-short n m e = ltb-false 285 n (neither e).0
+fit_short n m e = ltb-false 285 n (neither e).0
 
-pub fit-long : (n m : ℕ) → unfit n m ≡ false → m ≡ packet_length n
+pub fit_long : (n m : ℕ) → unfit n m ≡ false → m ≡ packet_length n
 unfolding unfit
-fit-long n m e = eqb-true m (packet_length n) (true_not (neither e).1)
+fit_long n m e = eqb-true m (packet_length n) (true_not (neither e).1)
 
 pub fit_is : (n m : ℕ) → n ≤ 285 → m ≡ packet_length n → unfit n m ≡ false
 unfolding unfit
@@ -57,9 +57,9 @@ fit_is n m h e = or_false (le-ltb 285 n h) (not-true (eq-eqb m (packet_length n)
 
 -- ---- writing
 
-pub write-refused : (h : Header) (ws s : List ℕ) → unfit (length ws) (length s) ≡ true → written_of 9 s ≡ write_call h ws s
+pub write_refused : (h : Header) (ws s : List ℕ) → unfit (length ws) (length s) ≡ true → written_of 9 s ≡ write_call h ws s
 unfolding write_call
-write-refused h ws s e = sym (ap (λ (n : ℕ). written_by n h ws s) (first_true 9 _ [] e))
+write_refused h ws s e = sym (ap (λ (n : ℕ). written_by n h ws s) (first_true 9 _ [] e))
 
 pub written_all : (h : Header) (ws a b c d : List ℕ) (check : ℕ) → length a ≡ packet_length (length ws)
     → Put a 0 (words_bytes (head_words h (length ws))) b → Put b 56 (words_bytes ws) c
@@ -90,23 +90,23 @@ write_done h ws a d l e = ap (written_of 0) e ∙ sym (ap (λ (n : ℕ). written
 
 -- ---- damaged
 
-pub damaged-short : (p : List ℕ) → length p < 60 → true ≡ damaged p
+pub damaged_short : (p : List ℕ) → length p < 60 → true ≡ damaged p
 unfolding damaged unfit
-damaged-short p h = sym (or_left _ (or_right (ltb 285 (count_of p)) (not-false (ne_eqb (length p) (packet_length (count_of p)) (λ e. omega arith)))))
+damaged_short p h = sym (or_left _ (or_right (ltb 285 (count_of p)) (not-false (ne_eqb (length p) (packet_length (count_of p)) (λ e. omega arith)))))
 
-pub damaged-unfit : (p : List ℕ) (n : ℕ) → n ≡ count_of p → unfit n (length p) ≡ true → true ≡ damaged p
+pub damaged_unfit : (p : List ℕ) (n : ℕ) → n ≡ count_of p → unfit n (length p) ≡ true → true ≡ damaged p
 unfolding damaged
-damaged-unfit p n k h = sym (or_left _ (ap (λ (x : ℕ). unfit x (length p)) (sym k) ∙ h))
+damaged_unfit p n k h = sym (or_left _ (ap (λ (x : ℕ). unfit x (length p)) (sym k) ∙ h))
 
-pub damaged-magic : (p : List ℕ) (m : ℕ) → m ≡ word_at p 0 → (m ≡ magic → ⊥) → true ≡ damaged p
+pub damaged_magic : (p : List ℕ) (m : ℕ) → m ≡ word_at p 0 → (m ≡ magic → ⊥) → true ≡ damaged p
 unfolding damaged
-damaged-magic p m k h = sym (or_right (unfit (count_of p) (length p)) (or_left _ (not-false (ne_eqb (word_at p 0) magic (λ e. h (k ∙ e))))))
+damaged_magic p m k h = sym (or_right (unfit (count_of p) (length p)) (or_left _ (not-false (ne_eqb (word_at p 0) magic (λ e. h (k ∙ e))))))
 
 -- the check word alone is left to be tested
-pub damaged-check : (p : List ℕ) (n c w m : ℕ) (t : Bool) → n ≡ count_of p → unfit n (length p) ≡ false → m ≡ word_at p 0 → m ≡ magic
+pub damaged_check : (p : List ℕ) (n c w m : ℕ) (t : Bool) → n ≡ count_of p → unfit n (length p) ≡ false → m ≡ word_at p 0 → m ≡ magic
     → c ≡ crc32 (take (56 + 4 * n) p) → w ≡ word_at p (14 + n) → t ≡ mathlib.Core.Bool.not (eqb w c) → t ≡ damaged p
 unfolding damaged ◌or◌
-damaged-check p n c w m t k l mw mm e f g =
+damaged_check p n c w m t k l mw mm e f g =
     g ∙ not_same _ ∙ ap₂ (λ (x y : ℕ). not (eqb x y)) (f ∙ ap (λ (x : ℕ). word_at p (14 + x)) k) (e ∙ ap (λ (x : ℕ). crc32 (take x p)) ends)
     ∙ sym (ap₂ (λ (a b : Bool). a or (b or not (eqb (word_at p (14 + count_of p)) (crc32 (take (4 * (14 + count_of p)) p)))))
     (ap (λ (x : ℕ). unfit x (length p)) (sym k) ∙ l) (not-true (eq-eqb (word_at p 0) magic (sym mw ∙ mm))))
@@ -127,8 +127,8 @@ whole_is p d =
     let a = neither d in
     let b = neither a.1 in
     record {
-      short = fit-short (count_of p) (length p) a.0;
-      long = fit-long (count_of p) (length p) a.0;
+      short = fit_short (count_of p) (length p) a.0;
+      long = fit_long (count_of p) (length p) a.0;
       first = eqb-true (word_at p 0) magic (true_not b.0);
       check = eqb-true (word_at p (14 + count_of p)) (crc32 (take (4 * (14 + count_of p)) p)) (true_not b.1);
     }
@@ -141,25 +141,25 @@ is_whole p w =
 
 -- ---- stale
 
-pub stale-recipe : (p : List ℕ) (f n w : ℕ) → w ≡ double_at p 1 → (w ≡ f → ⊥) → true ≡ stale f n p
+pub stale_recipe : (p : List ℕ) (f n w : ℕ) → w ≡ double_at p 1 → (w ≡ f → ⊥) → true ≡ stale f n p
 unfolding stale
-stale-recipe p f n w k h = sym (or_left _ (not-false (ne_eqb (double_at p 1) f (λ e. h (k ∙ e)))))
+stale_recipe p f n w k h = sym (or_left _ (not-false (ne_eqb (double_at p 1) f (λ e. h (k ∙ e)))))
 
 -- the run alone is left to be tested
-pub stale-run : (p : List ℕ) (f n v w : ℕ) (t : Bool) → v ≡ double_at p 1 → v ≡ f → w ≡ double_at p 3 → t ≡ mathlib.Core.Bool.not (eqb w n) → t ≡ stale f n p
+pub stale_run : (p : List ℕ) (f n v w : ℕ) (t : Bool) → v ≡ double_at p 1 → v ≡ f → w ≡ double_at p 3 → t ≡ mathlib.Core.Bool.not (eqb w n) → t ≡ stale f n p
 unfolding stale ◌or◌
-stale-run p f n v w t k h l g =
+stale_run p f n v w t k h l g =
     g ∙ not_same _ ∙ ap (λ (x : ℕ). not (eqb x n)) l
     ∙ sym (ap (λ (b : Bool). b or not (eqb (double_at p 3) n)) (not-true (eq-eqb (double_at p 1) f (sym k ∙ h))))
 
 -- ---- reading: the number
 
 module _ (f n : ℕ) (p : List ℕ) (room : ℕ) where
-  pub number-damaged : damaged p ≡ true → 26 ≡ first_of (read_lines f n p room)
-  number-damaged d = sym (first_true 26 _ _ d)
+  pub number_damaged : damaged p ≡ true → 26 ≡ first_of (read_lines f n p room)
+  number_damaged d = sym (first_true 26 _ _ d)
 
-  pub number-stale : damaged p ≡ false → stale f n p ≡ true → 27 ≡ first_of (read_lines f n p room)
-  number-stale d e = sym (first_false 26 _ _ d ∙ first_true 27 _ _ e)
+  pub number_stale : damaged p ≡ false → stale f n p ≡ true → 27 ≡ first_of (read_lines f n p room)
+  number_stale d e = sym (first_false 26 _ _ d ∙ first_true 27 _ _ e)
 
   pub number_short : damaged p ≡ false → stale f n p ≡ false → room < count_of p → 9 ≡ first_of (read_lines f n p room)
   number_short d e h = sym (first_false 26 _ _ d ∙ first_false 27 _ _ e ∙ first_true 9 _ _ (lt-ltb room (count_of p) h))
@@ -182,42 +182,42 @@ readable f n p room z =
 
 -- ---- reading: the answer
 
-pub part-crc : (p : List ℕ) (n c : ℕ) → c ≡ crc32 (take (n - 0) (drop 0 p)) → c ≡ crc32 (take n p)
-part-crc p n c e = rw (sub-zero n) at e
+pub part_crc : (p : List ℕ) (n c : ℕ) → c ≡ crc32 (take (n - 0) (drop 0 p)) → c ≡ crc32 (take n p)
+part_crc p n c e = rw (sub-zero n) at e
 
 unfoldable pub made : ℕ → Header → ℕ → List ℕ → Read
 made a h c l = record { number = a; header = h; count = c; words = l }
 
-made-same : {a b c d : ℕ} {h g : Header} {l m : List ℕ} → a ≡ b → h ≡ g → c ≡ d → l ≡ m → made a h c l ≡ made b g d m
-made-same p q r s = rw (p, q, r, s)
+made_same : {a b c d : ℕ} {h g : Header} {l m : List ℕ} → a ≡ b → h ≡ g → c ≡ d → l ≡ m → made a h c l ≡ made b g d m
+made_same p q r s = rw (p, q, r, s)
 
-refused-made : (x : ℕ) (p ws : List ℕ) → (x ≡ 0 → ⊥) → made x no_header 0 ws ≡ read_by x p ws
+refused_made : (x : ℕ) (p ws : List ℕ) → (x ≡ 0 → ⊥) → made x no_header 0 ws ≡ read_by x p ws
 unfolding made
-refused-made zero p ws y = absurd (y refl)
-refused-made (suc x) p ws y = refl
+refused_made zero p ws y = absurd (y refl)
+refused_made (suc x) p ws y = refl
 
 pub refused_as : (r : Reading) (f n : ℕ) (p ws : List ℕ) (k : ℕ) → (r.number ≡ k) × (r.header ≡ no_header) × (r.count ≡ 0)
     → k ≡ first_of (read_lines f n p (length ws)) → (k ≡ 0 → ⊥) → read_of r ws ≡ read_call f n p ws
 unfolding read_call made
-refused_as r f n p ws k is e z = made-same is.0 is.1 is.2 refl ∙ refused-made k p ws z ∙ ap (λ (x : ℕ). read_by x p ws) e
+refused_as r f n p ws k is e z = made_same is.0 is.1 is.2 refl ∙ refused_made k p ws z ∙ ap (λ (x : ℕ). read_by x p ws) e
 
 pub read_all : (f n : ℕ) (p ws out : List ℕ) (h : Header) (count k : ℕ) → 0 ≡ first_of (read_lines f n p (length ws))
     → h ≡ header_of p → count ≡ count_of p → k ≡ count → out ≡ tabulate (λ i. word_at p (14 + i)) k ++ drop k ws
     → made 0 h count out ≡ read_call f n p ws
 unfolding read_call made words_of
 read_all f n p ws out h count k z eh ec ek eo =
-    made-same refl eh ec (eo ∙ ap (λ (x : ℕ). tabulate (λ i. word_at p (14 + i)) x ++ drop x ws) (ek ∙ ec)) ∙ ap (λ (x : ℕ). read_by x p ws) z
+    made_same refl eh ec (eo ∙ ap (λ (x : ℕ). tabulate (λ i. word_at p (14 + i)) x ++ drop x ws) (ek ∙ ec)) ∙ ap (λ (x : ℕ). read_by x p ws) z
 
 -- two words side by side
-pub double-words : (p : List ℕ) (i a b r : ℕ) → a ≡ word p (4 * i) → b ≡ word p (4 * i + 4) → r ≡ a + 2 ^ 32 * b → r ≡ double_at p i
+pub double_words : (p : List ℕ) (i a b r : ℕ) → a ≡ word p (4 * i) → b ≡ word p (4 * i + 4) → r ≡ a + 2 ^ 32 * b → r ≡ double_at p i
 unfolding double_at word_at
-double-words p i a b r ea eb e =
+double_words p i a b r ea eb e =
     e ∙ ap₂ (λ (x y : ℕ). x + 2 ^ 32 * y) ea (eb ∙ ap (word p) (let k : 4 * i + 4 ≡ 4 * (i + 1) = omega arith in k))
 
 -- a word behind the header
-pub word-behind : (p : List ℕ) (i w : ℕ) → w ≡ word p (56 + 4 * i) → w ≡ word_at p (14 + i)
+pub word_behind : (p : List ℕ) (i w : ℕ) → w ≡ word p (56 + 4 * i) → w ≡ word_at p (14 + i)
 unfolding word_at
-word-behind p i w e = e ∙ ap (word p) (let k : 56 + 4 * i ≡ 4 * (14 + i) = omega arith in k)
+word_behind p i w e = e ∙ ap (word p) (let k : 56 + 4 * i ≡ 4 * (14 + i) = omega arith in k)
 
 pub count_at : (p : List ℕ) (w : ℕ) → w ≡ word p 52 → w ≡ count_of p
 unfolding word_at
@@ -231,8 +231,8 @@ abbrev pub header_from : ℕ → ℕ → ℕ → ℕ → ℕ → ℕ → ℕ →
 header_from a b c d e f g h i =
     record { fingerprint = a; run = b; life = c; kind = d; sender = e; taker = f; item = g; chunk = h; chunks = i }
 
-pub header-fields : (p : List ℕ) (a b c d e f g h i : ℕ) → a ≡ double_at p 1 → b ≡ double_at p 3 → c ≡ double_at p 5
+pub header_fields : (p : List ℕ) (a b c d e f g h i : ℕ) → a ≡ double_at p 1 → b ≡ double_at p 3 → c ≡ double_at p 5
     → d ≡ word p 28 → e ≡ word p 32 → f ≡ word p 36 → g ≡ word p 40 → h ≡ word p 44 → i ≡ word p 48
     → header_from a b c d e f g h i ≡ header_of p
 unfolding header_of word_at
-header-fields p a b c d e f g h i ea eb ec ed ee ef eg eh ei = rw (ea, eb, ec, ed, ee, ef, eg, eh, ei)
+header_fields p a b c d e f g h i ea eb ec ed ee ef eg eh ei = rw (ea, eb, ec, ed, ee, ef, eg, eh, ei)

@@ -55,13 +55,13 @@ none_told (suc n) p b h = refl
 
 module _ (bytes : List ℕ) (route b : ℕ) (r : Recipe) (o : OpensFor bytes route b r) where
   -- how long the areas are
-  pub sizes-read : r.number ≢ 0 → no_lengths r.number ≡ part_sizes_call bytes route b
+  pub sizes_read : r.number ≢ 0 → no_lengths r.number ≡ part_sizes_call bytes route b
   unfolding part_sizes_call
-  sizes-read h = sym (none_told r.number (recipe bytes route) b h) ∙ ap (λ (n : ℕ). lengths_if n (recipe bytes route) b) o.number
+  sizes_read h = sym (none_told r.number (recipe bytes route) b h) ∙ ap (λ (n : ℕ). lengths_if n (recipe bytes route) b) o.number
 
-  pub sizes-done : r.number ≡ 0 → (new : AreaLengths) → new ≡ lengths_of (plan_of r.sizes.route r.nest) b → new ≡ part_sizes_call bytes route b
+  pub sizes_done : r.number ≡ 0 → (new : AreaLengths) → new ≡ lengths_of (plan_of r.sizes.route r.nest) b → new ≡ part_sizes_call bytes route b
   unfolding part_sizes_call lengths_if
-  sizes-done z new e =
+  sizes_done z new e =
       e ∙ ap (λ (p : Plan). lengths_of p b) (o.plan z) ∙ ap (λ (n : ℕ). lengths_if n (recipe bytes route) b) (sym z ∙ o.number)
 
   module _ (s : State) where
@@ -69,33 +69,33 @@ module _ (bytes : List ℕ) (route b : ℕ) (r : Recipe) (o : OpensFor bytes rou
     unfolding part_fresh_call
     fresh_read h = closed bytes route b r o (λ p. line 9 (not (part_fits p b s)) ∷ []) (λ p. to_part p b (fresh p)) s h
 
-    pub fresh-past : r.number ≡ 0 → (a : Answered State) → a ≡ fresh_or (plan_of r.sizes.route r.nest) b s → a ≡ part_fresh_call bytes route s b
+    pub fresh_past : r.number ≡ 0 → (a : Answered State) → a ≡ fresh_or (plan_of r.sizes.route r.nest) b s → a ≡ part_fresh_call bytes route s b
     unfolding part_fresh_call
-    fresh-past z a e = opened bytes route b r o (λ p. line 9 (not (part_fits p b s)) ∷ []) (λ p. to_part p b (fresh p)) s z a e
+    fresh_past z a e = opened bytes route b r o (λ p. line 9 (not (part_fits p b s)) ∷ []) (λ p. to_part p b (fresh p)) s z a e
 
     module _ (m : ℕ) where
       pub post_read : r.number ≢ 0 → answer r.number s ≡ part_post_call bytes route s b m
       unfolding part_post_call
       post_read h = closed bytes route b r o (λ p. post_lines p b s m) (λ p. to_part p b (marked (from_part p b s) m)) s h
 
-      pub post-past : r.number ≡ 0 → (a : Answered State) → a ≡ posted_or (plan_of r.sizes.route r.nest) b s m → a ≡ part_post_call bytes route s b m
+      pub post_past : r.number ≡ 0 → (a : Answered State) → a ≡ posted_or (plan_of r.sizes.route r.nest) b s m → a ≡ part_post_call bytes route s b m
       unfolding part_post_call
-      post-past z a e = opened bytes route b r o (λ p. post_lines p b s m) (λ p. to_part p b (marked (from_part p b s) m)) s z a e
+      post_past z a e = opened bytes route b r o (λ p. post_lines p b s m) (λ p. to_part p b (marked (from_part p b s) m)) s z a e
 
       module _ (ws : List ℕ) where
-        pub arrive-read : r.number ≢ 0 → answer r.number s ≡ part_arrive_call bytes route s b m ws
+        pub arrive_read : r.number ≢ 0 → answer r.number s ≡ part_arrive_call bytes route s b m ws
         unfolding part_arrive_call
-        arrive-read h = closed bytes route b r o (λ p. arrive_lines p b s m ws) (λ p. to_part p b (received p (from_part p b s) m ws)) s h
+        arrive_read h = closed bytes route b r o (λ p. arrive_lines p b s m ws) (λ p. to_part p b (received p (from_part p b s) m ws)) s h
 
-        pub arrive-past : r.number ≡ 0 → (a : Answered State) → a ≡ arrives_or (plan_of r.sizes.route r.nest) b s m ws
+        pub arrive_past : r.number ≡ 0 → (a : Answered State) → a ≡ arrives_or (plan_of r.sizes.route r.nest) b s m ws
             → a ≡ part_arrive_call bytes route s b m ws
         unfolding part_arrive_call
-        arrive-past z a e = opened bytes route b r o (λ p. arrive_lines p b s m ws) (λ p. to_part p b (received p (from_part p b s) m ws)) s z a e
+        arrive_past z a e = opened bytes route b r o (λ p. arrive_lines p b s m ws) (λ p. to_part p b (received p (from_part p b s) m ws)) s z a e
 
 -- ---- answers of the same number, and of the same words where that is 0
 
-answered-same : {A : Type 0} (n k : ℕ) (x y old : A) → n ≡ k → (n ≡ 0 → x ≡ y) → answered n x old ≡ answered k y old
-answered-same {A} n k x y old e h = go (eqb n 0) refl
+answered_same : {A : Type 0} (n k : ℕ) (x y old : A) → n ≡ k → (n ≡ 0 → x ≡ y) → answered n x old ≡ answered k y old
+answered_same {A} n k x y old e h = go (eqb n 0) refl
   where
     go : (t : Bool) → eqb n 0 ≡ t → answered n x old ≡ answered k y old
     go true q =
@@ -109,26 +109,26 @@ refuse n k x old h e = answered_no n x old h ∙ ap (λ (i : ℕ). answered i x 
 
 -- ---- a fresh start
 
-pack-zeros : (n : ℕ) (cs : List ℕ) → pack (replicate n 0) cs ≡ replicate (length cs) 0
+pack_zeros : (n : ℕ) (cs : List ℕ) → pack (replicate n 0) cs ≡ replicate (length cs) 0
 unfolding pack
-pack-zeros n [] = refl
-pack-zeros n (c ∷ cs) = rw (zeros_at n c, pack-zeros n cs)
+pack_zeros n [] = refl
+pack_zeros n (c ∷ cs) = rw (zeros_at n c, pack_zeros n cs)
 
-mail-zeros : (p : Plan) (ms : List ℕ) → ((m : ℕ) → In m ms → m < count p) → mail_of p (replicate (words p) 0) ms ≡ replicate (words_of p ms) 0
+mail_zeros : (p : Plan) (ms : List ℕ) → ((m : ℕ) → In m ms → m < count p) → mail_of p (replicate (words p) 0) ms ≡ replicate (words_of p ms) 0
 unfolding mail_of words_of
-mail-zeros p [] low = refl
-mail-zeros p (m ∷ ms) low =
+mail_zeros p [] low = refl
+mail_zeros p (m ∷ ms) low =
     let lo = low m (inl refl) in
     let a : place_of p (replicate (words p) 0) m ≡ replicate (length (held_by p m)) 0 =
     part_zeros (words p) (offset p.messages m) (length (held_by p m)) (offset_apart p.messages m (count p) lo lo) in
-    rw (a, mail-zeros p ms (λ k i. low k (inr i))) (replicate-append-replicate (length (held_by p m)) (words_of p ms) 0)
+    rw (a, mail_zeros p ms (λ k i. low k (inr i))) (replicate-append-replicate (length (held_by p m)) (words_of p ms) 0)
 
 module _ (p : Plan) (b : ℕ) (low : b < p.processors) (m u l t : List ℕ) (r : Bool) (is : r ≡ part_fits p b (state_of m u l t)) where
   abbrev s : State
   s = state_of m u l t
 
-  pub fresh-nine : r ≡ false → answer 9 (state_of m u (zeros_after l 9) t) ≡ fresh_or p b s
-  fresh-nine h =
+  pub fresh_nine : r ≡ false → answer 9 (state_of m u (zeros_after l 9) t) ≡ fresh_or p b s
+  fresh_nine h =
       ap (λ (k : List ℕ). answer 9 (state_of m u k t)) (sym (zeros_after_no l 9 (λ q. omega arith)))
       ∙ refuse 9 _ (to_part p b (fresh p)) s (λ q. omega arith) (sym (first_true 9 _ [] (not-false (sym is ∙ h))))
 
@@ -141,16 +141,16 @@ module _ (p : Plan) (b : ℕ) (low : b < p.processors) (m u l t : List ℕ) (r :
     fresh_is =
         narrow_is p b s low g (fresh p)
         ∙ state_is
-        (ap (λ (z : List ℕ). pack z (kept_cells p b)) (zero_memory p b s low g) ∙ pack-zeros p.cells (kept_cells p b)
+        (ap (λ (z : List ℕ). pack z (kept_cells p b)) (zero_memory p b s low g) ∙ pack_zeros p.cells (kept_cells p b)
         ∙ ap (λ (n : ℕ). replicate n 0) (sym g.memory))
-        (mail-zeros p (handled p b) (handled_low p b) ∙ ap (λ (n : ℕ). replicate n 0) (sym g.mail))
+        (mail_zeros p (handled p b) (handled_low p b) ∙ ap (λ (n : ℕ). replicate n 0) (sym g.mail))
         (let x = zeros_at (3 * p.processors) (3 * b) in
         let y = zeros_at (3 * p.processors) (3 * b + 1) in
         let z = zeros_at (3 * p.processors) (3 * b + 2) in
         (let w : get_or (replicate (3 * p.processors) 0) (3 * b) 0 ∷ get_or (replicate (3 * p.processors) 0) (3 * b + 1) 0
         ∷ get_or (replicate (3 * p.processors) 0) (3 * b + 2) 0 ∷ [] ≡ replicate 3 0 = cc in w)
         ∙ ap (λ (n : ℕ). replicate n 0) (sym g.progress))
-        (pack-zeros (count p) (handled p b) ∙ ap (λ (n : ℕ). replicate n 0) (sym g.marks))
+        (pack_zeros (count p) (handled p b) ∙ ap (λ (n : ℕ). replicate n 0) (sym g.marks))
 
     pub fresh_done : (m' u' t' : List ℕ) → m' ≡ replicate (length m) 0 → u' ≡ replicate (length u) 0 → t' ≡ replicate (length t) 0
         → answer 0 (state_of m' u' (zeros_after l 0) t') ≡ fresh_or p b s
@@ -162,9 +162,9 @@ module _ (p : Plan) (b : ℕ) (low : b < p.processors) (m u l t : List ℕ) (r :
 -- ---- the part of areas whose mail and marks are changed
 
 module _ (p : Plan) (b : ℕ) (s : State) (low : b < p.processors) (g : PartLengths p b s) where
-  narrow-changed : (u t : List ℕ) → to_part p b (state_of (from_part p b s).memories u (from_part p b s).progress t)
+  narrow_changed : (u t : List ℕ) → to_part p b (state_of (from_part p b s).memories u (from_part p b s).progress t)
       ≡ state_of s.memories (mail_of p u (handled p b)) s.progress (pack t (handled p b))
-  narrow-changed u t =
+  narrow_changed u t =
       narrow_is p b s low g (state_of (from_part p b s).memories u (from_part p b s).progress t)
       ∙ state_is (ap (λ (z : List ℕ). pack z (kept_cells p b)) (wide_memory p b s low g) ∙ words_back p b s low g) refl
       ((let x = wide_finished p b s low g in let y = wide_stage p b s low g in let z = wide_sent p b s low g in
@@ -181,24 +181,24 @@ module _ (p : Plan) (b : ℕ) (s : State) (low : b < p.processors) (g : PartLeng
       go false e = mark_none p b s low g m e ∙ sym (pick_false _ _ _ e)
 
   -- a mark that is not 0 is that of a handled message
-  handles-marked : (m v : ℕ) → v ≢ 0 → mark_in p b s.status m ≡ v → handles p b m ≡ true
-  handles-marked m v n e = go (handles p b m) refl
+  handles_marked : (m v : ℕ) → v ≢ 0 → mark_in p b s.status m ≡ v → handles p b m ≡ true
+  handles_marked m v n e = go (handles p b m) refl
     where
       go : (h : Bool) → handles p b m ≡ h → handles p b m ≡ true
       go true q = q
       go false q = absurd (n (sym e ∙ pick_false _ _ _ q))
 
   module _ (m : ℕ) (lo : m < count p) (h : handles p b m ≡ true) where
-    posted-is : to_part p b (marked (from_part p b s) m) ≡ state_of s.memories s.buffer s.progress (set s.status (rank_of p b m) 2)
-    posted-is =
-        narrow-changed (from_part p b s).buffer (set (from_part p b s).status m 2)
+    posted_is : to_part p b (marked (from_part p b s) m) ≡ state_of s.memories s.buffer s.progress (set s.status (rank_of p b m) 2)
+    posted_is =
+        narrow_changed (from_part p b s).buffer (set (from_part p b s).status m 2)
         ∙ state_is refl (wide_mail p b s low g) refl (mark_set p b s low g m lo h 2)
 
-    arrived-is : (ws : List ℕ) → length ws ≡ length (held_by p m)
+    arrived_is : (ws : List ℕ) → length ws ≡ length (held_by p m)
         → to_part p b (received p (from_part p b s) m ws)
         ≡ state_of s.memories (put s.buffer (mail_at p b m) ws) s.progress (set s.status (rank_of p b m) 2)
-    arrived-is ws n =
-        narrow-changed (put (from_part p b s).buffer (offset p.messages m) ws) (set (from_part p b s).status m 2)
+    arrived_is ws n =
+        narrow_changed (put (from_part p b s).buffer (offset p.messages m) ws) (set (from_part p b s).status m 2)
         ∙ state_is refl (words_put p b s low g m lo h ws n) refl (mark_set p b s low g m lo h 2)
 
 -- ---- ranks tell what is handled
@@ -211,8 +211,8 @@ module _ (p : Plan) (b m : ℕ) where
       go false q = q
       go true q = absurd (omega (arith, e, a, n, ap (rank_of p b) (add-one m), keep_more (handles p b) m q))
 
-  pub other-rank : (at next : ℕ) → at ≡ rank_of p b m → next ≡ rank_of p b (m + 1) → next ≢ at → handles p b m ≡ true
-  other-rank at next a n e = go (handles p b m) refl
+  pub other_rank : (at next : ℕ) → at ≡ rank_of p b m → next ≡ rank_of p b (m + 1) → next ≢ at → handles p b m ≡ true
+  other_rank at next a n e = go (handles p b m) refl
     where
       go : (h : Bool) → handles p b m ≡ h → handles p b m ≡ true
       go true q = q
@@ -237,15 +237,15 @@ module _ (p : Plan) (b : ℕ) (s : State) (m : ℕ) where
     not_sent : mark_in p b s.status m ≢ 1 → answer 14 s ≡ handed_over p b s m
     not_sent h = refuse 14 _ after s (λ q. omega arith) (sym (behind ∙ first_true 14 _ _ (not-false (ne_eqb _ _ h))))
 
-    pub over-anothers : handles p b m ≡ false → answer 14 s ≡ handed_over p b s m
-    over-anothers h = not_sent (λ q. omega (arith, sym (pick_false (handles p b m) (get_or s.status (rank_of p b m) 0) 0 h) ∙ q))
+    pub over_anothers : handles p b m ≡ false → answer 14 s ≡ handed_over p b s m
+    over_anothers h = not_sent (λ q. omega (arith, sym (pick_false (handles p b m) (get_or s.status (rank_of p b m) 0) 0 h) ∙ q))
 
     module _ (h : handles p b m ≡ true) (at : ℕ) (e : at ≡ rank_of p b m) where
       mark : mark_in p b s.status m ≡ get_or s.status at 0
       mark = pick_true (handles p b m) (get_or s.status (rank_of p b m) 0) 0 h ∙ ap (λ (i : ℕ). get_or s.status i 0) (sym e)
 
-      pub over-not : get_or s.status at 0 ≢ 1 → answer 14 s ≡ handed_over p b s m
-      over-not k = not_sent (λ q. k (sym mark ∙ q))
+      pub over_not : get_or s.status at 0 ≢ 1 → answer 14 s ≡ handed_over p b s m
+      over_not k = not_sent (λ q. k (sym mark ∙ q))
 
       pub over_done : get_or s.status at 0 ≡ 1
           → answer 0 (state_of s.memories s.buffer s.progress (set s.status at 2)) ≡ handed_over p b s m
@@ -255,9 +255,9 @@ module _ (p : Plan) (b : ℕ) (s : State) (m : ℕ) where
           ∙ answered_yes _ after s (behind ∙ first_false 14 (not (eqb (mark_in p b s.status m) 1)) [] (not-true (eq-eqb _ _ (mark ∙ k))))
 
 -- where it stands among the marks
-pub mark-low : (p : Plan) (b m at : ℕ) (marks : List ℕ) → length marks ≡ length (handled p b) → m < count p → handles p b m ≡ true → at ≡ rank_of p b m
+pub mark_low : (p : Plan) (b m at : ℕ) (marks : List ℕ) → length marks ≡ length (handled p b) → m < count p → handles p b m ≡ true → at ≡ rank_of p b m
     → at < length marks
-mark-low p b m at marks e lo h q = omega (arith, e, q, keep_lt (handles p b) (count p) m lo h)
+mark_low p b m at marks e lo h q = omega (arith, e, q, keep_lt (handles p b) (count p) m lo h)
 
 -- ---- a message arrives, by the part's own words
 
@@ -271,40 +271,40 @@ module _ (p : Plan) (b : ℕ) (s : State) (m : ℕ) (ws : List ℕ) where
   another : taken_by p b m ≡ false → answer 11 s ≡ arrived_or p b s m ws
   another h = refuse 11 _ came s (λ q. omega arith) (sym (first_true 11 _ _ (not-false h)))
 
-  pub come-beyond : count p ≤ m → answer 11 s ≡ arrived_or p b s m ws
-  come-beyond h = another (and_false _ _ (le-ltb m (count p) h))
+  pub come_beyond : count p ≤ m → answer 11 s ≡ arrived_or p b s m ws
+  come_beyond h = another (and_false _ _ (le-ltb m (count p) h))
 
   -- the code has the taker as it stands in the message's line
   module _ (r : MessageLine) (e : r ≡ line_of p m) where
     taker_is : r.to ≡ taker_at p m
     taker_is = ap (λ (x : MessageLine). x.to) e
 
-    pub come-elsewhere : r.to ≢ b → answer 11 s ≡ arrived_or p b s m ws
-    come-elsewhere h = another (and_no _ _ (ne_eqb _ _ (λ q. h (taker_is ∙ q))))
+    pub come_elsewhere : r.to ≢ b → answer 11 s ≡ arrived_or p b s m ws
+    come_elsewhere h = another (and_no _ _ (ne_eqb _ _ (λ q. h (taker_is ∙ q))))
 
     module _ (lo : m < count p) (here : r.to ≡ b) where
-      pub come-handled : handles p b m ≡ true
+      pub come_handled : handles p b m ≡ true
       unfolding handles
-      come-handled = or_right _ (eq-eqb (taker_at p m) b (sym taker_is ∙ here))
+      come_handled = or_right _ (eq-eqb (taker_at p m) b (sym taker_is ∙ here))
 
-      come-behind : first_of coming_lines ≡ first_of (line 14 (not (eqb (mark_in p b s.status m) 0)) ∷ [])
-      come-behind = first_false 11 _ _ (not-true (and_true (lt-ltb m (count p) lo) (eq-eqb _ _ (sym taker_is ∙ here))))
+      come_behind : first_of coming_lines ≡ first_of (line 14 (not (eqb (mark_in p b s.status m) 0)) ∷ [])
+      come_behind = first_false 11 _ _ (not-true (and_true (lt-ltb m (count p) lo) (eq-eqb _ _ (sym taker_is ∙ here))))
 
       -- and whether it did not come before
       module _ (at : ℕ) (q : at ≡ rank_of p b m) (new : Bool) (is : new ≡ eqb (get_or s.status at 0) 0) where
-        come-new : eqb (mark_in p b s.status m) 0 ≡ new
-        come-new = ap (λ (v : ℕ). eqb v 0) (mark p b s m lo come-handled at q) ∙ sym is
+        come_new : eqb (mark_in p b s.status m) 0 ≡ new
+        come_new = ap (λ (v : ℕ). eqb v 0) (mark p b s m lo come_handled at q) ∙ sym is
 
-        pub come-again : new ≡ false → (same : State) → same ≡ s → answer 14 same ≡ arrived_or p b s m ws
-        come-again h same e =
-            ap (answer 14) e ∙ refuse 14 _ came s (λ z. omega arith) (sym (come-behind ∙ first_true 14 _ _ (not-false (come-new ∙ h))))
+        pub come_again : new ≡ false → (same : State) → same ≡ s → answer 14 same ≡ arrived_or p b s m ws
+        come_again h same e =
+            ap (answer 14) e ∙ refuse 14 _ came s (λ z. omega arith) (sym (come_behind ∙ first_true 14 _ _ (not-false (come_new ∙ h))))
 
-        pub come-done : new ≡ true → (mail marks : List ℕ) → mail ≡ put s.buffer (mail_at p b m) ws → marks ≡ set s.status at 2
+        pub come_done : new ≡ true → (mail marks : List ℕ) → mail ≡ put s.buffer (mail_at p b m) ws → marks ≡ set s.status at 2
             → answer 0 (state_of s.memories mail s.progress marks) ≡ arrived_or p b s m ws
         unfolding first_of
-        come-done h mail marks k t =
+        come_done h mail marks k t =
             ap (answer 0) (state_is refl k refl (t ∙ ap (λ (i : ℕ). set s.status i 2) q))
-            ∙ answered_yes _ came s (come-behind ∙ first_false 14 (not (eqb (mark_in p b s.status m) 0)) [] (not-true (come-new ∙ h)))
+            ∙ answered_yes _ came s (come_behind ∙ first_false 14 (not (eqb (mark_in p b s.status m) 0)) [] (not-true (come_new ∙ h)))
 
 -- its words in the mail
 module _ (p : Plan) (b m from n : ℕ) (mail : List ℕ) (long : length mail ≡ words_of p (handled p b)) (lo : m < count p) (h : handles p b m ≡ true)
@@ -345,18 +345,18 @@ module _ (p : Plan) (b : ℕ) (low : b < p.processors) (s : State) (r : ℕ) (e 
       same_words q =
           let a = none_first 11 (not (ltb m (count p))) (line 14 (not (eqb (mark_in p b s.status m) 1)) ∷ []) (λ y. omega arith) q in
           let c = none_first 14 (not (eqb (mark_in p b s.status m) 1)) [] (λ y. omega arith) a.1 in
-          sym (posted-is p b s low lent m (ltb-true m (count p) (true_not a.0))
-          (handles-marked p b s low lent m 1 (λ y. omega arith) (eqb-true _ _ (true_not c.0))))
+          sym (posted_is p b s low lent m (ltb-true m (count p) (true_not a.0))
+          (handles_marked p b s low lent m 1 (λ y. omega arith) (eqb-true _ _ (true_not c.0))))
 
-      pub post-over : (a : Answered State) → a ≡ handed_over p b s m → a ≡ posted_or p b s m
-      post-over a t = t ∙ answered-same _ _ (after p b s m) (to_part p b (marked (from_part p b s) m)) s (same (dec_lt m (count p)) ∙ sym past) same_words
+      pub post_over : (a : Answered State) → a ≡ handed_over p b s m → a ≡ posted_or p b s m
+      post_over a t = t ∙ answered_same _ _ (after p b s m) (to_part p b (marked (from_part p b s) m)) s (same (dec_lt m (count p)) ∙ sym past) same_words
 
   module _ (m : ℕ) (ws : List ℕ) where
     abbrev later_lines : List Line
     later_lines = line 11 (not (taken_by p b m)) ∷ line 14 (not (eqb (get_or (from_part p b s).status m 0) 0)) ∷ []
 
-    pub arrive-length : as_long p m ws ≡ false → answer 9 s ≡ arrives_or p b s m ws
-    arrive-length h =
+    pub arrive_length : as_long p m ws ≡ false → answer 9 s ≡ arrives_or p b s m ws
+    arrive_length h =
         refuse 9 _ (to_part p b (received p (from_part p b s) m ws)) s (λ q. omega arith) (sym (first_true 9 _ _ (not-false (and_no _ _ h))))
 
     module _ (long : as_long p m ws ≡ true) where
@@ -370,11 +370,11 @@ module _ (p : Plan) (b : ℕ) (low : b < p.processors) (s : State) (r : ℕ) (e 
           (e ∙ sym (same_lines ∙ first_some (unfit_lines p b s) later_lines (λ q. h (e ∙ q))))
 
       module _ (z : r ≡ 0) where
-        pub arrive-lent : PartLengths p b s
-        arrive-lent = fits_are p b s (unfit_none p b s r e z).0
+        pub arrive_lent : PartLengths p b s
+        arrive_lent = fits_are p b s (unfit_none p b s r e z).0
 
-        behind-two : first_of (arrive_lines p b s m ws) ≡ first_of later_lines
-        behind-two =
+        behind_two : first_of (arrive_lines p b s m ws) ≡ first_of later_lines
+        behind_two =
             let q = unfit_none p b s r e z in
             same_lines
             ∙ first_false 9 (not (part_fits p b s)) (line 10 (not (fit p (from_part p b s))) ∷ later_lines) (not-true q.0)
@@ -383,7 +383,7 @@ module _ (p : Plan) (b : ℕ) (low : b < p.processors) (s : State) (r : ℕ) (e 
         arrive_same : (t : Bool) → taken_by p b m ≡ t → first_of (coming_lines p b s m ws) ≡ first_of later_lines
         arrive_same true q =
             ap (λ (v : ℕ). first_of (line 11 (not (taken_by p b m)) ∷ line 14 (not (eqb v 0)) ∷ []))
-            (sym (mark_is p b s low arrive-lent m (ltb-true m (count p) (both q).0)))
+            (sym (mark_is p b s low arrive_lent m (ltb-true m (count p) (both q).0)))
         arrive_same false q = first_true 11 _ _ (not-false q) ∙ sym (first_true 11 _ _ (not-false q))
 
         arrive_words : first_of (coming_lines p b s m ws) ≡ 0 → came p b s m ws ≡ to_part p b (received p (from_part p b s) m ws)
@@ -392,28 +392,28 @@ module _ (p : Plan) (b : ℕ) (low : b < p.processors) (s : State) (r : ℕ) (e 
             let a = none_first 11 (not (taken_by p b m)) (line 14 (not (eqb (mark_in p b s.status m) 0)) ∷ []) (λ y. omega arith) q in
             let c = both {a = ltb m (count p)} (true_not a.0) in
             let lo = ltb-true m (count p) c.0 in
-            sym (arrived-is p b s low arrive-lent m lo (or_right _ c.1) ws (long_here p m ws lo long))
+            sym (arrived_is p b s low arrive_lent m lo (or_right _ c.1) ws (long_here p m ws lo long))
 
-        pub arrive-come : (a : Answered State) → a ≡ arrived_or p b s m ws → a ≡ arrives_or p b s m ws
-        arrive-come a t =
+        pub arrive_come : (a : Answered State) → a ≡ arrived_or p b s m ws → a ≡ arrives_or p b s m ws
+        arrive_come a t =
             t
-            ∙ answered-same _ _ (came p b s m ws) (to_part p b (received p (from_part p b s) m ws)) s (arrive_same (taken_by p b m) refl ∙ sym behind-two)
+            ∙ answered_same _ _ (came p b s m ws) (to_part p b (received p (from_part p b s) m ws)) s (arrive_same (taken_by p b m) refl ∙ sym behind_two)
             arrive_words
 
 -- the lengths of areas that lines 9 and 10 let pass, by what the code knows of all records that the `Flat` carries
 module _ (p : Plan) (b : ℕ) (m u t : List ℕ) (f : Flat) (room : length f.words ≡ 192) (r : ℕ)
     (e : ((l : List ℕ) → Flattens f l → r ≡ first_of (unfit_lines p b (state_of m u l t))) × (r ≡ 0 → f.count ≡ 3)) (z : r ≡ 0) where
-  part-lent : PartLengths p b (state_of m u (take (f.count - 0) (drop 0 f.words)) t)
-  part-lent =
+  part_lent : PartLengths p b (state_of m u (take (f.count - 0) (drop 0 f.words)) t)
+  part_lent =
       let l = take (f.count - 0) (drop 0 f.words) in
       fits_are p b (state_of m u l t)
       (unfit_none p b (state_of m u l t) r (e.0 l (part_carries f room (omega (arith, e.1 z)))) z).0
 
-  pub marks-lent : length t ≡ length (handled p b)
-  marks-lent = part-lent.marks
+  pub marks_lent : length t ≡ length (handled p b)
+  marks_lent = part_lent.marks
 
-  pub may-arrive : (k : ℕ) (ws : List ℕ) → as_long p k ws ≡ true → MayArrive p b u t k ws
-  may-arrive k ws h = record { mail_long = part-lent.mail; marks_long = part-lent.marks; long = h }
+  pub may_arrive : (k : ℕ) (ws : List ℕ) → as_long p k ws ≡ true → MayArrive p b u t k ws
+  may_arrive k ws h = record { mail_long = part_lent.mail; marks_long = part_lent.marks; long = h }
 
 -- ---- past the first lines: the rows and collecting
 
@@ -422,21 +422,21 @@ module _ (bytes : List ℕ) (route b : ℕ) (r : Recipe) (o : OpensFor bytes rou
     abbrev row_lines : Plan → List Line
     row_lines p = line 9 (not (eqb (length out) (7 * length (handled p b)))) ∷ []
 
-    pub messages-read : r.number ≢ 0 → answer r.number out ≡ part_messages_call bytes route b out
+    pub messages_read : r.number ≢ 0 → answer r.number out ≡ part_messages_call bytes route b out
     unfolding part_messages_call
-    messages-read h = closed bytes route b r o row_lines (λ p. part_rows p b (handled p b)) out h
+    messages_read h = closed bytes route b r o row_lines (λ p. part_rows p b (handled p b)) out h
 
-    pub messages-past : r.number ≡ 0 → (a : Answered (List ℕ)) → a ≡ rows_or (plan_of r.sizes.route r.nest) b out
+    pub messages_past : r.number ≡ 0 → (a : Answered (List ℕ)) → a ≡ rows_or (plan_of r.sizes.route r.nest) b out
         → a ≡ part_messages_call bytes route b out
     unfolding part_messages_call
-    messages-past z a e = opened bytes route b r o row_lines (λ p. part_rows p b (handled p b)) out z a e
+    messages_past z a e = opened bytes route b r o row_lines (λ p. part_rows p b (handled p b)) out z a e
 
   module _ (s : State) (grid : List ℕ) where
     pub collect_read : r.number ≢ 0 → answer r.number grid ≡ part_collect_call bytes route s b grid
     unfolding part_collect_call
     collect_read h = closed bytes route b r o (λ p. collect_lines p b s grid) (λ p. part_collected p b s grid) grid h
 
-    pub collect-past : r.number ≡ 0 → (a : Answered (List ℕ)) → a ≡ collected_or (plan_of r.sizes.route r.nest) b s grid
+    pub collect_past : r.number ≡ 0 → (a : Answered (List ℕ)) → a ≡ collected_or (plan_of r.sizes.route r.nest) b s grid
         → a ≡ part_collect_call bytes route s b grid
     unfolding part_collect_call
-    collect-past z a e = opened bytes route b r o (λ p. collect_lines p b s grid) (λ p. part_collected p b s grid) grid z a e
+    collect_past z a e = opened bytes route b r o (λ p. collect_lines p b s grid) (λ p. part_collected p b s grid) grid z a e

@@ -17,7 +17,7 @@ use Rattle.nest.specs.declared.Reading.{Reading}
 use Rattle.nest.specs.Reader.{read_lines, nest_of, reading_of}
 use Rattle.nest.specs.Accepted.{Accepted}
 use Rattle.nest.proofs.Numbered.{numbered}
-use Rattle.nest.proofs.Answers.{number_read, nest-read}
+use Rattle.nest.proofs.Answers.{number_read, nest_read}
 use Rattle.nest.proofs.Facts.{accepted}
 use Rattle.plan.specs.declared.Route.{Route}
 use Rattle.plan.specs.declared.Route.TheVariants.{Direct, Indirect}
@@ -106,10 +106,10 @@ module _ (bytes : List ℕ) (x : Reading) (is : x ≡ reading_of bytes) (bs : x.
 
     passes : (r : Route) → (indirect r and ltb 0 (nest_of bytes).bounds) ≡ false → ReadFor r bytes x
     passes r h =
-        record { number = z ∙ sym (passed_for r bytes none h); nest = nest-read bytes x is; bytes_are = bs }
+        record { number = z ∙ sym (passed_for r bytes none h); nest = nest_read bytes x is; bytes_are = bs }
 
     pub without : (r : Route) → x.nest.bounds ≡ 0 → ReadFor r bytes x
-    without r e = passes r (box_open r (nest_of bytes) (ap (λ (y : Nest). y.bounds) (sym (nest-read bytes x is z)) ∙ e))
+    without r e = passes r (box_open r (nest_of bytes) (ap (λ (y : Nest). y.bounds) (sym (nest_read bytes x is z)) ∙ e))
 
     pub straight : (r : Route) → Direct ≡ r → ReadFor r bytes x
     straight r e = rw (sym e) (passes Direct (direct_open (nest_of bytes)))
@@ -120,7 +120,7 @@ module _ (bytes : List ℕ) (x : Reading) (is : x ≡ reading_of bytes) (bs : x.
         record {
           number =
               sym (barred_for r bytes none
-              (rw (sym e) (and_true refl (some (nest_of bytes).bounds (λ q. h (ap (λ (y : Nest). y.bounds) (nest-read bytes x is z) ∙ q))))));
+              (rw (sym e) (and_true refl (some (nest_of bytes).bounds (λ q. h (ap (λ (y : Nest). y.bounds) (nest_read bytes x is z) ∙ q))))));
           nest = λ q. absurd (omega (arith, q));
           bytes_are = λ q. absurd (omega (arith, q));
         }

@@ -17,7 +17,7 @@ use Rattle.machine.specs.Machine.{Answered, answered}
 use Rattle.nest.specs.declared.Reading.{Reading}
 use Rattle.nest.specs.Nest.{cells}
 use Rattle.nest.specs.Reader.{records, nest_of, ragged, read_lines, reading_of}
-use Rattle.nest.proofs.Answers.{nest-read, accepted-read}
+use Rattle.nest.proofs.Answers.{nest_read, accepted_read}
 use Rattle.nest.proofs.Numbered.{numbered}
 use Rattle.layout.specs.Places.{nth}
 use Rattle.soundings.specs.Soundings.{cell_of, sounded_source, ragged_file, off_box, source_lines, fill_lines, filled, fill_call}
@@ -108,8 +108,8 @@ module _ (bytes : List ℕ) (r : Reading) (is : r ≡ reading_of bytes) (z : r.n
     (h : size ≡ product (nth r.nest.lengths) r.nest.dimensions) where
   pub size_is : size ≡ cells (nest_of bytes)
   unfolding cells
-  size_is = h ∙ ap cells (nest-read bytes r is z)
+  size_is = h ∙ ap cells (nest_read bytes r is z)
 
   pub size_most : Bytes bytes → (l : ℕ) → l ≡ size → l ≤ 16384
   unfolding cells
-  size_most b l e = rw (e ∙ h) (accepted-read bytes r is z b).cells_most
+  size_most b l e = rw (e ∙ h) (accepted_read bytes r is z b).cells_most

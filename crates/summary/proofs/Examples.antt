@@ -42,7 +42,7 @@ use Rattle.conformance.proofs.InOrder.{spread_rows}
 use Rattle.summary.specs.declared.MessageLine.{MessageLine}
 use Rattle.summary.specs.Summary.{as_figures, no_figures, summary_of, no_line, message_line_of}
 use Rattle.summary.specs.Examples.{planned, tells, lines_told, SummaryExamples}
-use Rattle.summary.proofs.Answers.{summary-refused, message-refused, message-none, message_is}
+use Rattle.summary.proofs.Answers.{summary_refused, message_refused, message_none, message_is}
 
 -- ---- from a plan's figures and lines to what the calls tell
 
@@ -78,7 +78,7 @@ module _ (route : ℕ) (bytes : List ℕ) (z : first_of (lines_for (route_of rou
   all_lines n ls e h =
       ap (λ (l : List MessageLine). l ++ (message_line_of (route_of route) bytes n ∷ [])) (told_lines n (omega arith) ∙ ap (map as_line) h)
       ∙ ap (λ (m : MessageLine). map as_line ls ++ (m ∷ []))
-      (sym (message-none bytes route n plan (record { none = z; is = refl }) (omega arith)))
+      (sym (message_none bytes route n plan (record { none = z; is = refl }) (omega arith)))
 
 -- ---- a recipe without bounds, on either route
 
@@ -143,11 +143,11 @@ module _ (bytes : List ℕ) (t m w s : ℕ) (e : shaped_figures bytes ≡ table.
       ∙ first_true 21 (indirect Indirect and ltb 0 (nest_of bytes).bounds) [] h
 
   shape_refused : (indirect Indirect and ltb 0 (nest_of bytes).bounds) ≡ true → planned 1 bytes ≡ no_figures 21
-  shape_refused h = sym (summary-refused (route_of 1) bytes 21 (sym (shape_barred h)) (λ q. omega arith))
+  shape_refused h = sym (summary_refused (route_of 1) bytes 21 (sym (shape_barred h)) (λ q. omega arith))
 
   shape_no_line : (indirect Indirect and ltb 0 (nest_of bytes).bounds) ≡ true → lines_told 1 bytes 1 ≡ no_line 21 ∷ []
   unfolding lines_told
-  shape_no_line h = ap (λ (l : MessageLine). l ∷ []) (sym (message-refused (route_of 1) bytes 0 21 (sym (shape_barred h)) (λ q. omega arith)))
+  shape_no_line h = ap (λ (l : MessageLine). l ∷ []) (sym (message_refused (route_of 1) bytes 0 21 (sym (shape_barred h)) (λ q. omega arith)))
 
 -- ---- lines that the table of rows has not
 
@@ -375,8 +375,8 @@ summary_rows =
       whole_indirect = shape_refused row_whole 4 2 14 12 shaped_rows.whole whole_bound;
       spread = shape_told row_spread 9 5 5 28 spread_rows.figures;
       lines_spread = shape_lines row_spread 9 5 5 28 spread_rows.figures _ spread_rows.lines;
-      ragged = sym (summary-refused Direct [] 1 (sym (no_bytes Direct)) (λ q. omega arith));
-      ragged_line = ap (λ (l : MessageLine). l ∷ []) (sym (message-refused Indirect [] 0 1 (sym (no_bytes Indirect)) (λ q. omega arith)));
+      ragged = sym (summary_refused Direct [] 1 (sym (no_bytes Direct)) (λ q. omega arith));
+      ragged_line = ap (λ (l : MessageLine). l ∷ []) (sym (message_refused Indirect [] 0 1 (sym (no_bytes Indirect)) (λ q. omega arith)));
       words_alike = λ v w h k bytes. ap (λ (r : Route). summary_of r bytes) (route_words.alike v w h k);
       lines_alike = λ v w m h k bytes. ap (λ (r : Route). message_line_of r bytes m) (route_words.alike v w h k);
     }

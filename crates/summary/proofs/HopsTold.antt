@@ -40,7 +40,7 @@ use Rattle.summary.specs.declared.HopCount.{HopCount}
 use Rattle.summary.specs.Summary.{direction_of, no_hops, hops_if, hops_lines, hops_of}
 use Rattle.summary.specs.HopsTold.{HopsTold, hops_of_first, told, HopsExamples}
 use Rattle.recipe.proofs.Laws.{direct_opened}
-use Rattle.summary.proofs.Answers.{directed, hops-none, hops_is}
+use Rattle.summary.proofs.Answers.{directed, hops_none, hops_is}
 use Rattle.summary.proofs.Examples.{box_read, box_many, row_c_small, row_c_none, row_line_small, row_line_none}
 
 -- the number of what is told is the first line's
@@ -131,7 +131,7 @@ module _ (bytes : List ℕ) (bytes_small : small bytes ≡ true) (none : (nest_o
   unfolding hops_of_first
   all_hops ls h =
       ap (λ (l : List HopCount). l ++ (hops_of bytes n ∷ [])) (first_hops n (omega arith) ∙ ap (map told) h)
-      ∙ ap (λ (k : HopCount). map told ls ++ (k ∷ [])) (sym (hops-none bytes n _ (direct_opened bytes read) (omega (arith, count_is))))
+      ∙ ap (λ (k : HopCount). map told ls ++ (k ∷ [])) (sym (hops_none bytes n _ (direct_opened bytes read) (omega (arith, count_is))))
 
 hops_c : tabulate (box_hops nest_c) 10 ≡ 1 ∷ 1 ∷ 2 ∷ 1 ∷ 1 ∷ 2 ∷ 1 ∷ 1 ∷ 1 ∷ 1 ∷ []
 unfolding tabulate hops hops_along ◌and◌ ◌or◌ pick every some keep product tile_count cells box_tiles rank place cell_at cell_place tile_at tile_place box_tile_of inside

@@ -15,7 +15,7 @@ use Rattle.base.proofs.Tests.{length_tabulate, tabulate_at}
 use Rattle.nest.specs.declared.Nest.{Nest}
 use Rattle.nest.specs.declared.Reading.{Reading}
 use Rattle.nest.specs.Reader.{filled, nest_of, read_lines, reading_of}
-use Rattle.nest.proofs.Answers.{number_read, nest-read}
+use Rattle.nest.proofs.Answers.{number_read, nest_read}
 use Rattle.nest.proofs.Laws.{filled_length, filled_in, filled_out}
 use Rattle.writer.specs.declared.reading.RecipeFields.{RecipeFields}
 use Rattle.writer.specs.Fields.{Fields, fields_of}
@@ -249,7 +249,7 @@ module _ (bytes : List ℕ) (r : Reading) (e : r ≡ reading_of bytes) where
 
   pub read_nest : Bytes bytes → r.number ≡ 0 → Tables r.nest × (nest_writable r.nest ≡ true)
   read_nest small z =
-      subst (λ (x : Nest). Tables x × (nest_writable x ≡ true)) (sym (nest-read bytes r e z)) (read_held bytes small (none_true z))
+      subst (λ (x : Nest). Tables x × (nest_writable x ≡ true)) (sym (nest_read bytes r e z)) (read_held bytes small (none_true z))
 
   pub read_told : r.number ≡ 0 → told_fields (fields_of r.nest) ≡ read_call bytes
-  read_told z = ap (λ (x : Nest). told_fields (fields_of x)) (nest-read bytes r e z) ∙ sym (read_done bytes (none_true z))
+  read_told z = ap (λ (x : Nest). told_fields (fields_of x)) (nest_read bytes r e z) ∙ sym (read_done bytes (none_true z))

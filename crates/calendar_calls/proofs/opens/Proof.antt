@@ -2,7 +2,7 @@
 use Rattle.core.specs.Prelude.{◌≡◌, ℕ, ◌*◌, ◌≤◌}
 use mathlib.Core.Path.{sym, ap, ◌∙◌}
 use native.Mathlib.Omega.{arith}
-use Rattle.nest.proofs.Answers.{accepted-read}
+use Rattle.nest.proofs.Answers.{accepted_read}
 use Rattle.plan.specs.Shaped.{plan_of}
 use Rattle.calendar.specs.Windows.{moment_of, faulty_for}
 use Rattle.engine.proofs.Lines as plain
@@ -27,7 +27,7 @@ returns c =
 
 sizes-of-requires : tie.Need-sizes-of-requires
 sizes-of-requires c κs =
-    accepted-read _ _ c.before.before.read.ensures.0 c.before.if1.false (c.before.before.read.ensures.1 c.before.if1.false)
+    accepted_read _ _ c.before.before.read.ensures.0 c.before.if1.false (c.before.before.read.ensures.1 c.before.if1.false)
 
 mul-if2 : tie.Need-overflow-mul-if2
 mul-if2 c = search rules

@@ -1,6 +1,6 @@
 -- `comparison::put_lines` meets its contract.
 use native.Mathlib.Omega.{arith}
-use Rattle.nest.proofs.Answers.{accepted-read}
+use Rattle.nest.proofs.Answers.{accepted_read}
 use Rattle.plan_text.proofs.Laws.{at_end_lem}
 use Rattle.comparison.proofs.Lines as L
 use Rattle.comparison.proofs.Laws as laws
@@ -48,7 +48,7 @@ returns-2 c =
 sizes-of-requires : tie.Need-sizes-of-requires
 sizes-of-requires c κs =
     let read = c.before.before.read in
-    accepted-read _ _ read.ensures.0 c.before.if2.false (read.ensures.1 c.before.if2.false)
+    accepted_read _ _ read.ensures.0 c.before.if2.false (read.ensures.1 c.before.if2.false)
 
 narrow-requires : tie.Need-narrow-requires
 narrow-requires c κs = search rules

@@ -1,7 +1,7 @@
 -- Each return is the call by the line that counts.
 use mathlib.Core.Path.{refl, sym, ◌∙◌}
 use borrow.Author.Rules.{rules}
-use Rattle.nest.proofs.Answers.{accepted-read}
+use Rattle.nest.proofs.Answers.{accepted_read}
 use Rattle.plan.specs.declared.Route.TheVariants.{Direct}
 use Rattle.plan.specs.Shaped.{plan_of}
 use Rattle.engine.proofs.Lines as lines
@@ -19,7 +19,7 @@ returns c =
 
 sizes-of-requires : tie.Need-sizes-of-requires
 sizes-of-requires c κs =
-    accepted-read _ _ c.before.before.read.ensures.0 c.before.if1.false (c.before.before.read.ensures.1 c.before.if1.false)
+    accepted_read _ _ c.before.before.read.ensures.0 c.before.if1.false (c.before.before.read.ensures.1 c.before.if1.false)
 
 returns-2 : tie.Need-returns-2
 returns-2 c =

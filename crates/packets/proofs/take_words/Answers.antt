@@ -2,7 +2,7 @@
 use borrow.Author.Rules.{rules}
 use native.Mathlib.Omega.{arith}
 use Rattle.packets.proofs.Bytes.{store_none, store_more, stored_length, stored_all}
-use Rattle.packets.proofs.Answers.{word-behind}
+use Rattle.packets.proofs.Answers.{word_behind}
 use Rattle.packets.proofs.take_words.Goals as goal
 
 pub loop-i-init : goal.loop-i-init
@@ -20,7 +20,7 @@ pub loop-i-preserved : goal.loop-i-preserved
 loop-i-preserved c = (
   search rules,
   store_more _ c.args.words.now c.loop-i.words c.loop-i.i c.word_at.result (omega (arith, c.requires.1)) c.loop-i.invariant.1
-      (word-behind c.args.packet.now c.loop-i.i c.word_at.result c.word_at.ensures),
+      (word_behind c.args.packet.now c.loop-i.i c.word_at.result c.word_at.ensures),
 )
 
 pub shape_of-words : goal.shape_of-words

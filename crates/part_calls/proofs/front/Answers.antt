@@ -24,13 +24,13 @@ both_numbered [] b n m = m
 both_numbered (l ∷ a) b n m = (n.0, both_numbered a b n.1 m)
 
 module _ (bytes : List ℕ) (route b : ℕ) where
-  numbered-board : Numbered (board_lines bytes route b)
-  numbered-board =
+  numbered_board : Numbered (board_lines bytes route b)
+  numbered_board =
       both_numbered (lines_for (route_of route) bytes) (line 11 (not (ltb b (recipe bytes route).processors)) ∷ []) (numbered_for (route_of route) bytes)
       (λ q. omega arith, tt)
 
-  pub behind-board : (more : List Line) → first_of (board_lines bytes route b ++ more) ≡ 0 → first_of more ≡ 0
-  behind-board more e = none_behind (board_lines bytes route b) more numbered-board e
+  pub behind_board : (more : List Line) → first_of (board_lines bytes route b ++ more) ≡ 0 → first_of more ≡ 0
+  behind_board more e = none_behind (board_lines bytes route b) more numbered_board e
 
 module _ (bytes : List ℕ) (route b : ℕ) (r : Recipe) (o : OpensFor bytes route b r) where
   module _ {A : Type 0} (lines : Plan → List Line) (new : Plan → A) (old : A) where
@@ -40,7 +40,7 @@ module _ (bytes : List ℕ) (route b : ℕ) (r : Recipe) (o : OpensFor bytes rou
 
     pub closed : r.number ≢ 0 → answer r.number old ≡ called
     closed h =
-        call_read (board_lines bytes route b) (numbered-board bytes route b) (lines (recipe bytes route)) r.number (new (recipe bytes route)) old
+        call_read (board_lines bytes route b) (numbered_board bytes route b) (lines (recipe bytes route)) r.number (new (recipe bytes route)) old
         o.number h
 
     pub opened : r.number ≡ 0 → (a : Answered A)
@@ -48,5 +48,5 @@ module _ (bytes : List ℕ) (route b : ℕ) (r : Recipe) (o : OpensFor bytes rou
     opened z a e =
         e
         ∙ ap (λ (n : ℕ). answered n (new (plan_of r.sizes.route r.nest)) old)
-        (sym (first_behind (board_lines bytes route b) (lines (plan_of r.sizes.route r.nest)) (numbered-board bytes route b) (sym o.number ∙ z)))
+        (sym (first_behind (board_lines bytes route b) (lines (plan_of r.sizes.route r.nest)) (numbered_board bytes route b) (sym o.number ∙ z)))
         ∙ ap (λ (q : Plan). answered (first_of (board_lines bytes route b ++ lines q)) (new q) old) (o.plan z)

@@ -13,7 +13,7 @@ returns c =
     let opens = c.before.«open» in
     let if1 = c.if1 in
     let A = S.args in
-    answers.messages-read A.encoded.now A.route A.processor opens.result opens.ensures A.out.now if1.true
+    answers.messages_read A.encoded.now A.route A.processor opens.result opens.ensures A.out.now if1.true
 
 messages-part-requires : tie.Need-messages-part-requires
 messages-part-requires c κs =
@@ -31,7 +31,7 @@ returns-2 c =
     let if1 = c.before.before.before.before.if1 in
     let messages-part = c.before.before.messages-part in
     let A = S.args in
-    answers.messages-past A.encoded.now A.route A.processor opens.result opens.ensures A.out.now if1.false _ messages-part.ensures
+    answers.messages_past A.encoded.now A.route A.processor opens.result opens.ensures A.out.now if1.false _ messages-part.ensures
 
 pub messages-spec : {M : Type 1} → statement M
 messages-spec =

@@ -15,7 +15,7 @@ returns : tie.Need-returns
 returns c =
     let A = c.before.before.before.before.args in
     let opens = c.before.before.«open» in
-    c.no-sizes.ensures ∙ answers.sizes-read A.encoded.now A.route A.processor opens.result opens.ensures c.before.if1.true
+    c.no-sizes.ensures ∙ answers.sizes_read A.encoded.now A.route A.processor opens.result opens.ensures c.before.if1.true
 
 sizes-of-requires : tie.Need-sizes-of-requires
 sizes-of-requires c κs =
@@ -27,7 +27,7 @@ returns-2 : tie.Need-returns-2
 returns-2 c =
     let A = c.before.before.before.before.args in
     let opens = c.before.before.«open» in
-    answers.sizes-done A.encoded.now A.route A.processor opens.result opens.ensures c.before.if1.false _ c.sizes-of.ensures
+    answers.sizes_done A.encoded.now A.route A.processor opens.result opens.ensures c.before.if1.false _ c.sizes-of.ensures
 
 pub sizes-spec : {M : Type 1} → statement M
 sizes-spec = tie.close (tie.spec open-requires no-sizes-requires returns sizes-of-requires returns-2)

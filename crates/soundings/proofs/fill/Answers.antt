@@ -1,6 +1,6 @@
 -- `soundings::fill` meets its contract: one law for each return.
 use mathlib.Core.Path.{sym, ◌∙◌}
-use Rattle.nest.proofs.Answers.{number_read, accepted-read}
+use Rattle.nest.proofs.Answers.{number_read, accepted_read}
 use Rattle.layout.proofs.Cells.{lengths_countable}
 use Rattle.soundings.proofs.Returns as R
 use Rattle.soundings.proofs.fill.Goals as goal
@@ -18,7 +18,7 @@ pub product-size-requires : goal.product-size-requires
 product-size-requires c =
     let read = c.read-reading in
     let left = c.if-number-ne0.false in
-    lengths_countable _ (accepted-read _ _ read.ensures.value left (read.ensures.bytes left))
+    lengths_countable _ (accepted_read _ _ read.ensures.value left (read.ensures.bytes left))
 
 pub returns-then-source-size : goal.returns-then-source-size
 returns-then-source-size c =

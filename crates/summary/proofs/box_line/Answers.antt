@@ -36,7 +36,7 @@ overflow_cast-result-2 c =
     )
 
 pub overflow_cast-result-5 : goal.overflow_cast-result-5
-overflow_cast-result-5 c = omega (arith, L.box-words _ _ _ _ c.requires.0.accepted c.requires.1.1 c.requires.1.0)
+overflow_cast-result-5 c = omega (arith, L.box_words _ _ _ _ c.requires.0.accepted c.requires.1.1 c.requires.1.0)
 
 pub returns : goal.returns
 returns c =
@@ -44,5 +44,5 @@ returns c =
     let end-of2 = c.end_of-taker in
     let processor-of = c.processor_of-from in
     let processor-of2 = c.processor_of-to in
-    L.box-line-is _ _ _ _ c.requires.0.accepted c.requires.1.1 c.requires.1.0 end_of_lem.result end-of2.result processor-of.result
+    L.box_line_is _ _ _ _ c.requires.0.accepted c.requires.1.1 c.requires.1.0 end_of_lem.result end-of2.result processor-of.result
     processor-of2.result end_of_lem.ensures end-of2.ensures processor-of.ensures.0 processor-of2.ensures.0

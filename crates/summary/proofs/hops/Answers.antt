@@ -8,7 +8,7 @@ use Rattle.summary.proofs.hops.Goals as goal
 pub returns-then-opening-ne0 : goal.returns-then-opening-ne0
 returns-then-opening-ne0 c =
     let opens = c.open-opening in
-    c.no_hops.ensures ∙ L.hops-refused _ c.args.m _ opens.ensures.number c.if-opening-ne0.true
+    c.no_hops.ensures ∙ L.hops_refused _ c.args.m _ opens.ensures.number c.if-opening-ne0.true
 
 pub totals-total-requires : goal.totals-total-requires
 totals-total-requires c = c.open-opening.ensures.planned c.if-opening-ne0.false
@@ -16,7 +16,7 @@ totals-total-requires c = c.open-opening.ensures.planned c.if-opening-ne0.false
 pub returns-then-message-total : goal.returns-then-message-total
 returns-then-message-total c =
     let opens = c.open-opening in
-    c.no_hops-then-message-total.ensures ∙ L.hops-none _ c.args.m _ (opens.ensures.opened c.if-opening-ne0.false) (omega
+    c.no_hops-then-message-total.ensures ∙ L.hops_none _ c.args.m _ (opens.ensures.opened c.if-opening-ne0.false) (omega
     (arith, c.totals-total.ensures.0, c.if-message-total.true))
 
 pub hops_at-requires : goal.hops_at-requires
@@ -24,7 +24,7 @@ hops_at-requires c =
     let opens = c.open-opening in
     let planned = opens.ensures.planned c.if-opening-ne0.false in
     record {
-      sized = (planned.0, (planned.1, L.direct-route (opens.ensures.route c.if-opening-ne0.false)));
+      sized = (planned.0, (planned.1, L.direct_route (opens.ensures.route c.if-opening-ne0.false)));
       m_bound = omega (arith, c.totals-total.ensures.0, c.if-message-total.false);
     }
 

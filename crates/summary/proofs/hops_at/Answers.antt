@@ -2,7 +2,7 @@
 use borrow.Author.Rules.{rules}
 use native.Mathlib.Omega.{arith}
 use Rattle.layout.proofs.Steps.{ways_few, ways_some, way_low}
-use Rattle.summary.proofs.Answers.{slot-hops}
+use Rattle.summary.proofs.Answers.{slot_hops}
 use Rattle.summary.proofs.hops_at.Goals as goal
 
 pub nonzero_rem-direction : goal.nonzero_rem-direction
@@ -29,6 +29,6 @@ hops_along-requires c = c.requires.sized.0.accepted
 
 pub returns : goal.returns
 returns c =
-    slot-hops _ _ c.args.m c.requires.sized.0 c.requires.sized.1.1 c.nth-place.result
+    slot_hops _ _ c.args.m c.requires.sized.0 c.requires.sized.1.1 c.nth-place.result
     c.nth-place.ensures
     _ c.hops_along.ensures

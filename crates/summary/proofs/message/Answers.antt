@@ -8,7 +8,7 @@ use Rattle.summary.proofs.message.Goals as goal
 pub returns-then-opening-ne0 : goal.returns-then-opening-ne0
 returns-then-opening-ne0 c =
     let opens = c.open-opening in
-    c.no_line.ensures ∙ L.message-refused _ _ c.args.m _ opens.ensures.number c.if-opening-ne0.true
+    c.no_line.ensures ∙ L.message_refused _ _ c.args.m _ opens.ensures.number c.if-opening-ne0.true
 
 pub totals-total-requires : goal.totals-total-requires
 totals-total-requires c = c.open-opening.ensures.planned c.if-opening-ne0.false
@@ -16,7 +16,7 @@ totals-total-requires c = c.open-opening.ensures.planned c.if-opening-ne0.false
 pub returns-then-at-total : goal.returns-then-at-total
 returns-then-at-total c =
     let opens = c.open-opening in
-    c.no_line-then-at-total.ensures ∙ L.message-none _ _ c.args.m _ (opens.ensures.opened c.if-opening-ne0.false) (omega
+    c.no_line-then-at-total.ensures ∙ L.message_none _ _ c.args.m _ (opens.ensures.opened c.if-opening-ne0.false) (omega
     (arith, c.totals-total.ensures.0, c.if-at-total.true))
 
 pub line_of-requires : goal.line_of-requires

@@ -39,7 +39,7 @@ owner_of-to-requires c =
       c.requires.sized.0.accepted,
       (
         (c.requires.sized.1.0.shape c.requires.sized.1.1).owned,
-        L.shape-taker-low _ _ _ _ c.requires.sized.0.accepted c.requires.found_in c.requires.sized.1.1
+        L.shape_taker_low _ _ _ _ c.requires.sized.0.accepted c.requires.found_in c.requires.sized.1.1
             (c.requires.sized.1.0.routed c.requires.sized.1.1) _
             (c.taker_of-taker.ensures (L.shape_full _ _ _ _ c.requires.sized.0.accepted c.requires.found_in c.requires.sized.1.1)),
       ),
@@ -58,20 +58,20 @@ pub overflow_cast-result-2 : goal.overflow_cast-result-2
 overflow_cast-result-2 c =
     omega (
       arith,
-      L.shape-taker-low _ _ _ _ c.requires.sized.0.accepted c.requires.found_in c.requires.sized.1.1 (c.requires.sized.1.0.routed c.requires.sized.1.1)
+      L.shape_taker_low _ _ _ _ c.requires.sized.0.accepted c.requires.found_in c.requires.sized.1.1 (c.requires.sized.1.0.routed c.requires.sized.1.1)
           _ (c.taker_of-taker.ensures (L.shape_full _ _ _ _ c.requires.sized.0.accepted c.requires.found_in c.requires.sized.1.1)),
       c.requires.sized.0.accepted.tiles_most,
     )
 
 pub overflow_cast-result-5 : goal.overflow_cast-result-5
-overflow_cast-result-5 c = omega (arith, L.shape-words _ _ _ _ c.requires.sized.0.accepted c.requires.found_in c.requires.sized.1.1)
+overflow_cast-result-5 c = omega (arith, L.shape_words _ _ _ _ c.requires.sized.0.accepted c.requires.found_in c.requires.sized.1.1)
 
 pub returns : goal.returns
 returns c =
     let taker-of = c.taker_of-taker in
     let owner_of = c.owner_of-from in
     let owner-of2 = c.owner_of-to in
-    L.shape-line-is _ _ _ _ c.requires.sized.0.accepted c.requires.found_in c.requires.sized.1.1 (c.requires.sized.1.0.routed c.requires.sized.1.1)
+    L.shape_line_is _ _ _ _ c.requires.sized.0.accepted c.requires.found_in c.requires.sized.1.1 (c.requires.sized.1.0.routed c.requires.sized.1.1)
     c.args.sizes.ways (c.args.place.slot / c.args.sizes.ways) taker-of.result owner_of.result owner-of2.result
     c.requires.sized.0.ways refl (taker-of.ensures (L.shape_full _ _ _ _ c.requires.sized.0.accepted c.requires.found_in c.requires.sized.1.1))
     owner_of.ensures.0 owner-of2.ensures.0

@@ -17,7 +17,7 @@ returns c =
     let S = at_open.before.before.before.before in
     let A = S.args in
     let opens = at_open.«open» in
-    answers.messages-read A.encoded.now A.route A.out.now opens.result.number opens.ensures.number
+    answers.messages_read A.encoded.now A.route A.out.now opens.result.number opens.ensures.number
     c.if1.true
 
 totals-requires : tie.Need-totals-requires
@@ -37,7 +37,7 @@ returns-2 c =
     let S = at_open.before.before.before.before in
     let A = S.args in
     let opens = at_open.«open» in
-    answers.messages-area A.encoded.now A.route A.out.now (plan_of opens.result.sizes.route opens.result.nest)
+    answers.messages_area A.encoded.now A.route A.out.now (plan_of opens.result.sizes.route opens.result.nest)
     (opens.ensures.opened at-if1.if1.false)
     (λ q. c.if2.true (q ∙ ap (λ (n : ℕ). 6 * n) (sym at_totals.totals.ensures.0)))
 
@@ -64,7 +64,7 @@ returns-3 c =
     let S = at_open.before.before.before.before in
     let A = S.args in
     let opens = at_open.«open» in
-    answers.messages-done A.encoded.now A.route A.out.now (plan_of opens.result.sizes.route opens.result.nest)
+    answers.messages_done A.encoded.now A.route A.out.now (plan_of opens.result.sizes.route opens.result.nest)
     (opens.ensures.opened at-if1.if1.false)
     (at-if2.if2.false ∙ ap (λ (n : ℕ). 6 * n) at_totals.totals.ensures.0) _ at-put-rows.put-rows.ensures
 

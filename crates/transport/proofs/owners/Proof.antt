@@ -1,6 +1,6 @@
 -- `transport::owners` meets its contract: each return by the line that counts.
 use mathlib.Core.Path.{refl, sym, ◌∙◌}
-use Rattle.nest.proofs.Answers.{accepted-read}
+use Rattle.nest.proofs.Answers.{accepted_read}
 use Rattle.plan.specs.declared.Route.TheVariants.{Direct}
 use Rattle.plan.specs.Shaped.{plan_of}
 use Rattle.engine.proofs.Lines as lines
@@ -16,14 +16,14 @@ returns : tie.Need-returns
 returns c =
     let S = c.before.before.before.before in
     let read = c.before.read in
-    answers.owners-read S.args.encoded.now S.args.out.now read.result.number
+    answers.owners_read S.args.encoded.now S.args.out.now read.result.number
     (lines.read_number S.args.encoded.now read.result read.ensures.0) c.if1.true
 
 sizes-of-requires : tie.Need-sizes-of-requires
 sizes-of-requires c κs =
     let read = c.before.before.read in
     let if1 = c.before.if1 in
-    accepted-read _ _ read.ensures.0 if1.false (read.ensures.1 if1.false)
+    accepted_read _ _ read.ensures.0 if1.false (read.ensures.1 if1.false)
 
 returns-2 : tie.Need-returns-2
 returns-2 c =
@@ -31,7 +31,7 @@ returns-2 c =
     let at_read = at-if1.before in
     let S = at_read.before.before.before in
     let read = at_read.read in
-    answers.owners-area S.args.encoded.now S.args.out.now (plan_of Direct read.result.nest) (lines.opened_direct S.args.encoded.now
+    answers.owners_area S.args.encoded.now S.args.out.now (plan_of Direct read.result.nest) (lines.opened_direct S.args.encoded.now
     read.result read.ensures.0 at-if1.if1.false {route = Direct} refl) (λ q. c.if2.true (q ∙ sym c.before.before.sizes-of.ensures.0.cells))
 
 put-owners-requires : tie.Need-put-owners-requires
@@ -50,7 +50,7 @@ returns-3 c =
     let at_read = at-if1.before in
     let S = at_read.before.before.before in
     let read = at_read.read in
-    answers.owners-done S.args.encoded.now S.args.out.now (plan_of Direct read.result.nest) (lines.opened_direct S.args.encoded.now
+    answers.owners_done S.args.encoded.now S.args.out.now (plan_of Direct read.result.nest) (lines.opened_direct S.args.encoded.now
     read.result read.ensures.0 at-if1.if1.false {route = Direct} refl) (at-if2.if2.false ∙ at-sizes-of.sizes-of.ensures.0.cells) _
     c.before.before.put-owners.ensures
 

@@ -14,7 +14,7 @@ returns c =
     let opens = c.before.«open» in
     let if1 = c.if1 in
     let A = S.args in
-    λ l h. answers.arrive-read A.encoded.now A.route A.processor opens.result opens.ensures (state_of A.memory.now A.mail.now l
+    λ l h. answers.arrive_read A.encoded.now A.route A.processor opens.result opens.ensures (state_of A.memory.now A.mail.now l
     A.marks.now) A.message A.words.now if1.true
 
 arrive-part-requires : tie.Need-arrive-part-requires
@@ -37,7 +37,7 @@ returns-2 c =
     let if1 = c.before.before.before.before.before.before.before.if1 in
     let arrive-part = c.before.before.before.before.arrive-part in
     let A = S.args in
-    λ l h. answers.arrive-past A.encoded.now A.route A.processor opens.result opens.ensures (state_of A.memory.now A.mail.now l
+    λ l h. answers.arrive_past A.encoded.now A.route A.processor opens.result opens.ensures (state_of A.memory.now A.mail.now l
     A.marks.now) A.message A.words.now if1.false _ (arrive-part.ensures l h)
 
 pub arrive-spec : {M : Type 1} → statement M

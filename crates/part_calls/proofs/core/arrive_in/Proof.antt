@@ -20,7 +20,7 @@ returns c =
     let as_long_lem = c.before.as_long_lem in
     let if1 = c.if1 in
     let p = plan_of A.sizes.route A.nest in
-    λ l h. answers.arrive-length p A.b S.requires.0.low (state_of A.memory.now A.mail.now l A.marks.now) _ refl A.m A.words.now
+    λ l h. answers.arrive_length p A.b S.requires.0.low (state_of A.memory.now A.mail.now l A.marks.now) _ refl A.m A.words.now
     (sym (as_long_lem.ensures A.words.now refl) ∙ not-true _ if1.true)
 
 refusal-of-areas-requires : tie.Need-refusal-of-areas-requires
@@ -59,7 +59,7 @@ receive-requires c κs =
       S.requires.0,
       (
         S.requires.1.0.messages,
-        answers.may-arrive p A.b A.memory.now A.mail.now A.marks.now A.progress S.requires.1.1 refusal-of-areas.result
+        answers.may_arrive p A.b A.memory.now A.mail.now A.marks.now A.progress S.requires.1.1 refusal-of-areas.result
             refusal-of-areas.ensures
             if2.false A.m A.words.now (sym (as_long_lem.ensures A.words.now refl) ∙ not-false _ if1.false),
       ),
@@ -81,7 +81,7 @@ returns-3 c =
     let if2 = c.before.before.before.before.before.before.before.if2 in
     let receive = c.before.before.before.before.receive in
     let p = plan_of A.sizes.route A.nest in
-    λ l h. answers.arrive-come p A.b S.requires.0.low (state_of A.memory.now A.mail.now l A.marks.now) refusal-of-areas.result
+    λ l h. answers.arrive_come p A.b S.requires.0.low (state_of A.memory.now A.mail.now l A.marks.now) refusal-of-areas.result
     (refusal-of-areas.ensures.0 l h)
     A.m A.words.now (sym (as_long_lem.ensures A.words.now refl) ∙ not-false _ if1.false) if2.false _ (receive.ensures A.memory.now l)
 

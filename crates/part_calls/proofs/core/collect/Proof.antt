@@ -35,7 +35,7 @@ returns-2 c =
     let if1 = c.before.before.before.before.if1 in
     let collect-part = c.before.before.collect-part in
     let A = S.args in
-    λ l h. answers.collect-past A.encoded.now A.route A.processor opens.result opens.ensures (state_of A.memory.now [] l [])
+    λ l h. answers.collect_past A.encoded.now A.route A.processor opens.result opens.ensures (state_of A.memory.now [] l [])
     A.grid.now if1.false _ (collect-part.ensures l h)
 
 pub collect-spec : {M : Type 1} → statement M

@@ -45,7 +45,7 @@ returns-2 c =
     let if1 = c.before.before.before.before.before.before.before.before.before.before.if1 in
     let fresh-part = c.before.before.before.before.before.before.fresh-part in
     let A = S.args in
-    λ l h. answers.fresh-past A.encoded.now A.route A.processor opens.result opens.ensures (state_of A.memory.now A.mail.now l
+    λ l h. answers.fresh_past A.encoded.now A.route A.processor opens.result opens.ensures (state_of A.memory.now A.mail.now l
     A.marks.now) if1.false _ (fresh-part.ensures l h)
 
 pub fresh-spec : {M : Type 1} → statement M

@@ -40,7 +40,7 @@ returns c =
     let part_fits_lem = c.before.part_fits_lem in
     let if1 = c.if1 in
     let p = plan_of A.sizes.route A.nest in
-    λ l h. answers.fresh-nine p A.b S.requires.1.1 A.memory.now A.mail.now l A.marks.now part_fits_lem.result (part_fits_lem.ensures l h)
+    λ l h. answers.fresh_nine p A.b S.requires.1.1 A.memory.now A.mail.now l A.marks.now part_fits_lem.result (part_fits_lem.ensures l h)
     (not-true _ if1.true)
 
 zero-words-requires : tie.Need-zero-words-requires

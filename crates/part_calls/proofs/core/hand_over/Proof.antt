@@ -64,7 +64,7 @@ returns-2 c =
     let if2 = c.if2 in
     let p = plan_of A.sizes.route A.nest in
     let lo : A.m < count p = omega (arith, if1.false, S.requires.1.0) in
-    λ ms us l. answers.over-anothers p A.b (state_of ms us l A.marks.now) A.m lo (answers.same_rank p A.b A.m word-index.result
+    λ ms us l. answers.over_anothers p A.b (state_of ms us l A.marks.now) A.m lo (answers.same_rank p A.b A.m word-index.result
     word-index2.result (word-index.ensures ∙ S.requires.0.ordinals A.m (omega (arith, lo))) (word-index2.ensures ∙ S.requires.0.ordinals (A.m + 1)
     (omega (arith, lo))) if2.true)
 
@@ -78,9 +78,9 @@ slice-read-if3 c =
     let if2 = c.before.if2 in
     let p = plan_of A.sizes.route A.nest in
     let lo : A.m < count p = omega (arith, if1.false, S.requires.1.0) in
-    let mine = answers.other-rank p A.b A.m word-index.result word-index2.result (word-index.ensures ∙ S.requires.0.ordinals A.m
+    let mine = answers.other_rank p A.b A.m word-index.result word-index2.result (word-index.ensures ∙ S.requires.0.ordinals A.m
     (omega (arith, lo))) (word-index2.ensures ∙ S.requires.0.ordinals (A.m + 1) (omega (arith, lo))) if2.false in
-    answers.mark-low p A.b A.m word-index.result A.marks.now S.requires.1.1 lo mine (word-index.ensures ∙ S.requires.0.ordinals A.m
+    answers.mark_low p A.b A.m word-index.result A.marks.now S.requires.1.1 lo mine (word-index.ensures ∙ S.requires.0.ordinals A.m
     (omega (arith, lo)))
 
 returns-3 : tie.Need-returns-3
@@ -94,9 +94,9 @@ returns-3 c =
     let if3 = c.if3 in
     let p = plan_of A.sizes.route A.nest in
     let lo : A.m < count p = omega (arith, if1.false, S.requires.1.0) in
-    let mine = answers.other-rank p A.b A.m word-index.result word-index2.result (word-index.ensures ∙ S.requires.0.ordinals A.m
+    let mine = answers.other_rank p A.b A.m word-index.result word-index2.result (word-index.ensures ∙ S.requires.0.ordinals A.m
     (omega (arith, lo))) (word-index2.ensures ∙ S.requires.0.ordinals (A.m + 1) (omega (arith, lo))) if2.false in
-    λ ms us l. answers.over-not p A.b (state_of ms us l A.marks.now) A.m lo mine word-index.result (word-index.ensures ∙ S.requires.0.ordinals A.m
+    λ ms us l. answers.over_not p A.b (state_of ms us l A.marks.now) A.m lo mine word-index.result (word-index.ensures ∙ S.requires.0.ordinals A.m
     (omega (arith, lo))) if3.true
 
 slice-write-marks : tie.Need-slice-write-marks
@@ -109,9 +109,9 @@ slice-write-marks c =
     let if2 = c.before.before.if2 in
     let p = plan_of A.sizes.route A.nest in
     let lo : A.m < count p = omega (arith, if1.false, S.requires.1.0) in
-    let mine = answers.other-rank p A.b A.m word-index.result word-index2.result (word-index.ensures ∙ S.requires.0.ordinals A.m
+    let mine = answers.other_rank p A.b A.m word-index.result word-index2.result (word-index.ensures ∙ S.requires.0.ordinals A.m
     (omega (arith, lo))) (word-index2.ensures ∙ S.requires.0.ordinals (A.m + 1) (omega (arith, lo))) if2.false in
-    answers.mark-low p A.b A.m word-index.result A.marks.now S.requires.1.1 lo mine (word-index.ensures ∙ S.requires.0.ordinals A.m
+    answers.mark_low p A.b A.m word-index.result A.marks.now S.requires.1.1 lo mine (word-index.ensures ∙ S.requires.0.ordinals A.m
     (omega (arith, lo)))
 
 same_length : tie.Need-same-length
@@ -128,7 +128,7 @@ returns-4 c =
     let if3 = c.if3 in
     let p = plan_of A.sizes.route A.nest in
     let lo : A.m < count p = omega (arith, if1.false, S.requires.1.0) in
-    let mine = answers.other-rank p A.b A.m word-index.result word-index2.result (word-index.ensures ∙ S.requires.0.ordinals A.m
+    let mine = answers.other_rank p A.b A.m word-index.result word-index2.result (word-index.ensures ∙ S.requires.0.ordinals A.m
     (omega (arith, lo))) (word-index2.ensures ∙ S.requires.0.ordinals (A.m + 1) (omega (arith, lo))) if2.false in
     λ ms us l. answers.over_done p A.b (state_of ms us l A.marks.now) A.m lo mine word-index.result
     (word-index.ensures ∙ S.requires.0.ordinals A.m (omega (arith, lo))) if3.false

@@ -34,7 +34,7 @@ returns-2 c =
     let if1 = c.before.before.before.before.if1 in
     let post-part = c.before.before.post-part in
     let A = S.args in
-    λ l h. answers.post-past A.encoded.now A.route A.processor opens.result opens.ensures (state_of A.memory.now A.mail.now l
+    λ l h. answers.post_past A.encoded.now A.route A.processor opens.result opens.ensures (state_of A.memory.now A.mail.now l
     A.marks.now) A.message if1.false _ (post-part.ensures l h)
 
 pub post-spec : {M : Type 1} → statement M

@@ -50,7 +50,7 @@ hand-over-requires c κs =
       prepare.ensures.0,
       (
         prepare.ensures.1,
-        answers.marks-lent p A.b A.memory.now A.mail.now A.marks.now A.progress S.pre.1.1.1 refusal-of-areas.result
+        answers.marks_lent p A.b A.memory.now A.mail.now A.marks.now A.progress S.pre.1.1.1 refusal-of-areas.result
             refusal-of-areas.ensures if1.false,
       ),
     )
@@ -66,7 +66,7 @@ returns-2 c =
     let if1 = c.before.before.before.before.before.before.before.if1 in
     let hand-over = c.before.before.hand-over in
     let p = plan_of A.sizes.route A.nest in
-    λ l h. answers.post-over p A.b S.pre.1.1.0 (state_of A.memory.now A.mail.now l A.marks.now) refusal-of-areas.result
+    λ l h. answers.post_over p A.b S.pre.1.1.0 (state_of A.memory.now A.mail.now l A.marks.now) refusal-of-areas.result
     (refusal-of-areas.ensures.0 l h)
     A.m if1.false _ (hand-over.ensures A.memory.now A.mail.now l)
 

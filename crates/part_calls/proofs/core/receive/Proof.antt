@@ -22,7 +22,7 @@ returns c =
     let A = S.args in
     let if1 = c.if1 in
     let p = plan_of A.sizes.route A.nest in
-    λ ms l. answers.come-beyond p A.b (state_of ms A.mail.now l A.marks.now) A.m A.words.now (omega (arith, if1.true, S.requires.1.0))
+    λ ms l. answers.come_beyond p A.b (state_of ms A.mail.now l A.marks.now) A.m A.words.now (omega (arith, if1.true, S.requires.1.0))
 
 nth-requires : tie.Need-nth-requires
 nth-requires c κs =
@@ -49,7 +49,7 @@ returns-2 c =
     let if2 = c.if2 in
     let word-index = c.before.word-index in
     let p = plan_of A.sizes.route A.nest in
-    λ ms l. answers.come-elsewhere p A.b (state_of ms A.mail.now l A.marks.now) A.m A.words.now line_at_lem.result
+    λ ms l. answers.come_elsewhere p A.b (state_of ms A.mail.now l A.marks.now) A.m A.words.now line_at_lem.result
     (line_at_lem.ensures ∙ ap (line_of p) nth.ensures.number) (λ q. if2.true (word-index.ensures ∙ q))
 
 mul-word-index : tie.Need-overflow-mul-word-index
@@ -95,9 +95,9 @@ arrived-requires c κs =
     let p = plan_of A.sizes.route A.nest in
     let lo : A.m < count p = omega (arith, if1.false, S.requires.1.0) in
     let here = sym word-index.ensures ∙ if2.false in
-    let mine = answers.come-handled p A.b (state_of [] A.mail.now [] A.marks.now) A.m A.words.now line_at_lem.result
+    let mine = answers.come_handled p A.b (state_of [] A.mail.now [] A.marks.now) A.m A.words.now line_at_lem.result
     (line_at_lem.ensures ∙ ap (line_of p) nth.ensures.number) lo here in
-    answers.mark-low p A.b A.m word-index2.result A.marks.now S.requires.1.1.marks_long lo mine (word-index2.ensures ∙ S.requires.0.ordinals A.m
+    answers.mark_low p A.b A.m word-index2.result A.marks.now S.requires.1.1.marks_long lo mine (word-index2.ensures ∙ S.requires.0.ordinals A.m
     (omega (arith, lo)))
 
 store-words-requires : tie.Need-store-words-requires
@@ -114,7 +114,7 @@ store-words-requires c κs =
     let p = plan_of A.sizes.route A.nest in
     let lo : A.m < count p = omega (arith, if1.false, S.requires.1.0) in
     let here = sym word-index.ensures ∙ if2.false in
-    let mine = answers.come-handled p A.b (state_of [] A.mail.now [] A.marks.now) A.m A.words.now line_at_lem.result
+    let mine = answers.come_handled p A.b (state_of [] A.mail.now [] A.marks.now) A.m A.words.now line_at_lem.result
     (line_at_lem.ensures ∙ ap (line_of p) nth.ensures.number) lo here in
     answers.room p A.b A.m word-index3.result _ A.mail.now S.requires.1.1.mail_long lo mine
     (word-index3.ensures ∙ S.requires.0.starts A.m (omega (arith, lo))) (taking.long_here p A.m A.words.now lo S.requires.1.1.long)
@@ -143,7 +143,7 @@ returns-3 c =
     let p = plan_of A.sizes.route A.nest in
     let lo : A.m < count p = omega (arith, if1.false, S.requires.1.0) in
     let here = sym word-index.ensures ∙ if2.false in
-    λ ms l. answers.come-done p A.b (state_of ms A.mail.now l A.marks.now) A.m A.words.now line_at_lem.result
+    λ ms l. answers.come_done p A.b (state_of ms A.mail.now l A.marks.now) A.m A.words.now line_at_lem.result
     (line_at_lem.ensures ∙ ap (line_of p) nth.ensures.number) lo here word-index2.result (word-index2.ensures ∙ S.requires.0.ordinals A.m
     (omega (arith, lo))) arrived.result arrived.ensures.0 if3.true _ _
     (store_words_lem.ensures ∙ ap (λ (i : ℕ). put A.mail.now i A.words.now) (word-index3.ensures ∙ S.requires.0.starts A.m (omega (arith, lo))))
@@ -167,7 +167,7 @@ returns-4 c =
     let p = plan_of A.sizes.route A.nest in
     let lo : A.m < count p = omega (arith, if1.false, S.requires.1.0) in
     let here = sym word-index.ensures ∙ if2.false in
-    λ ms l. answers.come-again p A.b (state_of ms A.mail.now l A.marks.now) A.m A.words.now line_at_lem.result
+    λ ms l. answers.come_again p A.b (state_of ms A.mail.now l A.marks.now) A.m A.words.now line_at_lem.result
     (line_at_lem.ensures ∙ ap (line_of p) nth.ensures.number) lo here word-index2.result (word-index2.ensures ∙ S.requires.0.ordinals A.m
     (omega (arith, lo))) arrived.result arrived.ensures.0 if3.false _
     (state_is refl refl refl (arrived.ensures.1 ∙ pick_false _ _ _ if3.false))

@@ -114,7 +114,7 @@ part-store-row-end c =
     let if1 = c.before.before.if1 in
     let p = plan_of A.sizes.route A.nest in
     let lo = S.requires.0.1 in
-    let mine = answers.other-rank p A.b A.m word-index.result word-index2.result (word-index.ensures ∙ S.requires.0.0.ordinals A.m
+    let mine = answers.other_rank p A.b A.m word-index.result word-index2.result (word-index.ensures ∙ S.requires.0.0.ordinals A.m
     (omega (arith, lo))) (word-index2.ensures ∙ S.requires.0.0.ordinals (A.m + 1) (omega (arith, lo))) if1.true in
     rows.room p A.b A.m lo A.out.now S.requires.1 mine word-index.result (word-index.ensures ∙ S.requires.0.0.ordinals A.m (omega (arith, lo)))
 
@@ -142,7 +142,7 @@ store-row-requires c κs =
     let if1 = c.before.before.before.before.if1 in
     let p = plan_of A.sizes.route A.nest in
     let lo = S.requires.0.1 in
-    let mine = answers.other-rank p A.b A.m word-index.result word-index2.result (word-index.ensures ∙ S.requires.0.0.ordinals A.m
+    let mine = answers.other_rank p A.b A.m word-index.result word-index2.result (word-index.ensures ∙ S.requires.0.0.ordinals A.m
     (omega (arith, lo))) (word-index2.ensures ∙ S.requires.0.0.ordinals (A.m + 1) (omega (arith, lo))) if1.true in
     rows.lent p A.b A.m lo A.out.now S.requires.1 mine word-index.result (word-index.ensures ∙ S.requires.0.0.ordinals A.m (omega (arith, lo)))
 
@@ -161,7 +161,7 @@ returns c =
     let store_row = c.before.before.store_row in
     let p = plan_of A.sizes.route A.nest in
     let lo = S.requires.0.1 in
-    let mine = answers.other-rank p A.b A.m word-index.result word-index2.result (word-index.ensures ∙ S.requires.0.0.ordinals A.m
+    let mine = answers.other_rank p A.b A.m word-index.result word-index2.result (word-index.ensures ∙ S.requires.0.0.ordinals A.m
     (omega (arith, lo))) (word-index2.ensures ∙ S.requires.0.0.ordinals (A.m + 1) (omega (arith, lo))) if1.true in
     rows.stored p A.b A.m lo A.out.now S.requires.1 mine word-index.result (word-index.ensures ∙ S.requires.0.0.ordinals A.m (omega (arith, lo)))
     line_at_lem.result (line_at_lem.ensures ∙ ap (line_of p) nth.ensures.number) A.m _ refl (S.requires.0.0.starts A.m (omega (arith, lo)))

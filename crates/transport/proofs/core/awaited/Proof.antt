@@ -21,7 +21,7 @@ returns c =
     let S = at_open.before.before.before.before.before in
     let A = S.args in
     let opens = at_open.«open» in
-    λ l h. answers.awaited-read A.encoded.now A.route (state_of [] [] l A.status.now) A.processor
+    λ l h. answers.awaited_read A.encoded.now A.route (state_of [] [] l A.status.now) A.processor
     A.marks.now opens.result.number opens.ensures.number c.if1.true
 
 unasked-requires : tie.Need-unasked-requires
@@ -42,7 +42,7 @@ returns-2 c =
     let A = S.args in
     let opens = at_open.«open» in
     let unasked = at-unasked.unasked in
-    λ l h. answers.awaited-unasked A.encoded.now A.route (state_of [] [] l A.status.now) A.processor
+    λ l h. answers.awaited_unasked A.encoded.now A.route (state_of [] [] l A.status.now) A.processor
     A.marks.now (plan_of opens.result.sizes.route opens.result.nest)
     (opens.ensures.opened at-if1.if1.false)
     unasked.result (unasked.ensures.0 l A.marks.now h refl) c.if2.true
@@ -58,7 +58,7 @@ returns-3 c =
     let if1 = at-if1.if1 in
     let opens = at_open.«open» in
     let unasked = at-unasked.unasked in
-    λ l h. answers.awaited-beyond A.encoded.now A.route (state_of [] [] l A.status.now) A.processor
+    λ l h. answers.awaited_beyond A.encoded.now A.route (state_of [] [] l A.status.now) A.processor
     A.marks.now (plan_of opens.result.sizes.route opens.result.nest)
     (opens.ensures.opened at-if1.if1.false)
     unasked.result (unasked.ensures.0 l A.marks.now h refl) at-if2.if2.false
@@ -127,7 +127,7 @@ returns-4 c =
     let planned = opens.ensures.planned if1.false in
     let unasked = at-unasked.unasked in
     let if2 = at-if2.if2 in
-    λ l h. answers.awaited-told A.encoded.now A.route (state_of [] [] l A.status.now) A.processor
+    λ l h. answers.awaited_told A.encoded.now A.route (state_of [] [] l A.status.now) A.processor
     A.marks.now (plan_of opens.result.sizes.route opens.result.nest)
     (opens.ensures.opened at-if1.if1.false)
     unasked.result (unasked.ensures.0 l A.marks.now h refl) if2.false

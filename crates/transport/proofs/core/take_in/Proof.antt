@@ -20,7 +20,7 @@ returns c =
     let S = at_open.before.before.before.before.before.before.before.before in
     let A = S.args in
     let opens = at_open.«open» in
-    λ l h. answers.take-in-read A.encoded.now A.route A.source.now
+    λ l h. answers.take_in_read A.encoded.now A.route A.source.now
     (state_of A.memories.now A.buffer.now l A.status.now) A.processor A.message A.words.now
     opens.result.number opens.ensures.number c.if1.true
 
@@ -38,7 +38,7 @@ returns-2 c =
     let S = at_open.before.before.before.before.before.before.before.before in
     let A = S.args in
     let opens = at_open.«open» in
-    λ l h. answers.take-in-length A.encoded.now A.route A.source.now (state_of A.memories.now A.buffer.now l
+    λ l h. answers.take_in_length A.encoded.now A.route A.source.now (state_of A.memories.now A.buffer.now l
     A.status.now) A.processor A.message A.words.now (plan_of opens.result.sizes.route opens.result.nest)
     (opens.ensures.opened at-if1.if1.false)
     (sym (at-as-long.as_long_lem.ensures A.words.now refl) ∙ not-true _ c.if2.true)
@@ -69,7 +69,7 @@ returns-3 c =
     let A = S.args in
     let opens = at_open.«open» in
     let refusal-of-areas = at-refusal-of-areas.refusal-of-areas in
-    λ l h. answers.take-in-unfit A.encoded.now A.route A.source.now (state_of A.memories.now A.buffer.now l
+    λ l h. answers.take_in_unfit A.encoded.now A.route A.source.now (state_of A.memories.now A.buffer.now l
     A.status.now) A.processor A.message A.words.now (plan_of opens.result.sizes.route opens.result.nest)
     (opens.ensures.opened at-if1.if1.false)
     (sym (at-as-long.as_long_lem.ensures A.words.now refl) ∙ not-false _ at-if2.if2.false) refusal-of-areas.result (refusal-of-areas.ensures.0 l h)
@@ -119,7 +119,7 @@ returns-4 c =
     let A = S.args in
     let opens = at_open.«open» in
     let refusal-of-areas = at-refusal-of-areas.refusal-of-areas in
-    λ l h. answers.take-in-received A.encoded.now A.route A.source.now (state_of A.memories.now A.buffer.now
+    λ l h. answers.take_in_received A.encoded.now A.route A.source.now (state_of A.memories.now A.buffer.now
     l A.status.now) A.processor A.message A.words.now (plan_of opens.result.sizes.route opens.result.nest)
     (opens.ensures.opened at-if1.if1.false)
     (sym (at-as-long.as_long_lem.ensures A.words.now refl) ∙ not-false _ at-if2.if2.false) refusal-of-areas.result (refusal-of-areas.ensures.0 l h)

@@ -2,7 +2,7 @@
 use mathlib.Core.Path.{refl, sym, ◌∙◌}
 use native.Mathlib.Omega.{arith}
 use borrow.Author.Tests.{lt-leb}
-use Rattle.nest.proofs.Answers.{accepted-read}
+use Rattle.nest.proofs.Answers.{accepted_read}
 use Rattle.plan.specs.Shaped.{plan_of}
 use Rattle.engine.proofs.Lines as lines
 use Rattle.engine.proofs.Lines.{Opened}
@@ -32,7 +32,7 @@ sizes-of-requires : tie.Need-sizes-of-requires
 sizes-of-requires c κs =
     let read = c.before.before.read in
     let if1 = c.before.if1 in
-    accepted-read _ _ read.ensures.0 if1.false (read.ensures.1 if1.false)
+    accepted_read _ _ read.ensures.0 if1.false (read.ensures.1 if1.false)
 
 mul-all : tie.Need-overflow-mul-all
 mul-all c =
