@@ -19,10 +19,13 @@ overflow_add-result c =
 
 pub returns : goal.returns
 returns c =
-    record { value = omega (arith, c.byte_index-high.ensures, c.byte_index-low.ensures); upper_bound = omega (
+    record {
+      value = omega (arith, c.byte_index-high.ensures, c.byte_index-low.ensures);
+      upper_bound = omega (
         arith,
         c.byte_index-high.ensures,
         c.byte_index-low.ensures,
         c.shared_slice_known-3-1.given c.args.at,
         c.shared_slice_known-3-1.given (c.args.at + 1),
-      ) }
+      );
+    }

@@ -23,15 +23,14 @@ returns-then-grid-lengths c =
     c.if-cell_size-gt65535.false c.tell-then-grid-lengths.ensures c.if-grid-lengths.true
 
 pub put_text-length-requires : goal.put_text-length-requires
-put_text-length-requires c =
-    (
-      c.requires,
-      (
-        c.if-nest-ne2.false,
-        L.grid_right c.args.nest c.args.grid.now c.args.x c.args.y c.args.cell_size
-            (record { number = 0; length = 0 }) c.if-nest-ne2.false c.if-cell_size-eq0.false c.if-cell_size-gt65535.false c.if-grid-lengths.false,
-      ),
-    )
+put_text-length-requires c = (
+  c.requires,
+  (
+    c.if-nest-ne2.false,
+    L.grid_right c.args.nest c.args.grid.now c.args.x c.args.y c.args.cell_size
+        (record { number = 0; length = 0 }) c.if-nest-ne2.false c.if-cell_size-eq0.false c.if-cell_size-gt65535.false c.if-grid-lengths.false,
+  ),
+)
 
 pub returns : goal.returns
 returns c =

@@ -23,16 +23,15 @@ returns-then-space-length c =
     c.if-fault-ne0.false _ c.if-space-length.true c.tell-then-space-length.ensures
 
 pub put_text-requires : goal.put_text-requires
-put_text-requires c =
-    (
-      accepted_read _ _ c.read-reading.ensures.value c.if-number-ne0.false (c.read-reading.ensures.bytes c.if-number-ne0.false),
-      (
-        L.two c.read-reading.result.nest
-            c.args.grid.now c.args.cell_size _ c.measured-measure.result c.measured-measure.ensures c.if-fault-ne0.false,
-        L.a_word_a_cell
-            c.read-reading.result.nest c.args.grid.now c.args.cell_size _ c.measured-measure.result c.measured-measure.ensures c.if-fault-ne0.false,
-      ),
-    )
+put_text-requires c = (
+  accepted_read _ _ c.read-reading.ensures.value c.if-number-ne0.false (c.read-reading.ensures.bytes c.if-number-ne0.false),
+  (
+    L.two c.read-reading.result.nest
+        c.args.grid.now c.args.cell_size _ c.measured-measure.result c.measured-measure.ensures c.if-fault-ne0.false,
+    L.a_word_a_cell
+        c.read-reading.result.nest c.args.grid.now c.args.cell_size _ c.measured-measure.result c.measured-measure.ensures c.if-fault-ne0.false,
+  ),
+)
 
 pub returns : goal.returns
 returns c =

@@ -19,8 +19,7 @@ tap_at-tap-requires c = omega (arith, c.requires.few, c.loop-k-test.true)
 
 pub with_tap-total-requires : goal.with_tap-total-requires
 with_tap-total-requires c =
-    let l = c.loop-k in
-    (
+    let l = c.loop-k in (
       omega (arith, l.invariant.few, l.invariant.low, c.requires.few),
       (
         omega (

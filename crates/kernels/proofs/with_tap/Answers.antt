@@ -12,8 +12,7 @@ pub overflow_add-result : goal.overflow_add-result
 overflow_add-result c = omega (arith, weighs _ _ c.requires.1.0 c.word_of-v.ensures.1)
 
 pub returns : goal.returns
-returns c =
-    (
-      ap (λ (v : ℕ). c.args.total + c.args.tap.weight * v) c.word_of-v.ensures.0,
-      omega (arith, weighs _ _ c.requires.1.0 c.word_of-v.ensures.1),
-    )
+returns c = (
+  ap (λ (v : ℕ). c.args.total + c.args.tap.weight * v) c.word_of-v.ensures.0,
+  omega (arith, weighs _ _ c.requires.1.0 c.word_of-v.ensures.1),
+)

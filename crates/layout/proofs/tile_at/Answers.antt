@@ -40,47 +40,63 @@ nonzero_rem-tile c =
 
 pub overflow_mul-tile : goal.overflow_mul-tile
 overflow_mul-tile c =
-    omega (arith, ((let start = c in
-    finding_more start.args.sizes.route start.args.nest start.requires.0.accepted start.args.sizes.across
-    (record { each = start.requires.0.across }) start.args.processor start.args.finished start.requires.1
-    c.loop-j.j c.loop-j.rest c.loop-j.left c.loop-j.weight
-    c.loop-j.tile c.share_of-share.result c.loop-j-test.true c.loop-j.invariant c.share_of-share.ensures)).in_range, (((let start = c in
-    share_asks start.args.sizes.route start.args.nest start.requires.0.accepted start.args.sizes.across
-    (record { each = start.requires.0.across }) start.args.processor c.loop-j.j c.loop-j-test.true c.loop-j.invariant.low)).1.0))
+    omega (
+      arith,
+      ((let start = c in
+          finding_more start.args.sizes.route start.args.nest start.requires.0.accepted start.args.sizes.across
+          (record { each = start.requires.0.across }) start.args.processor start.args.finished start.requires.1
+          c.loop-j.j c.loop-j.rest c.loop-j.left c.loop-j.weight
+          c.loop-j.tile c.share_of-share.result c.loop-j-test.true c.loop-j.invariant c.share_of-share.ensures)).in_range,
+      (((let start = c in
+          share_asks start.args.sizes.route start.args.nest start.requires.0.accepted start.args.sizes.across
+          (record { each = start.requires.0.across }) start.args.processor c.loop-j.j c.loop-j-test.true c.loop-j.invariant.low)).1.0),
+    )
 
 pub overflow_add-tile : goal.overflow_add-tile
 overflow_add-tile c =
-    omega (arith, ((let start = c in
-    finding_more start.args.sizes.route start.args.nest start.requires.0.accepted start.args.sizes.across
-    (record { each = start.requires.0.across }) start.args.processor start.args.finished start.requires.1
-    c.loop-j.j c.loop-j.rest c.loop-j.left c.loop-j.weight
-    c.loop-j.tile c.share_of-share.result c.loop-j-test.true c.loop-j.invariant c.share_of-share.ensures)).in_range, (((let start = c in
-    share_asks start.args.sizes.route start.args.nest start.requires.0.accepted start.args.sizes.across
-    (record { each = start.requires.0.across }) start.args.processor c.loop-j.j c.loop-j-test.true c.loop-j.invariant.low)).1.0))
+    omega (
+      arith,
+      ((let start = c in
+          finding_more start.args.sizes.route start.args.nest start.requires.0.accepted start.args.sizes.across
+          (record { each = start.requires.0.across }) start.args.processor start.args.finished start.requires.1
+          c.loop-j.j c.loop-j.rest c.loop-j.left c.loop-j.weight
+          c.loop-j.tile c.share_of-share.result c.loop-j-test.true c.loop-j.invariant c.share_of-share.ensures)).in_range,
+      (((let start = c in
+          share_asks start.args.sizes.route start.args.nest start.requires.0.accepted start.args.sizes.across
+          (record { each = start.requires.0.across }) start.args.processor c.loop-j.j c.loop-j-test.true c.loop-j.invariant.low)).1.0),
+    )
 
 pub overflow_mul-tile-in-loop-j : goal.overflow_mul-tile-in-loop-j
 overflow_mul-tile-in-loop-j c =
-    omega (arith, ((let start = c in
-    finding_more start.args.sizes.route start.args.nest start.requires.0.accepted start.args.sizes.across
-    (record { each = start.requires.0.across }) start.args.processor start.args.finished start.requires.1
-    c.loop-j.j c.loop-j.rest c.loop-j.left c.loop-j.weight
-    c.loop-j.tile c.share_of-share.result c.loop-j-test.true c.loop-j.invariant c.share_of-share.ensures)).room, ((let start = c in
-    finding_more start.args.sizes.route start.args.nest start.requires.0.accepted start.args.sizes.across
-    (record { each = start.requires.0.across }) start.args.processor start.args.finished start.requires.1
-    c.loop-j.j c.loop-j.rest c.loop-j.left c.loop-j.weight
-    c.loop-j.tile c.share_of-share.result c.loop-j-test.true c.loop-j.invariant c.share_of-share.ensures)).wide)
+    omega (
+      arith,
+      ((let start = c in
+          finding_more start.args.sizes.route start.args.nest start.requires.0.accepted start.args.sizes.across
+          (record { each = start.requires.0.across }) start.args.processor start.args.finished start.requires.1
+          c.loop-j.j c.loop-j.rest c.loop-j.left c.loop-j.weight
+          c.loop-j.tile c.share_of-share.result c.loop-j-test.true c.loop-j.invariant c.share_of-share.ensures)).room,
+      ((let start = c in
+          finding_more start.args.sizes.route start.args.nest start.requires.0.accepted start.args.sizes.across
+          (record { each = start.requires.0.across }) start.args.processor start.args.finished start.requires.1
+          c.loop-j.j c.loop-j.rest c.loop-j.left c.loop-j.weight
+          c.loop-j.tile c.share_of-share.result c.loop-j-test.true c.loop-j.invariant c.share_of-share.ensures)).wide,
+    )
 
 pub overflow_add-tile-in-loop-j : goal.overflow_add-tile-in-loop-j
 overflow_add-tile-in-loop-j c =
-    omega (arith, ((let start = c in
-    finding_more start.args.sizes.route start.args.nest start.requires.0.accepted start.args.sizes.across
-    (record { each = start.requires.0.across }) start.args.processor start.args.finished start.requires.1
-    c.loop-j.j c.loop-j.rest c.loop-j.left c.loop-j.weight
-    c.loop-j.tile c.share_of-share.result c.loop-j-test.true c.loop-j.invariant c.share_of-share.ensures)).room, ((let start = c in
-    finding_more start.args.sizes.route start.args.nest start.requires.0.accepted start.args.sizes.across
-    (record { each = start.requires.0.across }) start.args.processor start.args.finished start.requires.1
-    c.loop-j.j c.loop-j.rest c.loop-j.left c.loop-j.weight
-    c.loop-j.tile c.share_of-share.result c.loop-j-test.true c.loop-j.invariant c.share_of-share.ensures)).wide)
+    omega (
+      arith,
+      ((let start = c in
+          finding_more start.args.sizes.route start.args.nest start.requires.0.accepted start.args.sizes.across
+          (record { each = start.requires.0.across }) start.args.processor start.args.finished start.requires.1
+          c.loop-j.j c.loop-j.rest c.loop-j.left c.loop-j.weight
+          c.loop-j.tile c.share_of-share.result c.loop-j-test.true c.loop-j.invariant c.share_of-share.ensures)).room,
+      ((let start = c in
+          finding_more start.args.sizes.route start.args.nest start.requires.0.accepted start.args.sizes.across
+          (record { each = start.requires.0.across }) start.args.processor start.args.finished start.requires.1
+          c.loop-j.j c.loop-j.rest c.loop-j.left c.loop-j.weight
+          c.loop-j.tile c.share_of-share.result c.loop-j-test.true c.loop-j.invariant c.share_of-share.ensures)).wide,
+    )
 
 pub nonzero_div-left : goal.nonzero_div-left
 nonzero_div-left c =
@@ -98,11 +114,14 @@ bounds-across-j-in-loop-j c = (let it : c.loop-j.j - 1 < 4 = omega (arith, c.loo
 
 pub overflow_mul-weight : goal.overflow_mul-weight
 overflow_mul-weight c =
-    omega (arith, ((let start = c in
-    finding_more start.args.sizes.route start.args.nest start.requires.0.accepted start.args.sizes.across
-    (record { each = start.requires.0.across }) start.args.processor start.args.finished start.requires.1
-    c.loop-j.j c.loop-j.rest c.loop-j.left c.loop-j.weight
-    c.loop-j.tile c.share_of-share.result c.loop-j-test.true c.loop-j.invariant c.share_of-share.ensures)).wide)
+    omega (
+      arith,
+      ((let start = c in
+          finding_more start.args.sizes.route start.args.nest start.requires.0.accepted start.args.sizes.across
+          (record { each = start.requires.0.across }) start.args.processor start.args.finished start.requires.1
+          c.loop-j.j c.loop-j.rest c.loop-j.left c.loop-j.weight
+          c.loop-j.tile c.share_of-share.result c.loop-j-test.true c.loop-j.invariant c.share_of-share.ensures)).wide,
+    )
 
 pub loop-j-smaller : goal.loop-j-smaller
 loop-j-smaller c = omega (arith, c.loop-j-test.true)

@@ -17,8 +17,7 @@ pub nonzero_div-n : goal.nonzero_div-n
 nonzero_div-n t c = c.requires.1.positive _ (omega arith)
 
 pub put_place-requires : goal.put_place-requires
-put_place-requires t c =
-    (
+put_place-requires t c = (
   omega arith,
   (
     length-set c.args.at.now _ _ ∙ c.requires.0,

@@ -60,8 +60,7 @@ overflow_add-first-then-s-2 c =
 pub mark-requires : goal.mark-requires
 mark-requires c =
     let to = c.tile_along-to in
-    let from = c.tile_along-from in
-    (
+    let from = c.tile_along-from in (
       omega (
         arith,
         S.told_order c.args.nest c.requires.0.0 c.requires.0.1 c.args.q _ _ c.put_row.ensures

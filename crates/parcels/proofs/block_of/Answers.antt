@@ -58,16 +58,15 @@ pub bounds-ends-j : goal.bounds-ends-j
 bounds-ends-j c = omega (arith, c.loop-j-test.true, c.requires.0.dimensions_most)
 
 pub end_of-requires : goal.end_of-requires
-end_of-requires c =
-    (
-      omega (
-        arith,
-        c.requires.1 c.loop-j.j c.loop-j-test.true,
-        count_most _ c.requires.0 c.loop-j.j
-            c.loop-j-test.true,
-      ),
-      c.requires.0.tile_most _,
-    )
+end_of-requires c = (
+  omega (
+    arith,
+    c.requires.1 c.loop-j.j c.loop-j-test.true,
+    count_most _ c.requires.0 c.loop-j.j
+        c.loop-j-test.true,
+  ),
+  c.requires.0.tile_most _,
+)
 
 pub overflow_sub-lengths : goal.overflow_sub-lengths
 overflow_sub-lengths c =
@@ -91,12 +90,11 @@ pub loop-j-smaller : goal.loop-j-smaller
 loop-j-smaller c = omega (arith, c.loop-j-test.true)
 
 pub loop-j-preserved : goal.loop-j-preserved
-loop-j-preserved c =
-    (
-      filled_more _ _ _ _ _ c.loop-j.invariant.0 c.loop-j-test.true c.requires.0.dimensions_most (rw c.back.ensures),
-      filled_more _ _ _ _ _ c.loop-j.invariant.1 c.loop-j-test.true c.requires.0.dimensions_most
-          (rw (c.back.ensures, c.end_of.ensures)),
-    )
+loop-j-preserved c = (
+  filled_more _ _ _ _ _ c.loop-j.invariant.0 c.loop-j-test.true c.requires.0.dimensions_most (rw c.back.ensures),
+  filled_more _ _ _ _ _ c.loop-j.invariant.1 c.loop-j-test.true c.requires.0.dimensions_most
+      (rw (c.back.ensures, c.end_of.ensures)),
+)
 
 pub returns : goal.returns
 returns c =

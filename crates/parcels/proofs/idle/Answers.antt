@@ -6,8 +6,7 @@ use borrow.Author.Rules.{rules}
 use Rattle.parcels.proofs.idle.Goals as goal
 
 pub beyond_last-requires : goal.beyond_last-requires
-beyond_last-requires c =
-    (
+beyond_last-requires c = (
   omega (arith, c.requires.0.accepted.spread_low, c.requires.0.accepted.dimensions_most),
   headed_to _ c.requires.0.accepted _ _ _ _ c.requires.1,
 )

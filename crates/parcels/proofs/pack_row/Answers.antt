@@ -37,13 +37,16 @@ bounds-memory-number c = omega (arith, c.cells-test.true, c.requires.low)
 
 pub offset_bounds-words-count : goal.offset_bounds-words-count
 offset_bounds-words-count c =
-    omega (arith, ((let at-distances-test = c in
-    let at-distances = at-distances-test in
-    let at-cells-test = at-distances in
-    let at_cells = at-cells-test in
-    let start = at_cells in
-    packing_room _ _ _ _ _ _ _ _ start.requires _ _ _ at_cells.cells.invariant at-cells-test.cells-test.true _ _ _ _ at-distances.distances.invariant
-    at-distances-test.distances-test.true c.if-last-ends.true)).1)
+    omega (
+      arith,
+      ((let at-distances-test = c in
+          let at-distances = at-distances-test in
+          let at-cells-test = at-distances in
+          let at_cells = at-cells-test in
+          let start = at_cells in
+          packing_room _ _ _ _ _ _ _ _ start.requires _ _ _ at_cells.cells.invariant at-cells-test.cells-test.true _ _ _ _ at-distances.distances.invariant
+          at-distances-test.distances-test.true c.if-last-ends.true)).1,
+    )
 
 pub bounds-words-count : goal.bounds-words-count
 bounds-words-count c =
@@ -57,13 +60,16 @@ bounds-words-count c =
 
 pub overflow_add-count : goal.overflow_add-count
 overflow_add-count c =
-    omega (arith, ((let at-distances-test = c in
-    let at-distances = at-distances-test in
-    let at-cells-test = at-distances in
-    let at_cells = at-cells-test in
-    let start = at_cells in
-    packing_room _ _ _ _ _ _ _ _ start.requires _ _ _ at_cells.cells.invariant at-cells-test.cells-test.true _ _ _ _ at-distances.distances.invariant
-    at-distances-test.distances-test.true c.if-last-ends.true)).1)
+    omega (
+      arith,
+      ((let at-distances-test = c in
+          let at-distances = at-distances-test in
+          let at-cells-test = at-distances in
+          let at_cells = at-cells-test in
+          let start = at_cells in
+          packing_room _ _ _ _ _ _ _ _ start.requires _ _ _ at_cells.cells.invariant at-cells-test.cells-test.true _ _ _ _ at-distances.distances.invariant
+          at-distances-test.distances-test.true c.if-last-ends.true)).1,
+    )
 
 pub overflow_step-y : goal.overflow_step-y
 overflow_step-y c = omega (arith, c.distances.invariant.same_y, c.cells-test.true, c.requires.small)

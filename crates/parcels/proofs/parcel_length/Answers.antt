@@ -20,31 +20,28 @@ pub nonzero_rem-slot : goal.nonzero_rem-slot
 nonzero_rem-slot c = ways_some _ c.requires.0.accepted c.args.sizes.route _ c.requires.0.ways
 
 pub along_of-ahead-requires : goal.along_of-ahead-requires
-along_of-ahead-requires c =
-    (
+along_of-ahead-requires c = (
   c.requires.0,
   way_low _ c.requires.0.accepted c.args.sizes.route _
       c.requires.0.ways c.args.slot,
 )
 
 pub idle-requires : goal.idle-requires
-idle-requires c =
-    (
-      c.requires.0,
-      headed c.args.sizes.route _ _ _ _ _ c.requires.0.ways c.requires.1 c.place_of_tile-at.ensures
-          c.along_of-ahead.ensures,
-    )
+idle-requires c = (
+  c.requires.0,
+  headed c.args.sizes.route _ _ _ _ _ c.requires.0.ways c.requires.1 c.place_of_tile-at.ensures
+      c.along_of-ahead.ensures,
+)
 
 pub returns-then-idle : goal.returns-then-idle
 returns-then-idle c = (sym (c.idle.ensures.none c.if-idle.true), omega arith)
 
 pub sending_of-sending-requires : goal.sending_of-sending-requires
-sending_of-sending-requires c =
-    (
-      c.requires.0,
-      headed c.args.sizes.route _ _ _ _ _ c.requires.0.ways c.requires.1 c.place_of_tile-at.ensures
-          c.along_of-ahead.ensures,
-    )
+sending_of-sending-requires c = (
+  c.requires.0,
+  headed c.args.sizes.route _ _ _ _ _ c.requires.0.ways c.requires.1 c.place_of_tile-at.ensures
+      c.along_of-ahead.ensures,
+)
 
 pub loop-r-init : goal.loop-r-init
 loop-r-init c = rw (zero-mul c.sending_of-sending.result.width) (measure_none _ _)

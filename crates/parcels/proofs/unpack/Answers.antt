@@ -28,12 +28,11 @@ pub along_of-ahead-requires : goal.along_of-ahead-requires
 along_of-ahead-requires c = (c.requires.0, way_low _ c.requires.0.accepted c.args.sizes.route _ c.requires.0.ways c.args.slot)
 
 pub sending_of-sending-requires : goal.sending_of-sending-requires
-sending_of-sending-requires c =
-    (
-      c.requires.0,
-      headed c.args.sizes.route _ _ _ _ _ c.requires.0.ways c.requires.1.0 c.place_of_tile-at.ensures
-          c.along_of-ahead.ensures,
-    )
+sending_of-sending-requires c = (
+  c.requires.0,
+  headed c.args.sizes.route _ _ _ _ _ c.requires.0.ways c.requires.1.0 c.place_of_tile-at.ensures
+      c.along_of-ahead.ensures,
+)
 
 pub loop-r-init : goal.loop-r-init
 loop-r-init c = rw (zero-mul c.sending_of-sending.result.width) (unpacking_none _ _ _ _)
@@ -54,22 +53,21 @@ pub rank-number-requires : goal.rank-number-requires
 rank-number-requires c = row_ranked _ _ _ _ c.row_at-row.ensures.place c.requires.0.accepted c.sending_of-sending.ensures.shape
 
 pub copy_part-requires : goal.copy_part-requires
-copy_part-requires c =
-    (
-      omega (
-        arith,
-        (row_first _ _ _ _ c.row_at-row.ensures _ c.rank-number.ensures).low,
-        c.row_at-row.ensures.run.low,
-        unpacking_long _ _ _ _ _ _ _ c.loop-r.invariant,
-        c.requires.1.1.0,
-      ),
-      omega (
-        arith,
-        run_room _ _ _ _ _ _ _ (row_first _ _ _ _ c.row_at-row.ensures _ c.rank-number.ensures) _ c.row_at-row.ensures.run _
-            c.loop-r.invariant.count_is,
-        (words_found _ _ _ _ c.sending_of-sending.ensures _ c.requires.1.1.1),
-      ),
-    )
+copy_part-requires c = (
+  omega (
+    arith,
+    (row_first _ _ _ _ c.row_at-row.ensures _ c.rank-number.ensures).low,
+    c.row_at-row.ensures.run.low,
+    unpacking_long _ _ _ _ _ _ _ c.loop-r.invariant,
+    c.requires.1.1.0,
+  ),
+  omega (
+    arith,
+    run_room _ _ _ _ _ _ _ (row_first _ _ _ _ c.row_at-row.ensures _ c.rank-number.ensures) _ c.row_at-row.ensures.run _
+        c.loop-r.invariant.count_is,
+    (words_found _ _ _ _ c.sending_of-sending.ensures _ c.requires.1.1.1),
+  ),
+)
 
 pub overflow_add-count : goal.overflow_add-count
 overflow_add-count c =

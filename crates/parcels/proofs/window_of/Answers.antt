@@ -65,16 +65,15 @@ pub bounds-lengths-j : goal.bounds-lengths-j
 bounds-lengths-j c = omega (arith, c.loop-j-test.true, c.requires.0.spread_low, c.requires.0.dimensions_most)
 
 pub end_of-requires : goal.end_of-requires
-end_of-requires c =
-    (
-      omega (
-        arith,
-        c.requires.1.1 c.loop-j.j c.loop-j-test.true,
-        c.one.ensures,
-        one_few (leb c.args.later c.loop-j.j),
-      ),
-      c.requires.0.tile_most _,
-    )
+end_of-requires c = (
+  omega (
+    arith,
+    c.requires.1.1 c.loop-j.j c.loop-j-test.true,
+    c.one.ensures,
+    one_few (leb c.args.later c.loop-j.j),
+  ),
+  c.requires.0.tile_most _,
+)
 
 pub offset_bounds-high-j : goal.offset_bounds-high-j
 offset_bounds-high-j c = omega (arith, c.loop-j-test.true, c.requires.0.spread_low, c.requires.0.dimensions_most)
@@ -89,14 +88,13 @@ pub loop-j-smaller : goal.loop-j-smaller
 loop-j-smaller c = omega (arith, c.loop-j-test.true)
 
 pub loop-j-preserved : goal.loop-j-preserved
-loop-j-preserved c =
-    (
-      changed_more _ _ _ _ _ _ c.loop-j.invariant.0 c.loop-j-test.true
-          (omega (arith, c.requires.0.spread_low, c.requires.0.dimensions_most)) refl,
-      changed_more _ _ _ _ _ _ c.loop-j.invariant.1
-          c.loop-j-test.true (omega (arith, c.requires.0.spread_low, c.requires.0.dimensions_most))
-          (rw (c.end_of.ensures, c.one.ensures)),
-    )
+loop-j-preserved c = (
+  changed_more _ _ _ _ _ _ c.loop-j.invariant.0 c.loop-j-test.true
+      (omega (arith, c.requires.0.spread_low, c.requires.0.dimensions_most)) refl,
+  changed_more _ _ _ _ _ _ c.loop-j.invariant.1
+      c.loop-j-test.true (omega (arith, c.requires.0.spread_low, c.requires.0.dimensions_most))
+      (rw (c.end_of.ensures, c.one.ensures)),
+)
 
 pub returns : goal.returns
 returns c =

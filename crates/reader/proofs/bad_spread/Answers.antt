@@ -15,12 +15,13 @@ pub returns-then-nest-j-gt0 : goal.returns-then-nest-j-gt0
 returns-then-nest-j-gt0 c = sym (L.later_spread c.args.nest c.loop-j.j c.loop-j-test.true c.if-nest-j-eq0.true c.if-nest-j-gt0.true)
 
 pub loop-j-preserved : goal.loop-j-preserved
-loop-j-preserved c =
-    (
-      omega arith,
-      L.some_step _ _ c.loop-j.invariant.1 (elim c.if-nest-j-eq0.branch [ then-nest-j-eq0+else-nest-j-gt0 w ↦ L.after_no c.args.nest c.loop-j.j w.if-nest-j-gt0.false
-          | else-nest-j-eq0 w ↦ L.after_spread c.args.nest c.loop-j.j w.if-nest-j-eq0.false ]),
-    )
+loop-j-preserved c = (
+  omega arith,
+  L.some_step _ _ c.loop-j.invariant.1 (elim c.if-nest-j-eq0.branch [
+    | then-nest-j-eq0+else-nest-j-gt0 w ↦ L.after_no c.args.nest c.loop-j.j w.if-nest-j-gt0.false
+    | else-nest-j-eq0 w ↦ L.after_spread c.args.nest c.loop-j.j w.if-nest-j-eq0.false
+  ]),
+)
 
 pub returns : goal.returns
 returns c =

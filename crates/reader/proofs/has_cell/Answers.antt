@@ -32,12 +32,11 @@ pub loop-q-smaller : goal.loop-q-smaller
 loop-q-smaller c = omega (arith, c.loop-q-test.true)
 
 pub loop-q-preserved : goal.loop-q-preserved
-loop-q-preserved c =
-    (
-      omega (arith, c.loop-q-test.true),
-      S.rows_none _ c.requires _ _ _ c.row_place-at.ensures c.span-s.ensures
-          c.if-s.false c.loop-q.invariant.1,
-    )
+loop-q-preserved c = (
+  omega (arith, c.loop-q-test.true),
+  S.rows_none _ c.requires _ _ _ c.row_place-at.ensures c.span-s.ensures
+      c.if-s.false c.loop-q.invariant.1,
+)
 
 pub returns : goal.returns
 returns c =

@@ -25,11 +25,12 @@ pub loop-u-smaller : goal.loop-u-smaller
 loop-u-smaller c = omega arith
 
 pub loop-u-preserved : goal.loop-u-preserved
-loop-u-preserved c =
-    (
+loop-u-preserved c = (
   omega arith,
-  elim c.if-marks-u-gt0.branch [ then-marks-u-gt0 w ↦ w.count-is ∙ L.kept_more _ _ _ c.loop-u.invariant.1 (lt-ltb 0 _ w.if-marks-u-gt0.true)
-      | else-marks-u-gt0 w ↦ w.count-is ∙ L.kept_none _ _ _ c.loop-u.invariant.1 (le-ltb 0 _ w.if-marks-u-gt0.false) ],
+  elim c.if-marks-u-gt0.branch [
+    | then-marks-u-gt0 w ↦ w.count-is ∙ L.kept_more _ _ _ c.loop-u.invariant.1 (lt-ltb 0 _ w.if-marks-u-gt0.true)
+    | else-marks-u-gt0 w ↦ w.count-is ∙ L.kept_none _ _ _ c.loop-u.invariant.1 (le-ltb 0 _ w.if-marks-u-gt0.false)
+  ],
 )
 
 pub returns : goal.returns

@@ -85,16 +85,15 @@ returns-then-bad_processors c =
     (sym c.last_spread.ensures ∙ c.if-last_spread.false) (sym c.bad_processors.ensures ∙ c.if-bad_processors.true))
 
 pub too_many_tiles-requires : goal.too_many_tiles-requires
-too_many_tiles-requires c =
-    (
-      (
-        F.framed_by c.args.nest c.requires (sym c.bad_length.ensures ∙ c.if-bad_length.false),
-        λ j l. (F.tile_in c.args.nest
-            (sym c.bad_tile.ensures ∙ c.if-bad_tile.false) j l).0,
-      ),
-      F.size_in c.args.nest
-          (L.large_no c.args.nest _ c.product_of.ensures c.if-product_of-gt-MOST_CELLS.false),
-    )
+too_many_tiles-requires c = (
+  (
+    F.framed_by c.args.nest c.requires (sym c.bad_length.ensures ∙ c.if-bad_length.false),
+    λ j l. (F.tile_in c.args.nest
+        (sym c.bad_tile.ensures ∙ c.if-bad_tile.false) j l).0,
+  ),
+  F.size_in c.args.nest
+      (L.large_no c.args.nest _ c.product_of.ensures c.if-product_of-gt-MOST_CELLS.false),
+)
 
 pub returns-then-too_many_tiles : goal.returns-then-too_many_tiles
 returns-then-too_many_tiles c =

@@ -17,20 +17,19 @@ returns-then-nest-eq0 c =
     c.if-nest-eq0.true)
 
 pub tile_total-requires : goal.tile_total-requires
-tile_total-requires c =
-    (
-      c.requires.0,
-      (
-        c.box_tiles-boxed.ensures,
-        omega (
-          arith,
-          c.box_tiles-boxed.ensures,
-          box_few c.args.nest c.requires.0.0.long
-              c.requires.0.1,
-          c.requires.1,
-        ),
-      ),
-    )
+tile_total-requires c = (
+  c.requires.0,
+  (
+    c.box_tiles-boxed.ensures,
+    omega (
+      arith,
+      c.box_tiles-boxed.ensures,
+      box_few c.args.nest c.requires.0.0.long
+          c.requires.0.1,
+      c.requires.1,
+    ),
+  ),
+)
 
 pub returns : goal.returns
 returns c = S.counted_tiles c.args.nest _ c.tile_total.ensures

@@ -34,12 +34,11 @@ pub loop-e-smaller : goal.loop-e-smaller
 loop-e-smaller c = omega (arith, c.loop-e-test.true)
 
 pub loop-e-preserved : goal.loop-e-preserved
-loop-e-preserved c =
-    (
-      omega (arith, c.loop-e-test.true),
-      L.ahead_more _ _ _ _ _ _ _ c.loop-e.invariant.1 _ _ c.further-reach.ensures
-          c.sooner-next.ensures,
-    )
+loop-e-preserved c = (
+  omega (arith, c.loop-e-test.true),
+  L.ahead_more _ _ _ _ _ _ _ c.loop-e.invariant.1 _ _ c.further-reach.ensures
+      c.sooner-next.ensures,
+)
 
 pub returns : goal.returns
 returns c =

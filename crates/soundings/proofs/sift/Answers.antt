@@ -12,8 +12,11 @@ loop-r-init c = record { few = omega arith; in_box = S.off_none _ _; sifted = c.
 
 pub returns-then-beyond_box : goal.returns-then-beyond_box
 returns-then-beyond_box c =
-    record { value = S.off_yes _ _ c.loop-r.r _ c.loop-r-test.true c.cell_of-cell.ensures
-          (sym c.beyond_box.ensures ∙ c.if-beyond_box.true); sifted = λ e. absurd (true≢false e) }
+    record {
+      value = S.off_yes _ _ c.loop-r.r _ c.loop-r-test.true c.cell_of-cell.ensures
+          (sym c.beyond_box.ensures ∙ c.if-beyond_box.true);
+      sifted = λ e. absurd (true≢false e);
+    }
 
 pub note-requires : goal.note-requires
 note-requires c =

@@ -13,37 +13,34 @@ nonzero_div-sender c =
     c.requires.sized.0.ways
 
 pub taker_of-taker-requires : goal.taker_of-taker-requires
-taker_of-taker-requires c =
-    (
-      c.requires.sized.0,
-      (
-        c.requires.sized.1.0.routed c.requires.sized.1.1,
-        (c.requires.sized.1.0.shape c.requires.sized.1.1, (c.requires.found_in.shape c.requires.sized.1.1).0),
-      ),
-    )
+taker_of-taker-requires c = (
+  c.requires.sized.0,
+  (
+    c.requires.sized.1.0.routed c.requires.sized.1.1,
+    (c.requires.sized.1.0.shape c.requires.sized.1.1, (c.requires.found_in.shape c.requires.sized.1.1).0),
+  ),
+)
 
 pub owner_of-from-requires : goal.owner_of-from-requires
-owner_of-from-requires c =
-    (
-      c.requires.sized.0.accepted,
-      (
-        (c.requires.sized.1.0.shape c.requires.sized.1.1).owned,
-        sender_low _ c.requires.sized.0.accepted _ c.requires.sized.1.1 (c.requires.sized.1.0.routed c.requires.sized.1.1) _ _ c.requires.found_in _
-            c.requires.sized.0.ways,
-      ),
-    )
+owner_of-from-requires c = (
+  c.requires.sized.0.accepted,
+  (
+    (c.requires.sized.1.0.shape c.requires.sized.1.1).owned,
+    sender_low _ c.requires.sized.0.accepted _ c.requires.sized.1.1 (c.requires.sized.1.0.routed c.requires.sized.1.1) _ _ c.requires.found_in _
+        c.requires.sized.0.ways,
+  ),
+)
 
 pub owner_of-to-requires : goal.owner_of-to-requires
-owner_of-to-requires c =
-    (
-      c.requires.sized.0.accepted,
-      (
-        (c.requires.sized.1.0.shape c.requires.sized.1.1).owned,
-        L.shape_taker_low _ _ _ _ c.requires.sized.0.accepted c.requires.found_in c.requires.sized.1.1
-            (c.requires.sized.1.0.routed c.requires.sized.1.1) _
-            (c.taker_of-taker.ensures (L.shape_full _ _ _ _ c.requires.sized.0.accepted c.requires.found_in c.requires.sized.1.1)),
-      ),
-    )
+owner_of-to-requires c = (
+  c.requires.sized.0.accepted,
+  (
+    (c.requires.sized.1.0.shape c.requires.sized.1.1).owned,
+    L.shape_taker_low _ _ _ _ c.requires.sized.0.accepted c.requires.found_in c.requires.sized.1.1
+        (c.requires.sized.1.0.routed c.requires.sized.1.1) _
+        (c.taker_of-taker.ensures (L.shape_full _ _ _ _ c.requires.sized.0.accepted c.requires.found_in c.requires.sized.1.1)),
+  ),
+)
 
 pub overflow_cast-result : goal.overflow_cast-result
 overflow_cast-result c =

@@ -13,8 +13,7 @@ returns-then-nest-eq0 c =
     c.if-nest-eq0.true c.args.side c.args.tile _ c.count_at.ensures
 
 pub count_at-requires-2 : goal.count_at-requires-2
-count_at-requires-2 c =
-    (
+count_at-requires-2 c = (
   c.requires.0,
   (
     c.requires.1.0.routed c.if-nest-eq0.false,

@@ -8,8 +8,11 @@ use Rattle.tables.proofs.nth.Goals as goal
 
 pub nth-requires : goal.nth-requires
 nth-requires c =
-    record { sized = (c.requires.0, c.requires.1.0.box c.if-nest-eq0.true); m_bound = L.box_below c.args.nest
-      c.requires.0.accepted c.args.sizes.route c.if-nest-eq0.true _ c.requires.1.1 }
+    record {
+      sized = (c.requires.0, c.requires.1.0.box c.if-nest-eq0.true);
+      m_bound = L.box_below c.args.nest
+          c.requires.0.accepted c.args.sizes.route c.if-nest-eq0.true _ c.requires.1.1;
+    }
 
 pub returns-then-nest-eq0 : goal.returns-then-nest-eq0
 returns-then-nest-eq0 c =

@@ -5,8 +5,7 @@ use borrow.Author.Rules.{rules}
 use Rattle.tables.proofs.tile_at.Goals as goal
 
 pub tile_at-requires : goal.tile_at-requires
-tile_at-requires c =
-    (
+tile_at-requires c = (
   c.requires.0,
   L.box_few c.args.nest c.requires.0.accepted c.args.sizes.route
       c.if-nest-eq0.true _ _ c.requires.1.1,
@@ -19,9 +18,12 @@ returns-then-nest-eq0 c =
 
 pub tile_at-requires-2 : goal.tile_at-requires-2
 tile_at-requires-2 c =
-    record { accepted = (c.requires.0.accepted, c.requires.1.0.shape c.if-nest-eq0.false); finished_in_bounds = L.shape_few c.args.nest
-      c.requires.0.accepted c.args.sizes.route c.if-nest-eq0.false (c.requires.1.0.routed c.if-nest-eq0.false) _ _
-      c.requires.1.1 }
+    record {
+      accepted = (c.requires.0.accepted, c.requires.1.0.shape c.if-nest-eq0.false);
+      finished_in_bounds = L.shape_few c.args.nest
+          c.requires.0.accepted c.args.sizes.route c.if-nest-eq0.false (c.requires.1.0.routed c.if-nest-eq0.false) _ _
+          c.requires.1.1;
+    }
 
 pub returns : goal.returns
 returns c =

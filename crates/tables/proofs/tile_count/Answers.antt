@@ -8,8 +8,7 @@ pub tile_count-requires : goal.tile_count-requires
 tile_count-requires c = c.requires.0
 
 pub returns-then-nest-eq0 : goal.returns-then-nest-eq0
-returns-then-nest-eq0 c =
-    (
+returns-then-nest-eq0 c = (
   L.box_tiles_lem c.args.nest c.requires.0.accepted c.args.sizes.route
       c.if-nest-eq0.true _ _ c.tile_count.ensures.0,
   c.tile_count.ensures.1,

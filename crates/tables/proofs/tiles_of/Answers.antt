@@ -15,8 +15,7 @@ pub tiles_of-requires : goal.tiles_of-requires
 tiles_of-requires c = (c.requires.0.accepted, (c.requires.1.shape c.if-nest-eq0.false).owned.tiled)
 
 pub returns : goal.returns
-returns c =
-    (
+returns c = (
   L.shape_count c.args.nest c.requires.0.accepted c.args.sizes.route
       c.if-nest-eq0.false (c.requires.1.routed c.if-nest-eq0.false) _ c.tiles_of.ensures.0,
   c.tiles_of.ensures.1,

@@ -7,18 +7,17 @@ use borrow.Author.Rules.{rules}
 use Rattle.tables.proofs.unpack.Goals as goal
 
 pub unpack-requires : goal.unpack-requires
-unpack-requires c =
+unpack-requires c = (
+  c.requires.sized.0,
+  (
+    (c.requires.sized.1.1.box c.if-nest-eq0.true).0,
     (
-      c.requires.sized.0,
-      (
-        (c.requires.sized.1.1.box c.if-nest-eq0.true).0,
-        (
-          c.requires.memory_len.0,
-          L.box_long c.args.nest c.requires.sized.0.accepted
-              c.args.sizes.route c.if-nest-eq0.true c.args.place.number _ c.args.place c.requires.sized.1.1 c.requires.memory_len.1,
-        ),
-      ),
-    )
+      c.requires.memory_len.0,
+      L.box_long c.args.nest c.requires.sized.0.accepted
+          c.args.sizes.route c.if-nest-eq0.true c.args.place.number _ c.args.place c.requires.sized.1.1 c.requires.memory_len.1,
+    ),
+  ),
+)
 
 pub returns-then-nest-eq0 : goal.returns-then-nest-eq0
 returns-then-nest-eq0 c =
@@ -33,16 +32,15 @@ nonzero_div-slot c =
     c.requires.sized.0.ways
 
 pub box_of-tile-requires : goal.box_of-tile-requires
-box_of-tile-requires c =
-    (
-      c.requires.sized.0.accepted,
-      (
-        (c.requires.sized.1.0.shape c.if-nest-eq0.false).owned.tiled,
-        L.sender_low c.args.nest
-            c.requires.sized.0.accepted c.args.sizes.route c.if-nest-eq0.false (c.requires.sized.1.0.routed c.if-nest-eq0.false)
-            c.args.place.number c.args.place c.requires.sized.1.1 c.args.sizes.ways c.requires.sized.0.ways,
-      ),
-    )
+box_of-tile-requires c = (
+  c.requires.sized.0.accepted,
+  (
+    (c.requires.sized.1.0.shape c.if-nest-eq0.false).owned.tiled,
+    L.sender_low c.args.nest
+        c.requires.sized.0.accepted c.args.sizes.route c.if-nest-eq0.false (c.requires.sized.1.0.routed c.if-nest-eq0.false)
+        c.args.place.number c.args.place c.requires.sized.1.1 c.args.sizes.ways c.requires.sized.0.ways,
+  ),
+)
 
 pub nonzero_rem-slot : goal.nonzero_rem-slot
 nonzero_rem-slot c =
@@ -52,7 +50,8 @@ nonzero_rem-slot c =
 
 pub unpack-requires-2 : goal.unpack-requires-2
 unpack-requires-2 c =
-    record { sized = (
+    record {
+      sized = (
         c.requires.sized.0,
         (
           c.requires.sized.1.0.routed c.if-nest-eq0.false,
@@ -64,12 +63,14 @@ unpack-requires-2 c =
                 c.requires.sized.0.ways,
           ),
         ),
-      ); memory_len = (
+      );
+      memory_len = (
         c.requires.memory_len.0,
         L.shape_long c.args.nest c.requires.sized.0.accepted c.args.sizes.route
             c.if-nest-eq0.false (c.requires.sized.1.0.routed c.if-nest-eq0.false) c.args.place.number c.args.place c.requires.sized.1.1
             c.args.sizes.ways c.requires.sized.0.ways _ _ c.box_of-tile.ensures.0 c.requires.memory_len.1,
-      ) }
+      );
+    }
 
 pub returns : goal.returns
 returns c =

@@ -14,12 +14,11 @@ pub returns-then-values-i : goal.returns-then-values-i
 returns-then-values-i c = S.without c.args.n 256 c.args.values.now c.loop-i.i _ c.loop-i-test.true c.limit.ensures c.if-values-i.true
 
 pub loop-i-preserved : goal.loop-i-preserved
-loop-i-preserved c =
-    (
-      omega arith,
-      S.within_next c.args.n 256 c.args.values.now c.loop-i.i _ c.loop-i.invariant.1 c.limit.ensures
-          c.if-values-i.false,
-    )
+loop-i-preserved c = (
+  omega arith,
+  S.within_next c.args.n 256 c.args.values.now c.loop-i.i _ c.loop-i.invariant.1 c.limit.ensures
+      c.if-values-i.false,
+)
 
 pub returns : goal.returns
 returns c =

@@ -38,8 +38,7 @@ pub loop-r-smaller : goal.loop-r-smaller
 loop-r-smaller c = omega (arith, c.loop-r-test.true)
 
 pub loop-r-preserved : goal.loop-r-preserved
-loop-r-preserved c =
-    (
+loop-r-preserved c = (
   omega arith,
   S.record_next c.loop-r.r _ _
       (c.put_record-next.ensures _ c.loop-r.invariant.1 c.record_of-row.ensures),

@@ -9,8 +9,7 @@ pub loop-i-init : goal.loop-i-init
 loop-i-init c = (omega arith, refl, λ k h. absurd (omega arith))
 
 pub loop-i-preserved : goal.loop-i-preserved
-loop-i-preserved c =
-    (
+loop-i-preserved c = (
   omega arith,
   length-set c.loop-i.space _ _ ∙ c.loop-i.invariant.1,
   S.copy_next c.loop-i.space c.args.bytes

@@ -8,8 +8,7 @@ pub loop-i-init : goal.loop-i-init
 loop-i-init c = (omega arith, S.laid_start c.args.at c.args.bytes c.args.row)
 
 pub loop-i-preserved : goal.loop-i-preserved
-loop-i-preserved c =
-    (
+loop-i-preserved c = (
   omega arith,
   S.laid_next c.args.at c.args.bytes c.args.row c.loop-i.i
       c.loop-i.bytes c.requires c.loop-i-test.true c.loop-i.invariant.1,

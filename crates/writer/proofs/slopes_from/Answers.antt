@@ -12,8 +12,7 @@ pub overflow_add-table : goal.overflow_add-table
 overflow_add-table c = omega (arith, c.byte_index.ensures, c.type_inv.values c.loop-i.i)
 
 pub loop-i-preserved : goal.loop-i-preserved
-loop-i-preserved c =
-    (
+loop-i-preserved c = (
   omega arith,
   N.filled_next 4 _ _ _ _ c.loop-i.invariant.1 (omega arith)
       (ap (λ (v : ℕ). (v + 1) % 256) c.byte_index.ensures),

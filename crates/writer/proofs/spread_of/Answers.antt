@@ -25,11 +25,12 @@ pub loop-j-smaller : goal.loop-j-smaller
 loop-j-smaller c = omega arith
 
 pub loop-j-preserved : goal.loop-j-preserved
-loop-j-preserved c =
-    (
+loop-j-preserved c = (
   omega arith,
-  elim c.if-counts-j-gt0.branch [ then-counts-j-gt0 w ↦ w.m-is ∙ N.kept_more _ _ _ c.loop-j.invariant.1 (lt-ltb _ _ w.if-counts-j-gt0.true)
-      | else-counts-j-gt0 w ↦ w.m-is ∙ N.kept_none _ _ _ c.loop-j.invariant.1 (le-ltb _ _ w.if-counts-j-gt0.false) ],
+  elim c.if-counts-j-gt0.branch [
+    | then-counts-j-gt0 w ↦ w.m-is ∙ N.kept_more _ _ _ c.loop-j.invariant.1 (lt-ltb _ _ w.if-counts-j-gt0.true)
+    | else-counts-j-gt0 w ↦ w.m-is ∙ N.kept_none _ _ _ c.loop-j.invariant.1 (le-ltb _ _ w.if-counts-j-gt0.false)
+  ],
   elim c.if-counts-j-gt0.branch [ then-counts-j-gt0 w ↦ omega arith | else-counts-j-gt0 w ↦ omega arith ],
 )
 

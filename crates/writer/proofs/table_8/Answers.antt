@@ -7,8 +7,7 @@ pub loop-i-init : goal.loop-i-init
 loop-i-init c = (omega arith, N.filled_start 8 _)
 
 pub loop-i-preserved : goal.loop-i-preserved
-loop-i-preserved c =
-    (
+loop-i-preserved c = (
   omega arith,
   N.filled_next 8 _ _ _ _ c.loop-i.invariant.1 (omega arith) c.half_wide.ensures,
 )

@@ -14,12 +14,11 @@ returns-then-values-i c =
     (c.index_wide.ensures ∙ c.limit.ensures) c.if-values-i.true
 
 pub loop-i-preserved : goal.loop-i-preserved
-loop-i-preserved c =
-    (
-      omega arith,
-      S.within_next c.args.n 65536 c.args.values.now c.loop-i.i _ c.loop-i.invariant.1
-          (c.index_wide.ensures ∙ c.limit.ensures) c.if-values-i.false,
-    )
+loop-i-preserved c = (
+  omega arith,
+  S.within_next c.args.n 65536 c.args.values.now c.loop-i.i _ c.loop-i.invariant.1
+      (c.index_wide.ensures ∙ c.limit.ensures) c.if-values-i.false,
+)
 
 pub returns : goal.returns
 returns c =

@@ -22,11 +22,10 @@ pub bounds-backs-k : goal.bounds-backs-k
 bounds-backs-k c = omega (arith, c.requires.few, c.loop-k-test.true)
 
 pub word_at-w-requires : goal.word_at-w-requires
-word_at-w-requires c =
-    (
-      omega (arith, c.requires.within),
-      (c.requires.beyond, (c.requires.small, λ h. omega (arith, c.requires.back _ 0 c.loop-k-test.true (omega arith) (omega arith)))),
-    )
+word_at-w-requires c = (
+  omega (arith, c.requires.within),
+  (c.requires.beyond, (c.requires.small, λ h. omega (arith, c.requires.back _ 0 c.loop-k-test.true (omega arith) (omega arith)))),
+)
 
 pub offset_bounds-weights-k : goal.offset_bounds-weights-k
 offset_bounds-weights-k c = omega (arith, c.requires.few, c.loop-k-test.true)

@@ -19,8 +19,7 @@ pub overflow_cast-result : goal.overflow_cast-result
 overflow_cast-result c = omega (arith, c.type_inv.memory (c.args.cell - c.args.back))
 
 pub returns : goal.returns
-returns c =
-    (
+returns c = (
   sym (pick_true _ _ _ (le-leb _ _ c.if-component-first.false)),
   omega (arith, c.type_inv.memory (c.args.cell - c.args.back)),
 )

@@ -5,8 +5,7 @@ use Rattle.chart.proofs.grid_text.Steps.{more_start, more_first, more_second, mo
 use Rattle.chart.proofs.grid_text.put_more.Goals as goal
 
 pub loop-j-init : goal.loop-j-init
-loop-j-init c =
-    (
+loop-j-init c = (
   omega arith,
   more_start c.args.space.now c.args.grid.now (within c.args.s)
       c.args.at c.args.c c.args.n c.requires.n_bound,
@@ -23,21 +22,23 @@ overflow_add-c c = omega (arith, c.loop-j-test.true, c.requires.n_in_bounds.0, c
 
 pub put_cell-place-requires : goal.put_cell-place-requires
 put_cell-place-requires c =
-    record { c_bound = more_second c.args.space.now c.args.grid.now (within c.args.s) c.args.at c.args.c c.args.n c.loop-j.space
-          c.loop-j.place c.loop-j.j c.loop-j-test.true c.loop-j.invariant.1 _ _ c.put-after.ensures c.put-after.auto.space; c_in_bounds = omega (
+    record {
+      c_bound = more_second c.args.space.now c.args.grid.now (within c.args.s) c.args.at c.args.c c.args.n c.loop-j.space
+          c.loop-j.place c.loop-j.j c.loop-j-test.true c.loop-j.invariant.1 _ _ c.put-after.ensures c.put-after.auto.space;
+      c_in_bounds = omega (
         arith,
         c.loop-j-test.true,
         c.requires.n_in_bounds.0,
-      ) }
+      );
+    }
 
 pub loop-j-preserved : goal.loop-j-preserved
-loop-j-preserved c =
-    (
-      omega (arith, c.loop-j-test.true),
-      more_next c.args.space.now c.args.grid.now (within c.args.s) c.args.at
-          c.args.c c.args.n c.loop-j.space c.loop-j.place c.loop-j.j c.loop-j-test.true c.loop-j.invariant.1 _ _ c.put-after.ensures
-          c.put-after.auto.space _ _ c.put_cell-place.ensures c.put_cell-place.auto.space,
-    )
+loop-j-preserved c = (
+  omega (arith, c.loop-j-test.true),
+  more_next c.args.space.now c.args.grid.now (within c.args.s) c.args.at
+      c.args.c c.args.n c.loop-j.space c.loop-j.place c.loop-j.j c.loop-j-test.true c.loop-j.invariant.1 _ _ c.put-after.ensures
+      c.put-after.auto.space _ _ c.put_cell-place.ensures c.put_cell-place.auto.space,
+)
 
 pub put-requires : goal.put-requires
 put-requires c =

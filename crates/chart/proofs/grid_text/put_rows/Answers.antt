@@ -8,8 +8,7 @@ use Rattle.chart.proofs.grid_text.Rows.{row_fits, row_wrote}
 use Rattle.chart.proofs.grid_text.put_rows.Goals as goal
 
 pub loop-i-init : goal.loop-i-init
-loop-i-init c =
-    (
+loop-i-init c = (
   omega arith,
   (
     sym (zero-mul c.args.n),

@@ -23,15 +23,18 @@ put_header-next-requires c =
 pub put_rows-requires : goal.put_rows-requires
 put_rows-requires c =
     let few = text_most c.args.nest c.requires.0 c.requires.1.0 c.args.x c.args.y c.ranges.x c.ranges.y c.args.size
-    c.ranges.size.fits c.args.grid.now (λ i. omega (arith, c.type_inv.grid i)) in record { k_bound = text_rows (length_of c.args.nest 0)
+    c.ranges.size.fits c.args.grid.now (λ i. omega (arith, c.type_inv.grid i)) in record {
+      k_bound = text_rows (length_of c.args.nest 0)
           (length_of c.args.nest 1) c.args.x c.args.y c.args.size c.ranges.x c.ranges.y c.args.grid.now (in_shape
-          c.args.nest) c.args.space.now few _ _ c.put_header-next.ensures; rows = record {
+          c.args.nest) c.args.space.now few _ _ c.put_header-next.ensures;
+      rows = record {
         accepted = c.requires.0;
         flat = c.requires.1.0;
         wide = refl;
         all = c.requires.1.1;
         few = omega (arith, c.requires.1.1, cells_are c.args.nest c.requires.1.0);
-      } }
+      };
+    }
 
 pub returns : goal.returns
 returns c =

@@ -18,8 +18,7 @@ overflow_add-result c =
     }
 
 pub returns : goal.returns
-returns c =
-    (
+returns c = (
   ap (λ (a : ℕ). a + 1) c.tile_along.ensures,
   omega (arith, c.tile_along.ensures, div-le_self (c.args.cells - 1) c.args.length, c.requires.0),
 )

@@ -18,10 +18,13 @@ loop-r-init c = packing_none _ _ _ _ (L.words_found _ _ _ _ c.rows_at-rows.ensur
 
 pub row_of-row-requires : goal.row_of-row-requires
 row_of-row-requires c =
-    record { accepted = (
+    record {
+      accepted = (
         c.requires.sized.0.accepted,
         (record { is = refl }, (c.rows_at-rows.ensures.shape, c.loop-r-test.true)),
-      ); nest_in_bounds = c.rows_at-rows.ensures.ends }
+      );
+      nest_in_bounds = c.rows_at-rows.ensures.ends;
+    }
 
 pub rank-number-requires : goal.rank-number-requires
 rank-number-requires c = row_ranked _ _ _ _ c.row_of-row.ensures.place c.requires.sized.0.accepted c.rows_at-rows.ensures.shape

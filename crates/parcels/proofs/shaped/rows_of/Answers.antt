@@ -23,12 +23,11 @@ pub along_of-ahead-requires : goal.along_of-ahead-requires
 along_of-ahead-requires c = (c.requires.sized.0, rw c.requires.sized.1.0 c.requires.sized.1.1.1)
 
 pub sending_of-sending-requires : goal.sending_of-sending-requires
-sending_of-sending-requires c =
-    (
-      c.requires.sized.0,
-      L.slot_headed c.args.sizes.route _ _ c.requires.sized.0.ways _ _ c.requires.sized.1.1.0
-          (rw c.requires.sized.1.0 c.requires.sized.1.1.1) _ _ c.requires.farthest.1 c.along_of-ahead.ensures,
-    )
+sending_of-sending-requires c = (
+  c.requires.sized.0,
+  L.slot_headed c.args.sizes.route _ _ c.requires.sized.0.ways _ _ c.requires.sized.1.1.0
+      (rw c.requires.sized.1.0 c.requires.sized.1.1.1) _ _ c.requires.farthest.1 c.along_of-ahead.ensures,
+)
 
 pub near-requires : goal.near-requires
 near-requires c = (c.requires.sized.0.accepted, (c.sending_of-sending.ensures.shape, c.requires.farthest.0))

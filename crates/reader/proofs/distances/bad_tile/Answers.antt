@@ -18,12 +18,11 @@ unfolding bad_tile
 returns-then-reached c = sym (some_one _ _ c.loop-j.j c.loop-j-test.true (or_right _ (sym c.reached.ensures ∙ c.if-reached.true)))
 
 pub loop-j-preserved : goal.loop-j-preserved
-loop-j-preserved c =
-    (
-      omega arith,
-      L.some_step _ _ c.loop-j.invariant.1 (or_false (sym c.no_length.ensures ∙ c.if-no_length.false)
-          (sym c.reached.ensures ∙ c.if-reached.false)),
-    )
+loop-j-preserved c = (
+  omega arith,
+  L.some_step _ _ c.loop-j.invariant.1 (or_false (sym c.no_length.ensures ∙ c.if-no_length.false)
+      (sym c.reached.ensures ∙ c.if-reached.false)),
+)
 
 pub returns : goal.returns
 unfolding bad_tile

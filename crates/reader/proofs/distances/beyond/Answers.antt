@@ -16,11 +16,12 @@ unfolding beyond
 returns-then-nest-e-gt0 c = sym (some_one _ _ c.loop-j.j c.loop-j-test.true (and_true (le-leb _ _ c.if-n-j.true) (lt-ltb _ _ c.if-nest-e-gt0.true)))
 
 pub loop-j-preserved : goal.loop-j-preserved
-loop-j-preserved c =
-    (
+loop-j-preserved c = (
   omega arith,
-  L.some_step _ _ c.loop-j.invariant.1 (elim c.if-n-j.branch [ then-n-j+else-nest-e-gt0 w ↦ and_no _ _ (le-ltb _ _ w.if-nest-e-gt0.false)
-      | else-n-j w ↦ and_false _ _ (lt-leb _ _ w.if-n-j.false) ]),
+  L.some_step _ _ c.loop-j.invariant.1 (elim c.if-n-j.branch [
+    | then-n-j+else-nest-e-gt0 w ↦ and_no _ _ (le-ltb _ _ w.if-nest-e-gt0.false)
+    | else-n-j w ↦ and_false _ _ (lt-leb _ _ w.if-n-j.false)
+  ]),
 )
 
 pub returns : goal.returns

@@ -20,11 +20,12 @@ pub overflow_add-n : goal.overflow_add-n
 overflow_add-n c = omega (arith, those_few (kind c.args.encoded.now) c.args.wanted c.loop-r.r)
 
 pub loop-r-preserved : goal.loop-r-preserved
-loop-r-preserved c =
-    (
+loop-r-preserved c = (
   omega arith,
-  elim c.if-encoded-r.branch [ then-encoded-r w ↦ w.n-is ∙ L.those_one _ _ _ _ c.loop-r.invariant.1 w.if-encoded-r.true
-      | else-encoded-r w ↦ w.n-is ∙ L.those_skip _ _ _ _ c.loop-r.invariant.1 w.if-encoded-r.false ],
+  elim c.if-encoded-r.branch [
+    | then-encoded-r w ↦ w.n-is ∙ L.those_one _ _ _ _ c.loop-r.invariant.1 w.if-encoded-r.true
+    | else-encoded-r w ↦ w.n-is ∙ L.those_skip _ _ _ _ c.loop-r.invariant.1 w.if-encoded-r.false
+  ],
 )
 
 pub returns : goal.returns

@@ -17,12 +17,14 @@ pub overflow_add-m : goal.overflow_add-m
 overflow_add-m c = omega (arith, keep_few (λ i. ltb 0 (half c.args.encoded.now (16 * i + 6))) c.loop-j.j)
 
 pub loop-j-preserved : goal.loop-j-preserved
-loop-j-preserved c =
-    (
+loop-j-preserved c = (
   omega arith,
-  elim c.if-half_at-gt0.branch [ then-half_at-gt0 w ↦ w.m-is ∙ L.kept_more _ _ _ c.loop-j.invariant.1
-      (lt-ltb _ _ (rw c.half_at.ensures.value at w.if-half_at-gt0.true)) | else-half_at-gt0 w ↦ w.m-is ∙ L.kept_none _ _ _ c.loop-j.invariant.1
-      (le-ltb _ _ (rw c.half_at.ensures.value at w.if-half_at-gt0.false)) ],
+  elim c.if-half_at-gt0.branch [
+    | then-half_at-gt0 w ↦ w.m-is ∙ L.kept_more _ _ _ c.loop-j.invariant.1
+        (lt-ltb _ _ (rw c.half_at.ensures.value at w.if-half_at-gt0.true))
+    | else-half_at-gt0 w ↦ w.m-is ∙ L.kept_none _ _ _ c.loop-j.invariant.1
+        (le-ltb _ _ (rw c.half_at.ensures.value at w.if-half_at-gt0.false))
+  ],
 )
 
 pub returns : goal.returns

@@ -60,14 +60,13 @@ pub loop-way-smaller : goal.loop-way-smaller
 loop-way-smaller c = omega (arith, c.loop-way-test.true)
 
 pub loop-way-preserved : goal.loop-way-preserved
-loop-way-preserved c =
-    (
-      rw (← add_assoc (c.args.tile * c.args.sizes.ways) c.loop-way.way 1)
-          (L.fill_turn c.args.sizes.route _ _ _ _ c.loop-way.invariant.0
-          (L.slot_under c.args.sizes.route _ _ c.requires.0.ways _ c.loop-way-test.true _ c.requires.1.0)
-          (L.slots_few c.args.sizes.route _ c.requires.0.accepted c.requires.1.1.plain) c.parcel_length.ensures.0),
-      omega (arith, c.loop-way-test.true),
-    )
+loop-way-preserved c = (
+  rw (← add_assoc (c.args.tile * c.args.sizes.ways) c.loop-way.way 1)
+      (L.fill_turn c.args.sizes.route _ _ _ _ c.loop-way.invariant.0
+      (L.slot_under c.args.sizes.route _ _ c.requires.0.ways _ c.loop-way-test.true _ c.requires.1.0)
+      (L.slots_few c.args.sizes.route _ c.requires.0.accepted c.requires.1.1.plain) c.parcel_length.ensures.0),
+  omega (arith, c.loop-way-test.true),
+)
 
 pub returns : goal.returns
 returns c =

@@ -19,13 +19,12 @@ overflow_cast-result c =
     )
 
 pub returns : goal.returns
-returns c =
-    (
-      c.requires.1.0.each c.args.slot c.requires.1.1,
-      omega (
-        arith,
-        c.requires.1.0.each c.args.slot c.requires.1.1,
-        L.parcel_few c.args.sizes.route c.args.nest
-            c.requires.0.accepted c.args.slot,
-      ),
-    )
+returns c = (
+  c.requires.1.0.each c.args.slot c.requires.1.1,
+  omega (
+    arith,
+    c.requires.1.0.each c.args.slot c.requires.1.1,
+    L.parcel_few c.args.sizes.route c.args.nest
+        c.requires.0.accepted c.args.slot,
+  ),
+)

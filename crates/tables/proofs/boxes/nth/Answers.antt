@@ -13,15 +13,14 @@ pub loop-slot-init : goal.loop-slot-init
 loop-slot-init c = record { before = omega arith; sums = L.sum_start c.args.sizes.route c.args.nest }
 
 pub length_at-w-requires : goal.length_at-w-requires
-length_at-w-requires c =
-    (
-      c.requires.sized.0,
-      (
-        c.requires.sized.1,
-        L.under c.args.nest c.args.sizes c.requires.sized.0 c.loop-slot.slot
-            c.loop-slot-test.true,
-      ),
-    )
+length_at-w-requires c = (
+  c.requires.sized.0,
+  (
+    c.requires.sized.1,
+    L.under c.args.nest c.args.sizes c.requires.sized.0 c.loop-slot.slot
+        c.loop-slot-test.true,
+  ),
+)
 
 pub returns-then-number-m : goal.returns-then-number-m
 returns-then-number-m c =

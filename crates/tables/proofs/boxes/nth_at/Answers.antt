@@ -52,8 +52,8 @@ loop-way-preserved c =
     E.missing_more c.args.sizes.route _ _ _ _ _ c.loop-way.invariant
     (omega (arith, c.loop-way-test.true, c.requires.sized.0.ways)) c.requires.sized.0.ways
     (elim c.if-slot-slots.branch [
-      then-slot-slots+else-count_below-j w ↦ λ l q. w.if-count_below-j.false (w.count_below.ensures.0 ∙ q)
-    | else-slot-slots w ↦ λ l. absurd (omega (arith, w.if-slot-slots.false, L.slots_are _ _ c.requires.sized.0))
+      | then-slot-slots+else-count_below-j w ↦ λ l q. w.if-count_below-j.false (w.count_below.ensures.0 ∙ q)
+      | else-slot-slots w ↦ λ l. absurd (omega (arith, w.if-slot-slots.false, L.slots_are _ _ c.requires.sized.0))
     ])
 
 pub returns : goal.returns

@@ -40,15 +40,14 @@ pub loop-s-smaller : goal.loop-s-smaller
 loop-s-smaller c = omega (arith, c.loop-s-test.true)
 
 pub loop-s-preserved : goal.loop-s-preserved
-loop-s-preserved c =
-    (
-      L.sum_turn c.args.sizes.route c.args.nest c.loop-s.s
-          c.loop-s.messages c.loop-s.words c.length_at-length.result c.if-length-ne0.messages
-          c.requires.0.accepted c.loop-s.invariant.0
-          (omega (arith, c.requires.1.1, c.loop-s-test.true)) c.length_at-length.ensures.0
-          (elim c.if-length-ne0.branch [ then-length-ne0 w ↦ inl (w.if-length-ne0.true, w.messages-is) | else-length-ne0 w ↦ inr (w.if-length-ne0.false, w.messages-is) ]),
-      omega (arith, c.loop-s-test.true),
-    )
+loop-s-preserved c = (
+  L.sum_turn c.args.sizes.route c.args.nest c.loop-s.s
+      c.loop-s.messages c.loop-s.words c.length_at-length.result c.if-length-ne0.messages
+      c.requires.0.accepted c.loop-s.invariant.0
+      (omega (arith, c.requires.1.1, c.loop-s-test.true)) c.length_at-length.ensures.0
+      (elim c.if-length-ne0.branch [ then-length-ne0 w ↦ inl (w.if-length-ne0.true, w.messages-is) | else-length-ne0 w ↦ inr (w.if-length-ne0.false, w.messages-is) ]),
+  omega (arith, c.loop-s-test.true),
+)
 
 pub returns : goal.returns
 returns c =

@@ -8,15 +8,14 @@ use borrow.Author.Rules.{rules}
 use Rattle.tables.proofs.message_cells.cells_of.Goals as goal
 
 pub list_box-requires : goal.list_box-requires
-list_box-requires c =
-    (
-      c.requires.sized.0,
-      (
-        (c.requires.sized.1.1.box c.if-nest-eq0.true).0,
-        L.box_long c.args.nest c.requires.sized.0.accepted c.args.sizes.route c.if-nest-eq0.true
-            c.args.place.number _ c.args.place c.requires.sized.1.1 c.requires.cells_len,
-      ),
-    )
+list_box-requires c = (
+  c.requires.sized.0,
+  (
+    (c.requires.sized.1.1.box c.if-nest-eq0.true).0,
+    L.box_long c.args.nest c.requires.sized.0.accepted c.args.sizes.route c.if-nest-eq0.true
+        c.args.place.number _ c.args.place c.requires.sized.1.1 c.requires.cells_len,
+  ),
+)
 
 pub returns-then-nest-eq0 : goal.returns-then-nest-eq0
 returns-then-nest-eq0 c =
@@ -32,16 +31,15 @@ nonzero_div-slot c =
     c.requires.sized.0.ways
 
 pub box_of-tile-requires : goal.box_of-tile-requires
-box_of-tile-requires c =
-    (
-      c.requires.sized.0.accepted,
-      (
-        (c.requires.sized.1.0.shape c.if-nest-eq0.false).owned.tiled,
-        L.sender_low c.args.nest
-            c.requires.sized.0.accepted c.args.sizes.route c.if-nest-eq0.false (c.requires.sized.1.0.routed c.if-nest-eq0.false)
-            c.args.place.number c.args.place c.requires.sized.1.1 c.args.sizes.ways c.requires.sized.0.ways,
-      ),
-    )
+box_of-tile-requires c = (
+  c.requires.sized.0.accepted,
+  (
+    (c.requires.sized.1.0.shape c.if-nest-eq0.false).owned.tiled,
+    L.sender_low c.args.nest
+        c.requires.sized.0.accepted c.args.sizes.route c.if-nest-eq0.false (c.requires.sized.1.0.routed c.if-nest-eq0.false)
+        c.args.place.number c.args.place c.requires.sized.1.1 c.args.sizes.ways c.requires.sized.0.ways,
+  ),
+)
 
 pub nonzero_rem-slot : goal.nonzero_rem-slot
 nonzero_rem-slot c =
@@ -51,7 +49,8 @@ nonzero_rem-slot c =
 
 pub list_shaped-requires : goal.list_shaped-requires
 list_shaped-requires c =
-    record { sized = (
+    record {
+      sized = (
         c.requires.sized.0,
         (
           c.requires.sized.1.0.routed c.if-nest-eq0.false,
@@ -63,9 +62,11 @@ list_shaped-requires c =
                 c.requires.sized.0.ways,
           ),
         ),
-      ); cells_len = L.shape_long c.args.nest c.requires.sized.0.accepted c.args.sizes.route c.if-nest-eq0.false
+      );
+      cells_len = L.shape_long c.args.nest c.requires.sized.0.accepted c.args.sizes.route c.if-nest-eq0.false
           (c.requires.sized.1.0.routed c.if-nest-eq0.false) c.args.place.number c.args.place c.requires.sized.1.1
-          c.args.sizes.ways c.requires.sized.0.ways _ _ c.box_of-tile.ensures.0 c.requires.cells_len }
+          c.args.sizes.ways c.requires.sized.0.ways _ _ c.box_of-tile.ensures.0 c.requires.cells_len;
+    }
 
 pub returns : goal.returns
 returns c =

@@ -28,12 +28,11 @@ pub along_of-ahead-requires : goal.along_of-ahead-requires
 along_of-ahead-requires c = (c.requires.0, way_low _ c.requires.0.accepted c.args.sizes.route _ c.requires.0.ways c.args.slot)
 
 pub sending_of-sending-requires : goal.sending_of-sending-requires
-sending_of-sending-requires c =
-    (
-      c.requires.0,
-      headed c.args.sizes.route _ _ _ _ _ c.requires.0.ways c.requires.1.0 c.place_of_tile-at.ensures
-          c.along_of-ahead.ensures,
-    )
+sending_of-sending-requires c = (
+  c.requires.0,
+  headed c.args.sizes.route _ _ _ _ _ c.requires.0.ways c.requires.1.0 c.place_of_tile-at.ensures
+      c.along_of-ahead.ensures,
+)
 
 pub loop-r-init : goal.loop-r-init
 loop-r-init c =

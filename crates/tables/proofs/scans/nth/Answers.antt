@@ -46,28 +46,27 @@ pub loop-slot-smaller : goal.loop-slot-smaller
 loop-slot-smaller c = omega (arith, c.loop-slot-test.true)
 
 pub loop-slot-preserved : goal.loop-slot-preserved
-loop-slot-preserved c =
+loop-slot-preserved c = (
+  omega (arith, c.loop-slot-test.true),
+  (
+    elim c.if-w-ne0.branch [ then-w-ne0+else-number-m w ↦ L.not_yet c.loop-slot.number c.args.m _ c.loop-slot.invariant.1.0 w.if-number-m.false w.number-is | else-w-ne0 w ↦ omega (arith, w.number-is, c.loop-slot.invariant.1.0) ],
     (
-      omega (arith, c.loop-slot-test.true),
+      elim c.if-w-ne0.branch [ then-w-ne0+else-number-m w ↦ omega (arith, w.number-is, c.loop-slot.invariant.1.1.0) | else-w-ne0 w ↦ omega (arith, w.number-is, c.loop-slot.invariant.1.1.0) ],
       (
-        elim c.if-w-ne0.branch [ then-w-ne0+else-number-m w ↦ L.not_yet c.loop-slot.number c.args.m _ c.loop-slot.invariant.1.0 w.if-number-m.false w.number-is | else-w-ne0 w ↦ omega (arith, w.number-is, c.loop-slot.invariant.1.0) ],
-        (
-          elim c.if-w-ne0.branch [ then-w-ne0+else-number-m w ↦ omega (arith, w.number-is, c.loop-slot.invariant.1.1.0) | else-w-ne0 w ↦ omega (arith, w.number-is, c.loop-slot.invariant.1.1.0) ],
-          (
-            omega (
-              arith,
-              c.loop-slot.invariant.1.1.1.0,
-              c.half_index-w.ensures,
-              c.requires.short c.loop-slot.slot
-                  c.loop-slot-test.true,
-            ),
-            λ f h. L.sum_turn f c.loop-slot.slot c.loop-slot.number c.loop-slot.offset c.half_index-w.result c.if-w-ne0.number
-                (c.loop-slot.invariant.1.1.1.1 f h) (c.half_index-w.ensures ∙ h.each c.loop-slot.slot c.loop-slot-test.true)
-                (elim c.if-w-ne0.branch [ then-w-ne0+else-number-m w ↦ inl (w.if-w-ne0.true, w.number-is) | else-w-ne0 w ↦ inr (w.if-w-ne0.false, w.number-is) ]),
-          ),
+        omega (
+          arith,
+          c.loop-slot.invariant.1.1.1.0,
+          c.half_index-w.ensures,
+          c.requires.short c.loop-slot.slot
+              c.loop-slot-test.true,
         ),
+        λ f h. L.sum_turn f c.loop-slot.slot c.loop-slot.number c.loop-slot.offset c.half_index-w.result c.if-w-ne0.number
+            (c.loop-slot.invariant.1.1.1.1 f h) (c.half_index-w.ensures ∙ h.each c.loop-slot.slot c.loop-slot-test.true)
+            (elim c.if-w-ne0.branch [ then-w-ne0+else-number-m w ↦ inl (w.if-w-ne0.true, w.number-is) | else-w-ne0 w ↦ inr (w.if-w-ne0.false, w.number-is) ]),
       ),
-    )
+    ),
+  ),
+)
 
 pub returns : goal.returns
 returns c =

@@ -40,23 +40,21 @@ pub loop-s-smaller : goal.loop-s-smaller
 loop-s-smaller c = omega (arith, c.loop-s-test.true)
 
 pub loop-s-preserved : goal.loop-s-preserved
-loop-s-preserved c =
+loop-s-preserved c = (
+  omega (arith, c.loop-s-test.true),
+  (
+    elim c.if-length-ne0.branch [ then-length-ne0 w ↦ omega (arith, w.messages-is, c.loop-s.invariant.1.0) | else-length-ne0 w ↦ omega (arith, w.messages-is, c.loop-s.invariant.1.0) ],
     (
-      omega (arith, c.loop-s-test.true),
-      (
-        elim c.if-length-ne0.branch [ then-length-ne0 w ↦ omega (arith, w.messages-is, c.loop-s.invariant.1.0) | else-length-ne0 w ↦ omega (arith, w.messages-is, c.loop-s.invariant.1.0) ],
-        (
-          omega (arith, c.loop-s.invariant.1.1.0, c.half_index-length.ensures, c.requires.short c.loop-s.s c.loop-s-test.true),
-          λ f h. L.sum_turn f c.loop-s.s c.loop-s.messages c.loop-s.words c.half_index-length.result c.if-length-ne0.messages
-              (c.loop-s.invariant.1.1.1 f h) (c.half_index-length.ensures ∙ h.each c.loop-s.s c.loop-s-test.true)
-              (elim c.if-length-ne0.branch [ then-length-ne0 w ↦ inl (w.if-length-ne0.true, w.messages-is) | else-length-ne0 w ↦ inr (w.if-length-ne0.false, w.messages-is) ]),
-        ),
-      ),
-    )
+      omega (arith, c.loop-s.invariant.1.1.0, c.half_index-length.ensures, c.requires.short c.loop-s.s c.loop-s-test.true),
+      λ f h. L.sum_turn f c.loop-s.s c.loop-s.messages c.loop-s.words c.half_index-length.result c.if-length-ne0.messages
+          (c.loop-s.invariant.1.1.1 f h) (c.half_index-length.ensures ∙ h.each c.loop-s.s c.loop-s-test.true)
+          (elim c.if-length-ne0.branch [ then-length-ne0 w ↦ inl (w.if-length-ne0.true, w.messages-is) | else-length-ne0 w ↦ inr (w.if-length-ne0.false, w.messages-is) ]),
+    ),
+  ),
+)
 
 pub returns : goal.returns
-returns c =
-    (
+returns c = (
   omega (arith, c.loop-s.invariant.0, c.loop-s.invariant.1.0, c.requires.few),
   (
     omega (arith, c.loop-s.invariant.0, c.loop-s.invariant.1.1.0, c.requires.few),

@@ -26,8 +26,7 @@ overflow_cast-result c =
     )
 
 pub returns : goal.returns
-returns c =
-    (
+returns c = (
   c.requires.1.0.numbers.boxes c.args.tile c.requires.1.1,
   omega (
     arith,

@@ -14,7 +14,9 @@ loop-way-init c = (rw (add-zero (c.args.tile * directions c.args.nest)) c.requir
 
 pub length_as-requires : goal.length_as-requires
 length_as-requires c =
-    record { sized = c.requires.sized; tile_bound = (
+    record {
+      sized = c.requires.sized;
+      tile_bound = (
         c.requires.tile_bound.0,
         (
           omega (
@@ -25,7 +27,8 @@ length_as-requires c =
           ),
           c.loop-way.invariant.0,
         ),
-      ) }
+      );
+    }
 
 pub overflow_mul-lens : goal.overflow_mul-lens
 overflow_mul-lens c =

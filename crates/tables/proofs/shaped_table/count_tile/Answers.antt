@@ -20,7 +20,8 @@ loop-way-init c = (rw (add-zero (c.args.tile * directions c.args.nest)) c.requir
 
 pub slot_length-length-requires : goal.slot_length-length-requires
 slot_length-length-requires c =
-    record { sized = (
+    record {
+      sized = (
         c.requires.sized.0,
         (
           c.requires.sized.1.0,
@@ -34,7 +35,9 @@ slot_length-length-requires c =
             ),
           ),
         ),
-      ); farthest = (c.requires.sized.1.1, c.place_of_tile-at.ensures) }
+      );
+      farthest = (c.requires.sized.1.1, c.place_of_tile-at.ensures);
+    }
 
 pub overflow_cast-lens : goal.overflow_cast-lens
 overflow_cast-lens c = omega (arith, c.slot_length-length.ensures.1)

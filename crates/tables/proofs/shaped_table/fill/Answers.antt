@@ -44,14 +44,13 @@ pub line_at-line-requires : goal.line_at-line-requires
 line_at-line-requires c = record { sized = (c.requires.0, (c.box_of-number.ensures.1, (c.farthest-most.ensures, c.move_of-by.ensures))); lined = c.loop-tile.invariant.1.1.0 }
 
 pub back_of-back-requires : goal.back_of-back-requires
-back_of-back-requires c =
-    (
-      c.requires.0.accepted,
-      (
-        omega (arith, c.tiles_of-n.ensures.0, c.loop-tile-test.true),
-        (c.loop-tile.invariant.0.owned.tiled, (c.move_of-by.ensures.few, c.loop-tile.invariant.1.1.1)),
-      ),
-    )
+back_of-back-requires c = (
+  c.requires.0.accepted,
+  (
+    omega (arith, c.tiles_of-n.ensures.0, c.loop-tile-test.true),
+    (c.loop-tile.invariant.0.owned.tiled, (c.move_of-by.ensures.few, c.loop-tile.invariant.1.1.1)),
+  ),
+)
 
 pub fill_tile-requires : goal.fill_tile-requires
 fill_tile-requires c = record { sized = (c.requires.0, (c.requires.1.0, (c.farthest-most.ensures, c.line_at-line.ensures))); tile_bound = (omega (arith, c.tiles_of-n.ensures.0, c.loop-tile-test.true), (c.back_of-back.ensures, c.loop-tile.invariant.0)) }

@@ -15,25 +15,23 @@ pub tiles_of-n-requires : goal.tiles_of-n-requires
 tiles_of-n-requires c = (c.requires.0.accepted, c.requires.1)
 
 pub loop-t-init : goal.loop-t-init
-loop-t-init c =
-    (
-      L.owned_none _ c.requires.0.accepted _ c.requires.1,
-      (omega arith, λ s h l. R.held_none c.args.nest c.requires.0.accepted _),
-    )
+loop-t-init c = (
+  L.owned_none _ c.requires.0.accepted _ c.requires.1,
+  (omega arith, λ s h l. R.held_none c.args.nest c.requires.0.accepted _),
+)
 
 pub box_of-tile-requires : goal.box_of-tile-requires
-box_of-tile-requires c =
-    (
-      c.requires.0.accepted,
-      (
-        c.loop-t.invariant.0.tiled,
-        omega (
-          arith,
-          c.tiles_of-n.ensures.0,
-          c.loop-t-test.true,
-        ),
-      ),
-    )
+box_of-tile-requires c = (
+  c.requires.0.accepted,
+  (
+    c.loop-t.invariant.0.tiled,
+    omega (
+      arith,
+      c.tiles_of-n.ensures.0,
+      c.loop-t-test.true,
+    ),
+  ),
+)
 
 pub owner_at-owner-requires : goal.owner_at-owner-requires
 owner_at-owner-requires c =

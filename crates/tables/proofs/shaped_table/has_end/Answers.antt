@@ -20,8 +20,7 @@ returns-then-side-eq0 c =
     c.requires.slot_bound.0 c.args.side c.args.tile c.if-side-eq0.true
 
 pub box_of-from-requires : goal.box_of-from-requires
-box_of-from-requires c =
-    (
+box_of-from-requires c = (
   c.requires.sized.0.accepted,
   (
     c.requires.sized.1.1.0.owned.tiled,

@@ -13,8 +13,7 @@ pub loop-u-init : goal.loop-u-init
 loop-u-init c = L.listing_none _ c.requires.0.accepted _ c.requires.1.1
 
 pub is_marked-requires : goal.is_marked-requires
-is_marked-requires c =
-    (
+is_marked-requires c = (
   c.requires.0.accepted,
   (c.requires.1.0, omega (arith, c.loop-u-test.true, c.requires.0.tiles)),
 )

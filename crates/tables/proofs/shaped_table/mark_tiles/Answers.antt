@@ -16,15 +16,14 @@ pub loop-q-init : goal.loop-q-init
 loop-q-init c = (omega arith, rw c.requires.1 (S.counting_start _ (framed _ c.requires.0) c.requires.0.tiled))
 
 pub mark_row-requires : goal.mark_row-requires
-mark_row-requires c =
-    (
-      ((framed _ c.requires.0), c.requires.0.tiled),
-      (
-        S.row_low _ (framed _ c.requires.0) c.requires.0.tiled _ _ c.loop-q-test.true
-            c.row_count-rows.ensures,
-        omega (arith, c.loop-q.invariant.1.long, box_tiles_most _ c.requires.0),
-      ),
-    )
+mark_row-requires c = (
+  ((framed _ c.requires.0), c.requires.0.tiled),
+  (
+    S.row_low _ (framed _ c.requires.0) c.requires.0.tiled _ _ c.loop-q-test.true
+        c.row_count-rows.ensures,
+    omega (arith, c.loop-q.invariant.1.long, box_tiles_most _ c.requires.0),
+  ),
+)
 
 pub overflow_step-q : goal.overflow_step-q
 overflow_step-q c = omega (arith, c.loop-q-test.true)
@@ -33,12 +32,11 @@ pub loop-q-smaller : goal.loop-q-smaller
 loop-q-smaller c = omega (arith, c.loop-q-test.true)
 
 pub loop-q-preserved : goal.loop-q-preserved
-loop-q-preserved c =
-    (
-      omega (arith, c.loop-q-test.true),
-      S.counting_next _ (framed _ c.requires.0) c.requires.0.tiled _ _ _ c.loop-q.invariant.1
-          c.mark_row.ensures,
-    )
+loop-q-preserved c = (
+  omega (arith, c.loop-q-test.true),
+  S.counting_next _ (framed _ c.requires.0) c.requires.0.tiled _ _ _ c.loop-q.invariant.1
+      c.mark_row.ensures,
+)
 
 pub shape_of-marks : goal.shape_of-marks
 shape_of-marks c = omega (arith, c.loop-q.invariant.1.long, L.zeros_long _ c.requires.1)

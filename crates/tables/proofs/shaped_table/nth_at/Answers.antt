@@ -20,8 +20,7 @@ range_of-slots-requires c = (c.requires.sized.0, (c.requires.sized.1.0, c.requir
 
 pub loop-s-init : goal.loop-s-init
 loop-s-init c =
-    let range-of = c.range_of-slots in
-    (
+    let range-of = c.range_of-slots in (
       range-of.ensures.first_low,
       (omega arith, L.range_start _ c.requires.sized.0.accepted c.args.side c.args.tile _ _ range-of.ensures),
     )

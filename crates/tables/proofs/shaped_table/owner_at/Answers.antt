@@ -5,18 +5,17 @@ use Rattle.tables.proofs.shaped_table.Lines as L
 use Rattle.tables.proofs.shaped_table.owner_at.Goals as goal
 
 pub returns-then-tile-old : goal.returns-then-tile-old
-returns-then-tile-old c =
-    (
+returns-then-tile-old c = (
+  L.held_here c.args.nest c.requires.0.accepted _ _ _ c.requires.1.1 c.if-tile-old.true,
+  (
+    omega (
+      arith,
       L.held_here c.args.nest c.requires.0.accepted _ _ _ c.requires.1.1 c.if-tile-old.true,
-      (
-        omega (
-          arith,
-          L.held_here c.args.nest c.requires.0.accepted _ _ _ c.requires.1.1 c.if-tile-old.true,
-          processor_of_low c.args.nest c.requires.0.accepted c.args.tile,
-        ),
-        c.requires.1.1,
-      ),
-    )
+      processor_of_low c.args.nest c.requires.0.accepted c.args.tile,
+    ),
+    c.requires.1.1,
+  ),
+)
 
 pub overflow_sub-n : goal.overflow_sub-n
 overflow_sub-n c = omega (arith, c.requires.0.accepted.dimensions_least, c.requires.0.accepted.dimensions_most)
@@ -49,12 +48,11 @@ overflow_add-result c =
     )
 
 pub returns : goal.returns
-returns c =
-    (
-      c.processor_of.ensures.0,
-      (
-        c.processor_of.ensures.1,
-        L.held_row c.args.nest c.requires.0.accepted c.args.tile _ _
-            (c.requires.0.across _ (L.inner c.args.nest c.requires.0.accepted)) c.processor_of.ensures.0,
-      ),
-    )
+returns c = (
+  c.processor_of.ensures.0,
+  (
+    c.processor_of.ensures.1,
+    L.held_row c.args.nest c.requires.0.accepted c.args.tile _ _
+        (c.requires.0.across _ (L.inner c.args.nest c.requires.0.accepted)) c.processor_of.ensures.0,
+  ),
+)

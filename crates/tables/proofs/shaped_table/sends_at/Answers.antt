@@ -16,8 +16,7 @@ pub bounds-lens-slot : goal.bounds-lens-slot
 bounds-lens-slot c = omega (arith, c.requires.slot_bound.0, L.slots_few _ c.requires.sized.0.accepted, c.requires.sized.1.1.0.owned.tiled.numbers.long)
 
 pub returns-then-lens-slot-eq0 : goal.returns-then-lens-slot-eq0
-returns-then-lens-slot-eq0 c =
-    (
+returns-then-lens-slot-eq0 c = (
   λ t. absurd (never_both t refl),
   λ q full. absurd (omega (arith, c.requires.sized.1.1.0.each c.args.slot c.requires.slot_bound.0, c.if-lens-slot-eq0.true)),
 )

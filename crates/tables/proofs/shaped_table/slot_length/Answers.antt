@@ -14,20 +14,18 @@ pub leaves-requires : goal.leaves-requires
 leaves-requires c = omega (arith, c.requires.sized.0.accepted.spread_low, c.requires.sized.0.accepted.dimensions_most)
 
 pub returns-then-not-leaves : goal.returns-then-not-leaves
-returns-then-not-leaves c =
-    (
-      λ t h e. L.stays_none _ c.requires.sized.0.accepted t c.args.way c.args.tile h c.requires.sized.1.1.1 e _
-          (rw c.requires.sized.1.0 at c.along_of-ahead.ensures) (sym c.leaves.ensures ∙ c.if-not-leaves.true),
-      omega arith,
-    )
+returns-then-not-leaves c = (
+  λ t h e. L.stays_none _ c.requires.sized.0.accepted t c.args.way c.args.tile h c.requires.sized.1.1.1 e _
+      (rw c.requires.sized.1.0 at c.along_of-ahead.ensures) (sym c.leaves.ensures ∙ c.if-not-leaves.true),
+  omega arith,
+)
 
 pub beyond_last-requires : goal.beyond_last-requires
-beyond_last-requires c =
-    (
-      omega (arith, c.requires.sized.0.accepted.spread_low, c.requires.sized.0.accepted.dimensions_most),
-      L.steps_low _ c.requires.sized.0.accepted c.args.tile c.args.way _ _ c.args.sizes.across c.requires.farthest.1
-          (rw c.requires.sized.1.0 at c.along_of-ahead.ensures) c.requires.sized.0.across,
-    )
+beyond_last-requires c = (
+  omega (arith, c.requires.sized.0.accepted.spread_low, c.requires.sized.0.accepted.dimensions_most),
+  L.steps_low _ c.requires.sized.0.accepted c.args.tile c.args.way _ _ c.args.sizes.across c.requires.farthest.1
+      (rw c.requires.sized.1.0 at c.along_of-ahead.ensures) c.requires.sized.0.across,
+)
 
 pub returns-then-beyond_last : goal.returns-then-beyond_last
 returns-then-beyond_last c =

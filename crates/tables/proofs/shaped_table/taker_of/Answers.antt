@@ -17,8 +17,7 @@ nonzero_div-slot c =
     c.args.sizes.route c.requires.0.ways c.requires.1.0) c.requires.1.1.1
 
 pub box_of-from-requires : goal.box_of-from-requires
-box_of-from-requires c =
-    (
+box_of-from-requires c = (
   c.requires.0.accepted,
   (
     c.requires.1.1.0.owned.tiled,
@@ -91,8 +90,7 @@ pub loop-t-smaller : goal.loop-t-smaller
 loop-t-smaller c = omega (arith, c.loop-t-test.true)
 
 pub loop-t-preserved : goal.loop-t-preserved
-loop-t-preserved c =
-    (
+loop-t-preserved c = (
   omega (arith, c.loop-t-test.true),
   L.below_more _ _ _ c.loop-t.invariant.1
       (omega (arith, c.box_of-own.ensures.0, c.if-own-number.false)),

@@ -20,8 +20,7 @@ pub loop-t-init : goal.loop-t-init
 loop-t-init c = (omega arith, L.own_start _ c.requires.0 _)
 
 pub owner_of-owner-requires : goal.owner_of-owner-requires
-owner_of-owner-requires c =
-    (
+owner_of-owner-requires c = (
   c.requires.0,
   (
     c.requires.1.owned,
@@ -51,12 +50,11 @@ pub loop-t-smaller : goal.loop-t-smaller
 loop-t-smaller c = omega (arith, c.loop-t-test.true)
 
 pub loop-t-preserved : goal.loop-t-preserved
-loop-t-preserved c =
-    (
-      omega (arith, c.loop-t-test.true),
-      L.own_turn _ c.requires.0 _ _ _ _ _ c.loop-t.invariant.1 c.owner_of-owner.ensures.0
-          (elim c.if-owner-processor.branch [ then-owner-processor w ↦ inl (w.if-owner-processor.true, w.count-is) | else-owner-processor w ↦ inr (w.if-owner-processor.false, w.count-is) ]),
-    )
+loop-t-preserved c = (
+  omega (arith, c.loop-t-test.true),
+  L.own_turn _ c.requires.0 _ _ _ _ _ c.loop-t.invariant.1 c.owner_of-owner.ensures.0
+      (elim c.if-owner-processor.branch [ then-owner-processor w ↦ inl (w.if-owner-processor.true, w.count-is) | else-owner-processor w ↦ inr (w.if-owner-processor.false, w.count-is) ]),
+)
 
 pub returns : goal.returns
 returns c =

@@ -23,32 +23,29 @@ pub overflow_add-from : goal.overflow_add-from
 overflow_add-from t c = record { fits = omega (arith, c.requires.1.0.small (c.args.left - 1) (omega arith)) }
 
 pub returns-then-component-from : goal.returns-then-component-from
-returns-then-component-from t c =
-    (
-      length-set c.args.at.now _ _ ∙ c.requires.0,
-      follows_step _ _ _ _ c.if-left-eq0.false
-          (omega (arith, c.requires.0, c.requires.1.0.low)) c.if-component-from.true,
-    )
+returns-then-component-from t c = (
+  length-set c.args.at.now _ _ ∙ c.requires.0,
+  follows_step _ _ _ _ c.if-left-eq0.false
+      (omega (arith, c.requires.0, c.requires.1.0.low)) c.if-component-from.true,
+)
 
 pub advance-requires : goal.advance-requires
-advance-requires t c =
+advance-requires t c = (
+  omega arith,
+  (
+    length-set c.args.at.now _ _ ∙ c.requires.0,
     (
-      omega arith,
-      (
-        length-set c.args.at.now _ _ ∙ c.requires.0,
-        (
-          places_fewer _ _ c.args.at.now _ c.if-left-eq0.false
-              (omega (arith, c.requires.0, c.requires.1.0.low)) c.requires.1.0,
-          inside_fewer _ _ _ _ c.if-left-eq0.false (omega (arith, c.requires.0, c.requires.1.0.low)) _
-              c.requires.1.1,
-        ),
-      ),
-    )
+      places_fewer _ _ c.args.at.now _ c.if-left-eq0.false
+          (omega (arith, c.requires.0, c.requires.1.0.low)) c.requires.1.0,
+      inside_fewer _ _ _ _ c.if-left-eq0.false (omega (arith, c.requires.0, c.requires.1.0.low)) _
+          c.requires.1.1,
+    ),
+  ),
+)
 
 pub returns : goal.returns
-returns t c =
-    (
-      c.advance.ensures.0,
-      follows_carry _ _ _ _ _ c.if-left-eq0.false
-          (omega (arith, c.requires.0, c.requires.1.0.low)) c.requires.1.0 c.if-component-from.false c.advance.ensures.1,
-    )
+returns t c = (
+  c.advance.ensures.0,
+  follows_carry _ _ _ _ _ c.if-left-eq0.false
+      (omega (arith, c.requires.0, c.requires.1.0.low)) c.requires.1.0 c.if-component-from.false c.advance.ensures.1,
+)

@@ -29,14 +29,13 @@ pub loop-g-smaller : goal.loop-g-smaller
 loop-g-smaller c = omega (arith, c.loop-g-test.true)
 
 pub loop-g-preserved : goal.loop-g-preserved
-loop-g-preserved c =
-    (
-      omega (arith, c.loop-g-test.true),
-      λ x p. let s = c.loop-g.invariant.1 x p in given_more _ _ _ _ _ _ c.args.source.now
-          c.args.memory.now _ _ _ _ _ p _ _ _ s (4 * c.loop-g.g) 4 _ (omega arith) (omega arith) _ _
-          (c.four_rows.ensures x (given_next _ _ _ _ _ _ c.args.source.now c.args.memory.now _ _ _ _ _ p _ _ _ s
-          (4 * c.loop-g.g) (omega arith))),
-    )
+loop-g-preserved c = (
+  omega (arith, c.loop-g-test.true),
+  λ x p. let s = c.loop-g.invariant.1 x p in given_more _ _ _ _ _ _ c.args.source.now
+      c.args.memory.now _ _ _ _ _ p _ _ _ s (4 * c.loop-g.g) 4 _ (omega arith) (omega arith) _ _
+      (c.four_rows.ensures x (given_next _ _ _ _ _ _ c.args.source.now c.args.memory.now _ _ _ _ _ p _ _ _ s
+      (4 * c.loop-g.g) (omega arith))),
+)
 
 pub shape_of-memory : goal.shape_of-memory
 shape_of-memory c =

@@ -5,8 +5,7 @@ use Rattle.values.proofs.row_values.Rows.{given_ranked, given_inside, given_row,
 use Rattle.values.proofs.row_values.box_rows.Goals as goal
 
 pub loop-r-init : goal.loop-r-init
-loop-r-init c =
-    (
+loop-r-init c = (
   omega arith,
   (
     c.requires.1.1.0,
@@ -43,20 +42,19 @@ pub loop-r-smaller : goal.loop-r-smaller
 loop-r-smaller c = omega (arith, c.loop-r-test.true)
 
 pub loop-r-preserved : goal.loop-r-preserved
-loop-r-preserved c =
-    (
-      omega (arith, c.loop-r.invariant.0),
-      (
-        omega (arith, c.loop-r-test.true),
-        λ x p. let s = c.loop-r.invariant.1.1 x p in
-            let g = given_next _ _ _ _ _ _ c.args.source.now c.args.memory.now _ _ _ _ _ p _ _ _ s c.loop-r.r
-            (omega (arith, c.loop-r.invariant.0)) in let h = given_row _ _ _ _ _ _ c.args.source.now c.loop-r.memory _ _ _ _ _ g _
-            c.rank_of-number.ensures in given_more _ _ _ _ _ _ c.args.source.now c.args.memory.now _ _ _ _ _ p _ _ _ s
-            c.loop-r.r 1 _
-            (omega (arith, c.loop-r.invariant.0)) (omega (arith, c.loop-r.invariant.0)) _ _ (given_one _ _ _ _ _ _ c.args.source.now
-            c.loop-r.memory _ _ _ _ _ g _ c.rank_of-number.ensures _ _ (c.row.ensures x h) c.advance.ensures),
-      ),
-    )
+loop-r-preserved c = (
+  omega (arith, c.loop-r.invariant.0),
+  (
+    omega (arith, c.loop-r-test.true),
+    λ x p. let s = c.loop-r.invariant.1.1 x p in
+        let g = given_next _ _ _ _ _ _ c.args.source.now c.args.memory.now _ _ _ _ _ p _ _ _ s c.loop-r.r
+        (omega (arith, c.loop-r.invariant.0)) in let h = given_row _ _ _ _ _ _ c.args.source.now c.loop-r.memory _ _ _ _ _ g _
+        c.rank_of-number.ensures in given_more _ _ _ _ _ _ c.args.source.now c.args.memory.now _ _ _ _ _ p _ _ _ s
+        c.loop-r.r 1 _
+        (omega (arith, c.loop-r.invariant.0)) (omega (arith, c.loop-r.invariant.0)) _ _ (given_one _ _ _ _ _ _ c.args.source.now
+        c.loop-r.memory _ _ _ _ _ g _ c.rank_of-number.ensures _ _ (c.row.ensures x h) c.advance.ensures),
+  ),
+)
 
 pub shape_of-memory : goal.shape_of-memory
 shape_of-memory c =

@@ -38,19 +38,19 @@ overflow_mul-r c =
     )
 
 pub cell_in-cell-requires : goal.cell_in-cell-requires
-cell_in-cell-requires c =
-    (
-      c.requires.0.accepted,
-      (
-        c.bounds_of-bounds.ensures.0,
-        (let b = box_in _ c.requires.0.accepted _ c.bounds_of-bounds.ensures.0
-            c.loop-r.r _ _ c.product-rows.ensures refl c.loop-r-test.true in omega (arith, b.0, b.1)),
-      ),
-    )
+cell_in-cell-requires c = (
+  c.requires.0.accepted,
+  (
+    c.bounds_of-bounds.ensures.0,
+    (let b = box_in _ c.requires.0.accepted _ c.bounds_of-bounds.ensures.0
+        c.loop-r.r _ _ c.product-rows.ensures refl c.loop-r-test.true in omega (arith, b.0, b.1)),
+  ),
+)
 
 pub row-requires : goal.row-requires
 row-requires c =
-    record { accepted = (
+    record {
+      accepted = (
         c.requires.0.accepted,
         (
           (record { is = refl }, (c.backs_of-back.ensures, refl)),
@@ -60,11 +60,13 @@ row-requires c =
                 ∙ c.requires.1.1.1,
           ),
         ),
-      ); located = (
+      );
+      located = (
         relocated _ _ _ c.cell_in-cell.ensures,
         row_fits _ c.requires.0.accepted _ c.bounds_of-bounds.ensures.0
             c.loop-r.r _ c.cell_in-cell.ensures,
-      ) }
+      );
+    }
 
 pub overflow_step-r : goal.overflow_step-r
 overflow_step-r c = omega (arith, row_count _ c.requires.0.accepted _ c.bounds_of-bounds.ensures.0, c.product-rows.ensures, c.loop-r-test.true)
@@ -73,13 +75,12 @@ pub loop-r-smaller : goal.loop-r-smaller
 loop-r-smaller c = omega (arith, c.loop-r-test.true)
 
 pub loop-r-preserved : goal.loop-r-preserved
-loop-r-preserved c =
-    (
-      omega (arith, c.loop-r-test.true),
-      storing_turn _ _ _ _ c.loop-r.r _ _ _ c.loop-r.invariant.1
-          (tile_row _ c.requires.0.accepted _ c.bounds_of-bounds.ensures.0 _ c.bounds_of-bounds.ensures.1 c.loop-r.r _
-          c.cell_in-cell.ensures) c.row.ensures,
-    )
+loop-r-preserved c = (
+  omega (arith, c.loop-r-test.true),
+  storing_turn _ _ _ _ c.loop-r.r _ _ _ c.loop-r.invariant.1
+      (tile_row _ c.requires.0.accepted _ c.bounds_of-bounds.ensures.0 _ c.bounds_of-bounds.ensures.1 c.loop-r.r _
+      c.cell_in-cell.ensures) c.row.ensures,
+)
 
 pub shape_of-memory : goal.shape_of-memory
 shape_of-memory c = storing_long _ _ _ _ _ c.loop-r.invariant.1

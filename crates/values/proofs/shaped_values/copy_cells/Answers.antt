@@ -42,12 +42,11 @@ pub loop-q-smaller : goal.loop-q-smaller
 loop-q-smaller c = omega (arith, c.loop-q-test.true)
 
 pub loop-q-preserved : goal.loop-q-preserved
-loop-q-preserved c =
-    (
-      omega (arith, c.loop-q-test.true),
-      storing_turn _ _ _ _ c.loop-q.q _ _ _ c.loop-q.invariant.1
-          (λ y h. ap (λ (a : ℕ). a + y) c.row_cell-cell.ensures.0.number) c.copy_row.ensures,
-    )
+loop-q-preserved c = (
+  omega (arith, c.loop-q-test.true),
+  storing_turn _ _ _ _ c.loop-q.q _ _ _ c.loop-q.invariant.1
+      (λ y h. ap (λ (a : ℕ). a + y) c.row_cell-cell.ensures.0.number) c.copy_row.ensures,
+)
 
 pub shape_of-grid : goal.shape_of-grid
 shape_of-grid c = storing_long _ _ _ _ _ c.loop-q.invariant.1 ∙ filled_long _ _ _ c.fill_words.ensures

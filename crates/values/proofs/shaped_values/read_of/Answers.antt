@@ -14,11 +14,14 @@ returns-then-d-eq1024 c = read_none _ c.requires.0 _ _ (sym (c.first_of-d.ensure
 
 pub behind_of-to-requires : goal.behind_of-to-requires
 behind_of-to-requires c =
-    record { accepted = (c.requires.0, (c.requires.1.0, c.requires.1.1.0)); narrow = (
+    record {
+      accepted = (c.requires.0, (c.requires.1.0, c.requires.1.1.0));
+      narrow = (
         c.requires.1.1.1,
         (read_some _ c.requires.0 _ _
             (λ z. c.if-d-eq1024.false ((c.first_of-d.ensures c.args.nest (c.requires.0, (c.requires.1.0, c.requires.1.1.0))) ∙ z))).0,
-      ) }
+      );
+    }
 
 pub span-far-requires : goal.span-far-requires
 span-far-requires c = (framed _ c.requires.0, c.behind_of-to.ensures.1)

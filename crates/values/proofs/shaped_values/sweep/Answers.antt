@@ -37,7 +37,8 @@ row_cell-cell-requires c = (c.requires.0.accepted, (refl, row_begins _ c.require
 
 pub row-requires : goal.row-requires
 row-requires c =
-    record { accepted = (
+    record {
+      accepted = (
         c.requires.0.accepted,
         (
           (record { is = refl }, (c.backs_of-back.ensures, refl)),
@@ -47,7 +48,9 @@ row-requires c =
                 ∙ filled_long _ _ _ c.fill_words.ensures ∙ c.requires.1.1,
           ),
         ),
-      ); located = (relocated _ _ _ c.row_cell-cell.ensures.0, omega (arith, c.row_cell-cell.ensures.1)) }
+      );
+      located = (relocated _ _ _ c.row_cell-cell.ensures.0, omega (arith, c.row_cell-cell.ensures.1));
+    }
 
 pub overflow_step-q : goal.overflow_step-q
 overflow_step-q c = omega (arith, rows_few _ c.requires.0.accepted _ _ refl c.row_count-rows.ensures, c.loop-q-test.true)
@@ -56,12 +59,11 @@ pub loop-q-smaller : goal.loop-q-smaller
 loop-q-smaller c = omega (arith, c.loop-q-test.true)
 
 pub loop-q-preserved : goal.loop-q-preserved
-loop-q-preserved c =
-    (
-      omega (arith, c.loop-q-test.true),
-      storing_turn _ _ _ _ c.loop-q.q _ _ _ c.loop-q.invariant.1
-          (λ y h. ap (λ (a : ℕ). a + y) c.row_cell-cell.ensures.0.number) c.row.ensures,
-    )
+loop-q-preserved c = (
+  omega (arith, c.loop-q-test.true),
+  storing_turn _ _ _ _ c.loop-q.q _ _ _ c.loop-q.invariant.1
+      (λ y h. ap (λ (a : ℕ). a + y) c.row_cell-cell.ensures.0.number) c.row.ensures,
+)
 
 pub shape_of-grid : goal.shape_of-grid
 shape_of-grid c = storing_long _ _ _ _ _ c.loop-q.invariant.1 ∙ filled_long _ _ _ c.fill_words.ensures

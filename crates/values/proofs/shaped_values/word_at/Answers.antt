@@ -12,11 +12,10 @@ pub overflow_cast-result : goal.overflow_cast-result
 overflow_cast-result c = omega (arith, c.type_inv.memory (c.args.cell - c.args.back))
 
 pub returns-then-has : goal.returns-then-has
-returns-then-has c =
-    (
-      sym (pick_true _ _ _ (sym c.has.ensures ∙ c.if-has.true)),
-      omega (arith, c.type_inv.memory (c.args.cell - c.args.back)),
-    )
+returns-then-has c = (
+  sym (pick_true _ _ _ (sym c.has.ensures ∙ c.if-has.true)),
+  omega (arith, c.type_inv.memory (c.args.cell - c.args.back)),
+)
 
 pub returns : goal.returns
 returns c = (sym (pick_false _ _ _ (sym c.has.ensures ∙ c.if-has.false)), c.requires.1.0)

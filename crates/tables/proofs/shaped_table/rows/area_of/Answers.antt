@@ -77,11 +77,10 @@ pub loop-j-smaller : goal.loop-j-smaller
 loop-j-smaller c = omega (arith, c.loop-j-test.true)
 
 pub loop-j-preserved : goal.loop-j-preserved
-loop-j-preserved c =
-    (
-      filled_more _ _ _ _ _ c.loop-j.invariant.0 c.loop-j-test.true c.requires.0.dimensions_most refl,
-      filled_more _ _ _ _ _ c.loop-j.invariant.1 c.loop-j-test.true c.requires.0.dimensions_most refl,
-    )
+loop-j-preserved c = (
+  filled_more _ _ _ _ _ c.loop-j.invariant.0 c.loop-j-test.true c.requires.0.dimensions_most refl,
+  filled_more _ _ _ _ _ c.loop-j.invariant.1 c.loop-j-test.true c.requires.0.dimensions_most refl,
+)
 
 pub returns : goal.returns
 returns c =

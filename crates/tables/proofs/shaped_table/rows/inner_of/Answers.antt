@@ -27,11 +27,10 @@ pub loop-k-smaller : goal.loop-k-smaller
 loop-k-smaller c = omega (arith, c.loop-k-test.true)
 
 pub loop-k-preserved : goal.loop-k-preserved
-loop-k-preserved c =
-    (
-      L.inner_more c.args.nest c.args.area _ _ _ c.loop-k.invariant.0 c.cut_by-left.ensures,
-      omega (arith, c.loop-k-test.true),
-    )
+loop-k-preserved c = (
+  L.inner_more c.args.nest c.args.area _ _ _ c.loop-k.invariant.0 c.cut_by-left.ensures,
+  omega (arith, c.loop-k-test.true),
+)
 
 pub returns : goal.returns
 returns c = L.inner_end c.args.nest c.args.area _ _ _ c.loop-k.invariant.0 c.loop-k.invariant.1 c.loop-k-test.false

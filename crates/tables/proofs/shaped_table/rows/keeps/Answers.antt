@@ -24,12 +24,11 @@ pub loop-k-smaller : goal.loop-k-smaller
 loop-k-smaller c = omega (arith, c.loop-k-test.true)
 
 pub loop-k-preserved : goal.loop-k-preserved
-loop-k-preserved c =
-    (
-      omega (arith, c.loop-k-test.true),
-      M.kept_more c.args.nest c.requires.0 c.args.steps _ c.loop-k.invariant.1
-          (c.goes_along.ensures c.if-not-goes_along.false),
-    )
+loop-k-preserved c = (
+  omega (arith, c.loop-k-test.true),
+  M.kept_more c.args.nest c.requires.0 c.args.steps _ c.loop-k.invariant.1
+      (c.goes_along.ensures c.if-not-goes_along.false),
+)
 
 pub returns : goal.returns
 returns c = λ e k h. c.loop-k.invariant.1 k (omega (arith, c.loop-k-test.false))

@@ -9,14 +9,13 @@ pub place_of_tile-at-requires : goal.place_of_tile-at-requires
 place_of_tile-at-requires c = c.requires.0
 
 pub moved_in-places-requires : goal.moved_in-places-requires
-moved_in-places-requires c =
-    (
-      c.requires.0,
-      (
-        c.requires.1.1.1.short,
-        L.place_few c.args.nest c.requires.0.accepted c.args.tile _ c.place_of_tile-at.ensures,
-      ),
-    )
+moved_in-places-requires c = (
+  c.requires.0,
+  (
+    c.requires.1.1.1.short,
+    L.place_few c.args.nest c.requires.0.accepted c.args.tile _ c.place_of_tile-at.ensures,
+  ),
+)
 
 pub line_by-requires : goal.line_by-requires
 line_by-requires c = record { sized = (c.requires.0, (c.requires.1.0, c.place_of_tile-at.ensures)); from_bound = c.moved_in-places.ensures.few }

@@ -54,12 +54,11 @@ pub loop-j-smaller : goal.loop-j-smaller
 loop-j-smaller c = omega (arith, c.loop-j-test.true)
 
 pub loop-j-preserved : goal.loop-j-preserved
-loop-j-preserved c =
-    (
-      omega (arith, c.loop-j-test.true),
-      M.behind_more c.args.at c.args.steps c.args.nest.tiling c.args.nest.lengths _
-          c.loop-j.invariant.1 (c.behind.ensures c.if-not-behind.false),
-    )
+loop-j-preserved c = (
+  omega (arith, c.loop-j-test.true),
+  M.behind_more c.args.at c.args.steps c.args.nest.tiling c.args.nest.lengths _
+      c.loop-j.invariant.1 (c.behind.ensures c.if-not-behind.false),
+)
 
 pub offset_bounds-steps-last : goal.offset_bounds-steps-last
 offset_bounds-steps-last c = omega (arith, c.requires.0.accepted.dimensions_least, c.requires.0.accepted.dimensions_most)
@@ -98,11 +97,10 @@ pub bounds-lengths-last-2 : goal.bounds-lengths-last-2
 bounds-lengths-last-2 c = omega (arith, c.requires.0.accepted.dimensions_least, c.requires.0.accepted.dimensions_most)
 
 pub places_in-requires : goal.places_in-requires
-places_in-requires c =
-    (
-      c.requires.0.accepted.tiled _ (L.inner c.args.nest c.requires.0.accepted),
-      (c.requires.0.accepted.tile_most _, (c.requires.0.accepted.length_most _, (omega arith, omega arith))),
-    )
+places_in-requires c = (
+  c.requires.0.accepted.tiled _ (L.inner c.args.nest c.requires.0.accepted),
+  (c.requires.0.accepted.tile_most _, (c.requires.0.accepted.length_most _, (omega arith, omega arith))),
+)
 
 pub returns : goal.returns
 returns c =

@@ -5,20 +5,18 @@ use Rattle.tables.proofs.shaped_table.Lines as L
 use Rattle.tables.proofs.shaped_table.rows.stretch_of.Goals as goal
 
 pub area_of-area-requires : goal.area_of-area-requires
-area_of-area-requires c =
-    (
+area_of-area-requires c = (
   c.requires.0.accepted,
   (c.requires.1.1.0, L.place_few c.args.nest c.requires.0.accepted c.args.tile _ c.requires.1.1.1),
 )
 
 pub inner_of-inner-requires : goal.inner_of-inner-requires
-inner_of-inner-requires c =
-    (
-      c.requires.0.accepted,
-      L.area_few c.args.nest c.requires.0.accepted _
-          (L.place_few c.args.nest c.requires.0.accepted c.args.tile _ c.requires.1.1.1) _ _ c.requires.1.1.0
-          c.area_of-area.ensures,
-    )
+inner_of-inner-requires c = (
+  c.requires.0.accepted,
+  L.area_few c.args.nest c.requires.0.accepted _
+      (L.place_few c.args.nest c.requires.0.accepted c.args.tile _ c.requires.1.1.1) _ _ c.requires.1.1.0
+      c.area_of-area.ensures,
+)
 
 pub overflow_sub-last : goal.overflow_sub-last
 overflow_sub-last c = omega (arith, c.requires.0.accepted.dimensions_least, c.requires.0.accepted.dimensions_most)
@@ -42,14 +40,13 @@ pub bounds-most-last : goal.bounds-most-last
 bounds-most-last c = omega (arith, c.requires.0.accepted.dimensions_least, c.requires.0.accepted.dimensions_most)
 
 pub places_in-places-requires : goal.places_in-places-requires
-places_in-places-requires c =
-    (
-      c.requires.0.accepted.tiled _ (L.inner c.args.nest c.requires.0.accepted),
-      (
-        c.requires.0.accepted.tile_most _,
-        (c.requires.0.accepted.length_most _, (c.requires.1.1.0.small _, c.inner_of-inner.ensures.few.0)),
-      ),
-    )
+places_in-places-requires c = (
+  c.requires.0.accepted.tiled _ (L.inner c.args.nest c.requires.0.accepted),
+  (
+    c.requires.0.accepted.tile_most _,
+    (c.requires.0.accepted.length_most _, (c.requires.1.1.0.small _, c.inner_of-inner.ensures.few.0)),
+  ),
+)
 
 pub line_by-requires : goal.line_by-requires
 line_by-requires c = record { sized = (c.requires.0, (c.requires.1.0, c.requires.1.1.1)); from_bound = c.places_in-places.ensures.few }
