@@ -20,7 +20,7 @@ use Rattle.machine.specs.Plan.{Plan, Sound, count, taker_of, dues_of}
 use Rattle.machine.specs.Machine.{State, Answered, Action, gather, calculate, send, current_tile, next_action, carry_out, turn, deliver, fresh}
 use Rattle.machine.specs.Runs.{Event, turn_of, delivery_of, act, state_after, answers_to, program, turns_of, times_of, deliveries_of, sends, takes}
 use Rattle.machine.specs.StatusTells.{Among, Standing, Tells, StatusTells}
-use Rattle.machine.proofs.Turns.{Turned, turned, can, next_zero, next_one, next_two, delivered}
+use Rattle.machine.proofs.Turns.{Turned, turned, can, next_zero, next_one, next_two}
 use Rattle.machine.proofs.Invariant.{pending}
 use Rattle.machine.proofs.Kept.{Inv, Kept, status_of, next_send, unsent}
 use Rattle.machine.proofs.Events.{Brought, Refused, turn_keeps, deliver_keeps}

@@ -4,7 +4,7 @@
 use Rattle.std.specs.Prelude.{ℕ, ◌<◌, ◌≡◌, ◌⊎◌, Bool, true, List, [], ◌∷◌, ◌++◌, length, get_or}
 use Rattle.std.proofs.Common.{inl, inr}
 use Rattle.base.specs.Tests.{pick}
-use Rattle.machine.specs.Plan.{Plan, count, taker_of, held_by}
+use Rattle.machine.specs.Plan.{Plan, taker_of, held_by}
 use Rattle.machine.specs.Machine.{State, Answered, Action, gather, send}
 use Rattle.machine.specs.Runs.{Event, turn_of, state_after, answers_to, total, program, turns_of, steps_in, Once, Collects, CarriedOut}
 use Rattle.machine.specs.Words.{word_at, mail_at, cell_of, Does}

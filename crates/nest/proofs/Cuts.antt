@@ -1,7 +1,7 @@
 -- Laws of a row's span: what each bound leaves of it, and the place of a row.
-use Prim.Native.Nat.{ℕ, zero, suc, ◌+◌, ◌*◌, ◌-◌, ◌/◌, ◌%◌, ◌≤◌, ◌<◌}
+use Prim.Native.Nat.{ℕ, suc, ◌+◌, ◌*◌, ◌-◌, ◌≤◌, ◌<◌}
 use mathlib.Core.Path.{◌≡◌, refl, sym, ap, ◌∙◌}
-use mathlib.Core.Logic.{◌⊎◌, inl, inr, ◌≢◌}
+use mathlib.Core.Logic.{◌⊎◌, inl, inr}
 use mathlib.Core.Bool.{Bool, true, false}
 use mathlib.Core.List.{List}
 use native.Mathlib.Nat.{mul-le-mul}
@@ -20,8 +20,8 @@ use Rattle.nest.specs.Nest.{length_of, side, bounded, earlier, slope, bound_offs
 use Rattle.nest.specs.Places.{place, cell_place}
 use Rattle.nest.specs.Shape.{level, raised, meets}
 use Rattle.nest.specs.Spans.{Framed, last, row_place, meets_first, within, spot, Narrow, Cuts, Spans, Row, Marked, HasLengths, PlaceWritten}
-use Rattle.nest.proofs.Rank.{place_last, place_before, place_low}
-use Rattle.nest.proofs.Shapes.{cell_place_row, place_row}
+use Rattle.nest.proofs.Rank.{place_low}
+use Rattle.nest.proofs.Shapes.{place_row}
 
 -- ---- spans of plain numbers
 

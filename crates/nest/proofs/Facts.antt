@@ -9,8 +9,8 @@ use native.Mathlib.Decide.{dec_lt}
 use native.Mathlib.Nat.{mod-lt}
 use lib.ListN.{length, get_or, get_or-eq_default}
 use lib.Dec.{ltb, leb}
-use borrow.Author.Tests.{ltb-true, ltb-false, leb-false, eqb-true, eqb-false, le-leb, lt-ltb}
-use Rattle.base.specs.Tests.{◌and◌, pick, every, some, keep}
+use borrow.Author.Tests.{ltb-true, ltb-false, eqb-true, eqb-false, le-leb, lt-ltb}
+use Rattle.base.specs.Tests.{◌and◌, every, some, keep}
 use Rattle.base.specs.Numbers.{first_of}
 use Rattle.base.proofs.Tests.{both, neither, true_not, not-true, not-false, is_false, and_true, never_both, every_at, none_some, pick_true}
 use Rattle.base.proofs.Select.{keep_same, keep_few}

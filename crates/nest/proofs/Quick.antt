@@ -1,13 +1,12 @@
 -- The reader's lines in a form that computes in few steps: without bounds lines 20 and 8 need no cell looked at.
 -- The computed rows use it; `quick` says that it gives the same numbers.
-use Prim.Native.Nat.{ℕ, ◌≤◌, ◌<◌}
+use Prim.Native.Nat.{ℕ}
 use mathlib.Core.Path.{◌≡◌, refl, sym, ap, ◌∙◌}
 use mathlib.Core.Bool.{Bool, true, false}
 use mathlib.Core.List.{List, [], ◌∷◌, map}
-use native.Mathlib.Omega.{arith}
 use lib.Dec.{eqb, leb}
 use borrow.Author.Tests.{eqb-true, leb-true, leb-false}
-use Rattle.base.specs.Tests.{not, pick, some}
+use Rattle.base.specs.Tests.{pick}
 use Rattle.base.specs.Numbers.{Line, line, first_of}
 use Rattle.base.proofs.Tests.{not-true, pick_true, pick_false}
 use Rattle.base.proofs.Numbers.{first_true, first_false}

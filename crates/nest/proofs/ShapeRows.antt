@@ -10,7 +10,7 @@ use Rattle.nest.specs.Places.{rank, place, cell_place, tile_at, box_tile_of}
 use Rattle.nest.specs.Shape.{level, raised, meets, in_shape, exists, existing, tiles}
 use Rattle.nest.specs.Reader.{of_kind, filled, nest_by, nest_of, ragged, blank, bound_fits, checked, may_stand, fits_at, well_formed, stray_record, no_length}
 use Rattle.nest.specs.Reader.{bad_length, too_large, needlessly_wide, no_cell, same, beyond, faulty, bad_distance, reached, bad_tile, bad_spread}
-use Rattle.nest.specs.Reader.{last_spread, bad_processors, too_many_tiles, read_lines}
+use Rattle.nest.specs.Reader.{last_spread, bad_processors, too_many_tiles}
 use Rattle.nest.specs.Recipes.{dimension, bound, distance, close}
 use Rattle.nest.proofs.RowNumbers.{far}
 use Rattle.nest.proofs.Quick.{told, quick_all}

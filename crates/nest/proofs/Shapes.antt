@@ -1,33 +1,32 @@
 -- Laws of the shape by rows: the cells of a row in it, the tiles that hold one, and how many tiles there are.
-use Prim.Native.Nat.{ℕ, zero, suc, ◌+◌, ◌*◌, ◌-◌, ◌/◌, ◌%◌, ◌≤◌, ◌<◌}
+use Prim.Native.Nat.{ℕ, suc, ◌+◌, ◌*◌, ◌-◌, ◌/◌, ◌≤◌, ◌<◌}
 use mathlib.Core.Path.{◌≡◌, refl, sym, ap, ◌∙◌}
-use mathlib.Core.Logic.{◌⊎◌, inl, inr, ◌≢◌}
+use mathlib.Core.Logic.{◌⊎◌, inl, inr}
 use mathlib.Core.Bool.{Bool, true, false}
-use mathlib.Core.List.{List, [], ◌∷◌, ◌++◌}
-use native.Mathlib.Nat.{mul-le-mul, mul-le-mul_right, suc-mul, zero-mul, one-mul, mul-zero, mod-eq_of_lt, mul-add-div_right, mul-add-mod_self_right}
-use native.Mathlib.Nat.{div-eq_of_lt, div-mul-le_self, mul-div_cancel, zero-div, lt-div-mul-add, div-le_self}
+use mathlib.Core.List.{List}
+use native.Mathlib.Nat.{mul-le-mul_right, suc-mul, zero-mul, mod-eq_of_lt, mul-add-div_right, mul-add-mod_self_right}
+use native.Mathlib.Nat.{div-eq_of_lt, div-mul-le_self, mul-div_cancel, zero-div, lt-div-mul-add}
 use native.Mathlib.Decide.{dec_lt, dec_le, ℕ_discrete}
 use native.Mathlib.Omega.{arith}
-use native.Mathlib.Numerals.{add-one}
 use lib.ListN.{length, get_or, replicate, length-replicate, get_or-replicate, get_or-eq_default}
 use lib.Dec.{eqb, ltb, leb}
 use borrow.Author.Tests.{lt-ltb, le-ltb, le-leb, lt-leb, eq-eqb, ne_eqb, leb-true, ltb-true, eqb-true}
-use Rattle.base.specs.Tests.{◌and◌, ◌or◌, pick, every, some, keep, tabulate, product}
-use Rattle.base.proofs.Tests.{both, and_true, and_false, and_no, either, or_left, or_right, same_test, is_false, never_both, every_at, every_all}
-use Rattle.base.proofs.Tests.{some_at, some_one, some_same, some_none, none_some, pick_true, pick_false, length_tabulate}
-use Rattle.base.proofs.Select.{keep_same, keep_few, keep_hit}
+use Rattle.base.specs.Tests.{◌and◌, ◌or◌, pick, some, keep, tabulate, product}
+use Rattle.base.proofs.Tests.{both, and_true, and_false, and_no, either, or_left, or_right, same_test, is_false}
+use Rattle.base.proofs.Tests.{some_at, some_one, some_same, some_none, pick_true, pick_false}
+use Rattle.base.proofs.Select.{keep_same}
 use Rattle.nest.specs.declared.Nest.{Nest}
 use Rattle.nest.specs.declared.Interval.{Interval}
 use Rattle.nest.specs.Nest.{length_of, tile_length, bounded, earlier, tile_count, cells, box_tiles}
-use Rattle.nest.specs.Places.{rank, place, cell_at, cell_place, tile_at, tile_place, box_tile_of}
+use Rattle.nest.specs.Places.{rank, place, cell_place, tile_at, box_tile_of}
 use Rattle.nest.specs.Shape.{level, raised, meets, in_shape, exists, existing, tiles}
 use Rattle.nest.specs.Reader.{too_many_tiles}
 use Rattle.nest.specs.Accepted.{Accepted}
 use Rattle.nest.specs.Spans.{Framed, Tiled, last, row_place, meets_first, in_row, within, spot, Spans, Row, holds, InBox, Marked, RowMarked}
 use Rattle.nest.proofs.Laws.{product_room, tile_small}
 pub use Rattle.nest.proofs.Boxes.{every_same, product_most}
-use Rattle.nest.proofs.Boxes.{quotients_low, box_tile_of_low, unbounded_existing, unbounded_tiles, box_few, tiles_few}
-use Rattle.nest.proofs.Rank.{Within, Positive, place_last, place_before, place_low, rank_low, rank_same, place_rank, rank_place, div_le}
+use Rattle.nest.proofs.Boxes.{box_tile_of_low, unbounded_existing, unbounded_tiles, box_few, tiles_few}
+use Rattle.nest.proofs.Rank.{Positive, place_last, place_before, place_low, rank_same, div_le}
 
 -- what holds of some number below m + n holds of one below m, or of one of the n from there on
 pub some_split : (f : ℕ → Bool) (m n : ℕ) → some f (m + n) ≡ (some f m or some (λ a. f (m + a)) n)

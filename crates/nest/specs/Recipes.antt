@@ -1,7 +1,7 @@
 -- Read this.
 -- Document 01's recipes A to H as bytes, and one of request W-201's.
 -- Renders document 01, "Recipes to be met": the columns N, k, P and distances; weights 1, shift 0, shore 0.
-use Rattle.std.specs.Prelude.{ℕ, List, [], ◌∷◌, ◌++◌, replicate}
+use Rattle.std.specs.Prelude.{ℕ, List, ◌∷◌, ◌++◌, replicate}
 
 -- a dimension: length, tile length, processor count; a distance of weight 1; the close with shift 0 and boundary 0
 abbrev pub dimension : ℕ → ℕ → ℕ → List ℕ

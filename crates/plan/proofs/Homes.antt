@@ -21,7 +21,7 @@ use Rattle.plan.specs.declared.Route.{Route}
 use Rattle.plan.specs.declared.Route.TheVariants.{Direct, Indirect}
 use Rattle.nest.specs.Places.{place, tile_place}
 use Rattle.plan.specs.Geometry.{processor_of}
-use Rattle.plan.specs.Messages.{directions, ahead, taker, neighbour, slots, slot_direction, slot_dimension, slot_cells, slot_taker, at_home, slot_parcel}
+use Rattle.plan.specs.Messages.{directions, ahead, taker, neighbour, slots, slot_dimension, slot_cells, slot_taker, at_home, slot_parcel}
 use Rattle.plan.specs.Hops.{hops_along, hops, alone}
 use Rattle.nest.proofs.Rank.{rank_same}
 use Rattle.plan.proofs.Loops.{allocated}

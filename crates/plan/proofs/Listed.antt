@@ -14,7 +14,6 @@ use lib.Dec.{ltb}
 use borrow.Author.Tests.{lt-ltb, le-ltb, ltb-true, ltb-false}
 use Rattle.base.specs.Tests.{pick, sum}
 use Rattle.machine.specs.Plan.{Message, no_message, offset}
-use Rattle.nest.specs.Nest.{cells}
 use Rattle.plan.specs.Messages.{messages_of}
 
 -- ---- lists of messages

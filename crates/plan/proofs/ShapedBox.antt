@@ -1,14 +1,14 @@
 -- Of a nest without bounds the plan is the box's, field by field and so as a record: every tile exists and is its own number.
-use Prim.Native.Nat.{ℕ, zero, suc, ◌+◌, ◌*◌, ◌/◌, ◌%◌, ◌^◌, ◌≤◌, ◌<◌}
+use Prim.Native.Nat.{ℕ, ◌+◌, ◌*◌, ◌/◌, ◌%◌, ◌^◌, ◌≤◌, ◌<◌}
 use mathlib.Core.Path.{◌≡◌, refl, sym, ap, ◌∙◌, fun_ext}
 use mathlib.Core.Logic.{◌⊎◌, inl, inr}
 use mathlib.Core.Bool.{Bool, true, false}
-use mathlib.Core.List.{List, [], ◌∷◌, ◌++◌, map}
+use mathlib.Core.List.{List, [], ◌∷◌, map}
 use native.Mathlib.Decide.{dec_lt}
 use native.Mathlib.Omega.{arith}
 use lib.ListN.{length, get_or}
-use lib.Dec.{ltb, eqb}
-use Rattle.base.specs.Tests.{◌and◌, pick, every, some, keep, sum}
+use lib.Dec.{eqb}
+use Rattle.base.specs.Tests.{◌and◌, pick, some, keep}
 use Rattle.base.specs.Lists.{In}
 use Rattle.base.specs.Numbers.{first_of}
 use Rattle.base.proofs.Lists.{small, small_bytes}
@@ -28,13 +28,12 @@ use Rattle.plan.specs.Geometry.{cells_of, processor_of, has_read, read_at, reads
 use Rattle.plan.specs.Messages.{directions, reaches, crosses, parcel, taker, slots, slot_tile, slot_direction, slot_cells, slot_taker, at_home}
 use Rattle.plan.specs.Messages.{slot_parcel, slot_message, messages_of, messages_to, messages, box_plan}
 use Rattle.plan.specs.Shaped.{box_tile, tile_of, shaped_cells, reads_shape, shaped_reads, shaped_value, reaches_shape, shaped_parcel, shaped_taker}
-use Rattle.plan.specs.Shaped.{slot_box, shaped_slot_taker, shaped_home, shaped_slot_parcel, shaped_message, shaped_slots, plan_of}
+use Rattle.plan.specs.Shaped.{shaped_slot_taker, shaped_home, shaped_slot_parcel, shaped_message, shaped_slots, plan_of}
 use Rattle.nest.proofs.Boxes.{all_kept, unbounded_in, unbounded_exists, unbounded_tiles}
 use Rattle.plan.proofs.Tiles.{box_tile_of_low}
-use Rattle.plan.proofs.Slots.{unless_in}
 use Rattle.plan.proofs.Listed.{messages_same}
 use Rattle.plan.proofs.Parcels.{taker_low}
-use Rattle.plan.proofs.ShapedTiles.{number_low, box_tile_number, box_tile_beyond}
+use Rattle.plan.proofs.ShapedTiles.{box_tile_number, box_tile_beyond}
 use Rattle.plan.proofs.ShapedParcels.{parcel_crossed}
 use Rattle.plan.proofs.ShapedTaker.{taker_counts}
 

@@ -14,8 +14,8 @@ use Rattle.nest.specs.Shape.{exists, tiles}
 use Rattle.plan.specs.declared.Route.TheVariants.{Direct}
 use Rattle.plan.specs.Geometry.{processor_of}
 use Rattle.plan.specs.Messages.{taker, slot_tile, slot_direction}
-use Rattle.plan.specs.Hops.{hops, alone}
-use Rattle.plan.specs.Shaped.{box_tile, shaped_parcel, shaped_taker, slot_box, shaped_slot_taker, shaped_home, shaped_slot_parcel, shaped_slots}
+use Rattle.plan.specs.Hops.{alone}
+use Rattle.plan.specs.Shaped.{box_tile, shaped_parcel, slot_box, shaped_slot_taker, shaped_home, shaped_slot_parcel, shaped_slots}
 use Rattle.plan.proofs.Homes.{unless_same, home_direct}
 use Rattle.plan.proofs.ShapedTiles.{box_tile_low}
 use Rattle.plan.proofs.ShapedParcels.{parcel_crossed}

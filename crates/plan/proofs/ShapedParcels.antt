@@ -1,20 +1,19 @@
 -- Laws of a message's cells and of its taker in a shape, where tile u plus v may be empty; u is a number of the box.
 use Prim.Native.Nat.{ℕ, ◌+◌, ◌/◌, ◌≤◌, ◌<◌}
-use mathlib.Core.Path.{◌≡◌, refl, sym, ap, ◌∙◌}
+use mathlib.Core.Path.{◌≡◌, sym, ap, ◌∙◌}
 use mathlib.Core.Bool.{true}
 use native.Mathlib.Decide.{dec_lt}
 use native.Mathlib.Omega.{arith}
-use lib.ListN.{get_or}
 use lib.Dec.{eqb}
 use borrow.Author.Tests.{eqb-true, eq-eqb, ltb-true, lt-ltb, leb-true, le-leb}
-use Rattle.base.specs.Tests.{◌and◌, some, keep}
+use Rattle.base.specs.Tests.{◌and◌, some}
 use Rattle.base.specs.Lists.{In, Rising}
 use Rattle.base.proofs.Tests.{both, and_true, every_at, every_all, some_at, some_one}
 use Rattle.base.proofs.Select.{keep_in, in_keep, keep_rising}
 use Rattle.nest.specs.declared.Nest.{Nest}
 use Rattle.nest.specs.Accepted.{Accepted}
 use Rattle.nest.specs.Nest.{tile_length, component, cells, box_tiles}
-use Rattle.nest.specs.Places.{cell_at, cell_place, tile_at, tile_place, box_tile_of}
+use Rattle.nest.specs.Places.{cell_at, cell_place, tile_place, box_tile_of}
 use Rattle.nest.specs.Shape.{in_shape, tiles}
 use Rattle.plan.specs.Geometry.{inside}
 use Rattle.plan.specs.Messages.{directions, ahead, reaches, taker}

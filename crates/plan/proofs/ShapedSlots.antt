@@ -1,9 +1,8 @@
 -- The slots of a shape and their messages: the slot of a tile and a direction, and for each message the slot that it comes from.
-use Prim.Native.Nat.{ℕ, suc, ◌+◌, ◌*◌, ◌-◌, ◌/◌, ◌%◌, ◌≤◌, ◌<◌}
-use mathlib.Core.Path.{◌≡◌, refl, sym, ap, ◌∙◌}
+use Prim.Native.Nat.{ℕ, ◌+◌, ◌*◌, ◌-◌, ◌≤◌, ◌<◌}
+use mathlib.Core.Path.{◌≡◌, ap, ◌∙◌}
 use mathlib.Core.Logic.{◌≢◌}
-use mathlib.Core.Bool.{Bool, true, false}
-use mathlib.Core.List.{List, []}
+use mathlib.Core.List.{[]}
 use native.Mathlib.Nat.{div-lt_iff_lt-mul, mul-le-mul_right, suc-mul}
 use native.Mathlib.Omega.{arith}
 use lib.ListN.{length}
@@ -12,7 +11,7 @@ use borrow.Author.Tests.{eqb-false, ne_eqb}
 use Rattle.base.specs.Tests.{pick}
 use Rattle.base.specs.Lists.{In}
 use Rattle.base.proofs.Tests.{pick_false}
-use Rattle.machine.specs.Plan.{Message, message, count, sender_of, taker_of, held_by}
+use Rattle.machine.specs.Plan.{Message, count, sender_of, taker_of, held_by}
 use Rattle.nest.specs.declared.Nest.{Nest}
 use Rattle.nest.specs.Shape.{tiles}
 use Rattle.plan.specs.declared.Route.TheVariants.{Direct}
@@ -23,7 +22,7 @@ use Rattle.plan.specs.Shaped.{shaped_slots, plan_of}
 use Rattle.nest.proofs.Boxes.{tiles_few}
 use Rattle.plan.proofs.Listed.{at_number, number_low, message_slot}
 use Rattle.plan.proofs.Slots.{in_full, full_in, unless_in}
-use Rattle.plan.proofs.Parcels.{slot_direction_low, slot_direction_pos, slot_tile_lem, slot_way}
+use Rattle.plan.proofs.Parcels.{slot_direction_low, slot_tile_lem, slot_way}
 
 module _ (x : Nest) where
   -- ---- a slot's tile and direction

@@ -1,27 +1,27 @@
 -- The plan of every accepted nest is sound: on the direct route that of its shape, on the indirect route that of its box.
 use Prim.Native.Nat.{ℕ, ◌+◌, ◌*◌, ◌/◌, ◌%◌, ◌^◌, ◌≤◌, ◌<◌}
 use mathlib.Core.Path.{◌≡◌, refl, sym, ap, ◌∙◌}
-use mathlib.Core.Logic.{◌⊎◌, inl, inr, ◌≢◌}
+use mathlib.Core.Logic.{◌⊎◌, inl, inr}
 use mathlib.Core.Bool.{Bool, true, false}
-use mathlib.Core.List.{List, [], ◌∷◌, map}
+use mathlib.Core.List.{List}
 use native.Mathlib.Nat.{eq-or-lt_of_le}
 use native.Mathlib.Decide.{ℕ_discrete}
 use native.Mathlib.Omega.{arith}
-use lib.ListN.{length, get_or}
-use Rattle.base.specs.Tests.{◌and◌, pick, keep, sum}
+use lib.ListN.{get_or}
+use Rattle.base.specs.Tests.{pick, keep}
 use Rattle.base.specs.Lists.{In}
-use Rattle.base.proofs.Tests.{both, and_true, sum_same}
+use Rattle.base.proofs.Tests.{both, sum_same}
 use Rattle.base.proofs.Select.{in_map, map_in, keep_in, in_keep}
-use Rattle.machine.specs.Plan.{Plan, count, sender_of, taker_of, held_by, Knows, Sound}
+use Rattle.machine.specs.Plan.{count, sender_of, taker_of, held_by, Knows, Sound}
 use Rattle.nest.specs.declared.Nest.{Nest}
 use Rattle.nest.specs.Accepted.{Accepted}
-use Rattle.nest.specs.Nest.{component, weight, cells}
-use Rattle.nest.specs.Places.{cell_at, cell_place, tile_place, box_tile_of}
+use Rattle.nest.specs.Nest.{weight, cells}
+use Rattle.nest.specs.Places.{cell_at, cell_place, box_tile_of}
 use Rattle.nest.specs.Shape.{in_shape, tiles}
 use Rattle.plan.specs.declared.Route.{Route}
 use Rattle.plan.specs.declared.Route.TheVariants.{Direct, Indirect}
 use Rattle.plan.specs.Geometry.{processor_of, has_read, read_at}
-use Rattle.plan.specs.Messages.{directions, ahead, slot_tile, slot_direction}
+use Rattle.plan.specs.Messages.{slot_tile, slot_direction}
 use Rattle.plan.specs.Shaped.{box_tile, tile_of, shaped_cells, reads_shape, shaped_reads, shaped_value, shaped_parcel, shaped_taker, slot_box, plan_of}
 use Rattle.nest.proofs.Rank.{rank_same}
 use Rattle.plan.proofs.Tiles.{cell_at_cell_place, processor_of_low, processor_of_same, read_low, read_back, read_before}

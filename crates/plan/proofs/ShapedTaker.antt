@@ -1,18 +1,13 @@
 -- What code needs of takers and dues in a shape, over plain numbers: the box's number of u plus v is u plus a constant of v, the taker's
 -- number is how many tiles exist before it, and a tile is the taker where that number lies above the tile before it and not above its own.
-use Prim.Native.Nat.{ℕ, zero, suc, ◌+◌, ◌*◌, ◌/◌, ◌≤◌, ◌<◌}
+use Prim.Native.Nat.{ℕ, zero, suc, ◌+◌, ◌/◌, ◌≤◌, ◌<◌}
 use mathlib.Core.Path.{◌≡◌, refl, sym, ap, ◌∙◌}
-use mathlib.Core.Logic.{◌⊎◌, inl, inr, ◌↔◌}
-use mathlib.Core.Bool.{Bool, true}
-use mathlib.Core.List.{List, []}
+use mathlib.Core.Logic.{◌⊎◌, inl, inr}
 use native.Mathlib.Nat.{eq-or-lt_of_le, le_of_suc-le-suc, div-lt_iff_lt-mul, add-mul}
 use native.Mathlib.Decide.{dec_lt}
 use native.Mathlib.Omega.{arith}
-use lib.ListN.{length, get_or}
-use lib.Dec.{eqb, leb}
-use borrow.Author.Tests.{eqb-true, eq-eqb, le-leb}
-use Rattle.base.specs.Tests.{◌and◌, every, keep, product}
-use Rattle.base.proofs.Tests.{and_true, every_all}
+use lib.ListN.{length}
+use Rattle.base.specs.Tests.{keep, product}
 use Rattle.base.proofs.Select.{keep_lt, keep_mono}
 use Rattle.nest.specs.declared.Nest.{Nest}
 use Rattle.nest.specs.Accepted.{Accepted}
@@ -24,9 +19,9 @@ use Rattle.plan.specs.Messages.{ahead, taker}
 use Rattle.plan.specs.Shaped.{box_tile, shaped_taker}
 use Rattle.nest.proofs.Rank.{Positive, rank_same, rank_place, place_before, div_le}
 use Rattle.plan.proofs.Tiles.{tile_count_pos, tile_at_tile_place, box_tile_of_low, processor_of_same}
-use Rattle.plan.proofs.Parcels.{taker_low, taker_place}
-use Rattle.plan.proofs.ShapedTiles.{box_tile_low, box_tile_exists, before_box_tile}
-use Rattle.plan.proofs.ShapedParcels.{Crossed, reader, reader_column, taker_le_reader, reader_tile, reader_tile_low, reader_tile_box}
+use Rattle.plan.proofs.Parcels.{taker_place}
+use Rattle.plan.proofs.ShapedTiles.{box_tile_exists, before_box_tile}
+use Rattle.plan.proofs.ShapedParcels.{Crossed, reader, reader_column, reader_tile, reader_tile_low, reader_tile_box}
 use Rattle.plan.proofs.ShapedParcels.{shaped_taker_low, shaped_taker_le, shaped_taker_from, shaped_taker_first, shaped_taker_column}
 
 -- ---- the box's number of u plus v

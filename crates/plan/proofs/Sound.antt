@@ -29,7 +29,7 @@ use Rattle.plan.proofs.Tiles.{processor_of_same, read_low, read_back, read_befor
 use Rattle.plan.proofs.Slots.{in_full, full_in, parcel_cells, parcel_away, full_away, message_slot, number_low, at_number}
 use Rattle.plan.proofs.Parcels.{cells_of_in, in_cells_of, cells_of_rising, Held, parcel_held, held_parcel, ahead_rank, ahead_beyond, ahead_none}
 use Rattle.plan.proofs.Parcels.{ahead_low, passed_in, in_passed, slot_cells_rising, slot_tile_low, slot_dimension_low, slot_low, slot_tile_lem}
-use Rattle.plan.proofs.Parcels.{slot_parcel_lem, slot_taker_lem, slot_passed, slot_neighbour, taker_low, taker_place, stop_low, stop_first, stop_last}
+use Rattle.plan.proofs.Parcels.{slot_parcel_lem, slot_taker_lem, slot_passed, slot_neighbour, taker_place, stop_low, stop_first, stop_last}
 use Rattle.plan.proofs.Parcels.{stop_skip, stop_hop, stop_passed, passed_stop, slot_taker_low, slot_taker_after}
 
 -- ---- reads

@@ -1,6 +1,5 @@
 -- `copy_part` meets its contract: the first y words are copied.
 use Prim.Native.Nat.{◌-◌}
-use native.Mathlib.Omega.{arith}
 use Rattle.base.proofs.Copies as L
 use Rattle.base.proofs.copy_part.Given as goal
 

@@ -1,10 +1,7 @@
 -- `copy_words` meets its contract: the words passed.
-use native.Mathlib.Omega.{arith}
 use Prim.Native.Nat.{◌-◌}
-use mathlib.Core.Path.{refl}
 use lib.ListN.{length, get_or}
 use Rattle.base.proofs.Stored as stored
-use borrow.Author.Rules.{rules}
 use Rattle.base.proofs.copy_words.Given as goal
 
 abbrev pub invariant-loop-i : goal.invariant-loop-i

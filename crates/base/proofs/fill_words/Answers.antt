@@ -1,8 +1,6 @@
 -- All words passed are the word.
-use Prim.Native.Nat.{◌-◌}
 use mathlib.Core.Path.{refl}
 use native.Mathlib.Omega.{arith}
-use lib.ListN.{length}
 use Rattle.base.proofs.Stored as stored
 use Rattle.base.proofs.fill_words.Goals as goal
 

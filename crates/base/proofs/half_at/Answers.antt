@@ -1,7 +1,6 @@
 -- `half_at` meets its contract: a byte is below 256, so nothing wraps.
 use Prim.Native.Nat.{◌+◌}
 use native.Mathlib.Omega.{arith}
-use borrow.Author.Rules.{rules}
 use Rattle.base.proofs.half_at.Goals as goal
 
 pub overflow_mul-result : goal.overflow_mul-result

@@ -1,9 +1,5 @@
 -- The words so far are the same.
-use borrow.Author.Rules.{rules}
-use mathlib.Core.Path.{◌≡◌}
 use native.Mathlib.Omega.{arith}
-use Prim.Native.Nat.{ℕ, ◌-◌, ◌<◌}
-use lib.ListN.{length, get_or}
 use Rattle.base.proofs.Alike as laws
 use Rattle.base.proofs.same.Goals as goal
 

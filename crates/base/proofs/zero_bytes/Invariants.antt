@@ -1,7 +1,5 @@
 -- All bytes passed are 0.
 use Prim.Native.Nat.{◌-◌}
-use mathlib.Core.Path.{refl}
-use native.Mathlib.Omega.{arith}
 use lib.ListN.{length}
 use Rattle.base.proofs.Stored as stored
 use Rattle.base.proofs.zero_bytes.Given as goal

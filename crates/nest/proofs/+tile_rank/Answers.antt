@@ -1,9 +1,7 @@
 -- `nest::tile_rank` meets its contract: the number over the dimensions left, times the tiles along this one, plus the component's tile. `left` falls.
-use borrow.Author.Rules.{rules}
 use native.Mathlib.Omega.{arith}
 use Rattle.nest.specs.Places.{rank}
-use Rattle.nest.proofs.Dims.{TileTurn, tile_turn, turn_product, turn_sum, turn_is}
-use Prim.Native.Nat.{ℕ, ◌<◌}
+use Rattle.nest.proofs.Dims.{tile_turn, turn_product, turn_sum, turn_is}
 use Rattle.nest.proofs.+tile_rank.Goals as goal
 
 pub tile_rank-r-requires : goal.tile_rank-r-requires

@@ -1,5 +1,4 @@
 -- `nest::above` meets its contract: one law for each return.
-use borrow.Author.Rules.{rules}
 use Rattle.nest.proofs.Cuts as C
 use Rattle.nest.proofs.above.Goals as goal
 

@@ -1,5 +1,4 @@
 -- `nest::below` meets its contract: one law for each return.
-use borrow.Author.Rules.{rules}
 use Rattle.nest.proofs.Cuts as C
 use Rattle.nest.proofs.below.Goals as goal
 

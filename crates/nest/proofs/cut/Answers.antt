@@ -1,7 +1,6 @@
 -- `nest::cut` meets its contract: one law for each way a bound can cut.
-use mathlib.Core.Path.{◌≡◌, refl, sym, ap, ◌∙◌}
+use mathlib.Core.Path.{refl}
 use native.Mathlib.Omega.{arith}
-use borrow.Author.Rules.{rules}
 use Rattle.nest.proofs.Cuts as C
 use borrow.Author.Tests.{eq-eqb, ne_eqb}
 use Rattle.nest.proofs.cut.Goals as goal

@@ -1,8 +1,5 @@
 -- `nest::mark` meets its contract: the places that the loop has passed are marked.
-use Prim.Native.Nat.{◌-◌, ◌≤◌}
-use mathlib.Core.Path.{◌≡◌, refl, sym, ap, ◌∙◌}
 use native.Mathlib.Omega.{arith}
-use borrow.Author.Rules.{rules}
 use Rattle.nest.proofs.Cuts as C
 use Rattle.nest.proofs.mark.Goals as goal
 

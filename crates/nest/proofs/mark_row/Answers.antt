@@ -1,6 +1,5 @@
 -- `nest::mark_row` meets its contract: the tiles of the row lie between those of its span's ends.
 use native.Mathlib.Omega.{arith}
-use borrow.Author.Rules.{rules}
 use Rattle.nest.proofs.Shapes as S
 use Rattle.nest.proofs.mark_row.Goals as goal
 

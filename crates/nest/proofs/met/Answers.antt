@@ -1,5 +1,5 @@
 -- `nest::met` meets its contract: each return by its branch.
-use mathlib.Core.Path.{◌≡◌, refl, sym, ap, ◌∙◌}
+use mathlib.Core.Path.{sym}
 use Rattle.base.proofs.Tests.{pick_true, pick_false}
 use Rattle.nest.proofs.met.Goals as goal
 

@@ -1,10 +1,7 @@
 -- `nest::product_of` meets its contract: the product of at most four numbers below 65,536 fits.
-use Prim.Native.Nat.{◌*◌, ◌-◌, ◌≤◌, ◌<◌}
-use mathlib.Core.Path.{◌≡◌}
+use Prim.Native.Nat.{◌*◌, ◌<◌}
 use native.Mathlib.Omega.{arith}
-use borrow.Author.Rules.{rules}
 use lib.ListN.{get_or}
-use Rattle.base.specs.Tests.{product}
 use Rattle.nest.proofs.Laws as L
 use Rattle.nest.proofs.product_of.Goals as goal
 

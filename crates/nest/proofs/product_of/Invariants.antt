@@ -1,11 +1,8 @@
 -- `nest::product_of` meets its contract: the product of at most four numbers below 65,536 fits.
-use Prim.Native.Nat.{◌*◌, ◌-◌, ◌≤◌, ◌<◌}
+use Prim.Native.Nat.{◌-◌, ◌≤◌}
 use mathlib.Core.Path.{◌≡◌}
-use native.Mathlib.Omega.{arith}
-use borrow.Author.Rules.{rules}
 use lib.ListN.{get_or}
 use Rattle.base.specs.Tests.{product}
-use Rattle.nest.proofs.Laws as L
 use Rattle.nest.proofs.product_of.Given as goal
 
 abbrev pub invariant-loop-j : goal.invariant-loop-j

@@ -1,8 +1,6 @@
 -- `nest::put_row` meets its contract: the place of the row's number in the dimensions before the last.
-use mathlib.Core.Path.{ap, ◌∙◌}
-use mathlib.Core.List.{List}
+use mathlib.Core.Path.{ap}
 use lib.ListN.{length}
-use Prim.Native.Nat.{ℕ}
 use Rattle.nest.proofs.Cuts as C
 use Rattle.nest.proofs.put_row.Goals as goal
 

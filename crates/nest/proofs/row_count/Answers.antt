@@ -1,6 +1,5 @@
 -- `nest::row_count` meets its contract: the cells are the rows times the cells of a row.
 use native.Mathlib.Omega.{arith}
-use borrow.Author.Rules.{rules}
 use Rattle.nest.proofs.Shapes as S
 use Rattle.nest.proofs.row_count.Goals as goal
 

@@ -1,8 +1,5 @@
 -- `nest::span_of` meets its contract: each bound cuts what those before it left.
-use Prim.Native.Nat.{◌-◌}
-use mathlib.Core.Path.{◌≡◌, refl, sym, ap, ◌∙◌}
 use native.Mathlib.Omega.{arith}
-use borrow.Author.Rules.{rules}
 use Rattle.nest.proofs.Cuts as C
 use Rattle.nest.proofs.span_of.Goals as goal
 

@@ -1,5 +1,4 @@
 -- `nest::tile_at` meets its contract: the number over all dimensions.
-use borrow.Author.Rules.{rules}
 use Rattle.nest.specs.Nest.{tile_count}
 use Rattle.nest.specs.Places.{tile_at}
 use Rattle.nest.proofs.tile_at.Goals as goal

@@ -1,9 +1,6 @@
 -- `runs::ahead_of` meets its contract: what lies ahead by the first e runs.
 use Prim.Native.Nat.{◌-◌, ◌≤◌}
-use native.Mathlib.Omega.{arith}
 use Rattle.runs.specs.Runs.{AheadIs}
-use Rattle.runs.proofs.Laws as L
-use borrow.Author.Rules.{rules}
 use Rattle.runs.proofs.ahead_of.Given as goal
 
 abbrev pub invariant-loop-e : goal.invariant-loop-e

@@ -1,5 +1,4 @@
 -- `runs::count_row` meets its contract: the cells before `at` are counted.
-use Prim.Native.Nat.{◌-◌}
 use native.Mathlib.Omega.{arith}
 use Rattle.runs.proofs.Laws as L
 use Rattle.runs.proofs.count_row.Goals as goal

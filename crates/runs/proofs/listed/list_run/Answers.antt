@@ -1,8 +1,6 @@
 -- `list_run` meets its contract: the first y cells are listed.
-use Prim.Native.Nat.{◌-◌}
 use native.Mathlib.Omega.{arith}
-use Rattle.base.proofs.Copies.{Copies, copies_none, copies_long, copies_end}
-use Rattle.runs.specs.listed.Numbers.{numbers}
+use Rattle.base.proofs.Copies.{copies_none, copies_long, copies_end}
 use Rattle.runs.proofs.listed.Numbers as L
 use Rattle.runs.proofs.listed.list_run.Goals as goal
 

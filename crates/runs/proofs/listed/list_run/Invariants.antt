@@ -1,9 +1,7 @@
 -- `list_run` meets its contract: the first y cells are listed.
 use Prim.Native.Nat.{◌-◌}
-use native.Mathlib.Omega.{arith}
-use Rattle.base.proofs.Copies.{Copies, copies_none, copies_long, copies_end}
+use Rattle.base.proofs.Copies.{Copies}
 use Rattle.runs.specs.listed.Numbers.{numbers}
-use Rattle.runs.proofs.listed.Numbers as L
 use Rattle.runs.proofs.listed.list_run.Given as goal
 
 abbrev pub invariant-loop-y : goal.invariant-loop-y

@@ -1,6 +1,5 @@
 -- `runs::row_words::pack_row` meets its contract: the pieces before `at` are packed.
 use Prim.Native.Nat.{◌-◌}
-use native.Mathlib.Omega.{arith}
 use Rattle.runs.proofs.Laws as L
 use Rattle.runs.proofs.row_words.pack_row.Given as goal
 

@@ -1,5 +1,4 @@
 -- `runs::row_words::unpack_row` meets its contract: the words of the pieces before `at` are at their cells.
-use Prim.Native.Nat.{◌-◌}
 use native.Mathlib.Omega.{arith}
 use Rattle.runs.proofs.Laws as L
 use Rattle.runs.proofs.row_words.unpack_row.Goals as goal
