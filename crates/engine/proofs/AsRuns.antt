@@ -1,6 +1,6 @@
 -- From a fresh start that gave 0 the calls answer, event by event, as the machine on the recipe's plan; so what holds of its runs
 -- holds of theirs.
-use Rattle.core.specs.Prelude.{◌≡◌, ℕ, true, List, [], ◌∷◌, ◌++◌, length}
+use Rattle.std.specs.Prelude.{◌≡◌, ℕ, true, List, [], ◌∷◌, ◌++◌, length}
 use mathlib.Core.Path.{refl, sym, ap, ◌∙◌}
 use borrow.Author.Tests.{eq-eqb}
 use Rattle.base.specs.Numbers.{first_of}

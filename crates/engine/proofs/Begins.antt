@@ -1,5 +1,5 @@
 -- A run can begin: areas of their lengths pass line 9, and no line before it is true.
-use Rattle.core.specs.Prelude.{◌≡◌, ℕ, Bool, true, List, [], ◌∷◌, ◌++◌}
+use Rattle.std.specs.Prelude.{◌≡◌, ℕ, Bool, true, List, [], ◌∷◌, ◌++◌}
 use mathlib.Core.Path.{◌∙◌}
 use borrow.Author.Tests.{eq-eqb}
 use Rattle.base.specs.Tests.{not}

@@ -1,5 +1,5 @@
 -- The three demands hold: of the calls' definitions, and of every run of them.
-use Rattle.core.specs.Prelude.{◌≡◌, ℕ, zero, suc, ◌≢◌, List, [], length, replicate}
+use Rattle.std.specs.Prelude.{◌≡◌, ℕ, zero, suc, ◌≢◌, List, [], length, replicate}
 use mathlib.Core.Path.{refl, sym, ap, ◌∙◌}
 use lib.ListN.{length-replicate}
 use borrow.Author.Tests.{eq-eqb, ne_eqb}

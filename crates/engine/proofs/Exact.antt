@@ -1,5 +1,5 @@
 -- A turn that gave 0 did its action's rule, word by word; a gather wrote every word of every message due.
-use Rattle.core.specs.Prelude.{◌≡◌, ℕ, ◌<◌, true, List, ◌++◌, length}
+use Rattle.std.specs.Prelude.{◌≡◌, ℕ, ◌<◌, true, List, ◌++◌, length}
 use native.Mathlib.Omega.{arith}
 use Rattle.base.specs.Tests.{not}
 use Rattle.base.specs.Lists.{In}

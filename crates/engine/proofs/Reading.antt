@@ -1,5 +1,5 @@
 -- Laws of the records' words as a call reads them, and of what a turn and a fresh start make of them.
-use Rattle.core.specs.Prelude.{◌≡◌, ℕ, ◌+◌, ◌-◌, ◌*◌, ◌<◌, ◌≤◌, Bool, true, false, eqb, ltb, ◌≢◌, List, [], ◌∷◌, ◌++◌, length, take, drop, set, replicate}
+use Rattle.std.specs.Prelude.{◌≡◌, ℕ, ◌+◌, ◌-◌, ◌*◌, ◌<◌, ◌≤◌, Bool, true, false, eqb, ltb, ◌≢◌, List, [], ◌∷◌, ◌++◌, length, take, drop, set, replicate}
 use mathlib.Core.Path.{refl, sym, ap, ◌∙◌}
 use native.Mathlib.Omega.{arith}
 use lib.Seq.{length-take-le}
@@ -24,7 +24,7 @@ use Rattle.records.proofs.Words.{length_words, words_put, words_cleared}
 use Rattle.stages.specs.Progress.{progress_only, set_record}
 use Rattle.engine.specs.Given.{records_after, zeros_after}
 use Rattle.engine.specs.Calls.{answer, recipe, areas, area_lines, turn_call}
-use Rattle.engine.specs.declared.core.Turned.{Turned}
+use Rattle.engine.specs.declared.inner.Turned.{Turned}
 use Rattle.engine.proofs.Lines.{areas_are}
 
 -- ---- what is read

@@ -1,7 +1,7 @@
 -- Read this.
 -- The offered calls, each from the recipe's bytes, the word that names its route and the lent areas: its number, and what is written.
 -- Renders document 01, "The machine" and "Numbers a call gives", W-204 and W-209: all lines in table order, the first true one counts.
-use Rattle.core.specs.Prelude.{ℕ, ◌*◌, Bool, List, [], ◌∷◌, ◌++◌, length, ◌==◌, nat_eq, slice_set}
+use Rattle.std.specs.Prelude.{ℕ, ◌*◌, Bool, List, [], ◌∷◌, ◌++◌, length, ◌==◌, nat_eq, slice_set}
 use Rattle.base.specs.Tests.{◌and◌, not}
 use Rattle.base.specs.Numbers.{Line, line, first_of}
 use Rattle.machine.specs.Plan.{Plan, count, words}

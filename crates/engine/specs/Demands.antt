@@ -1,7 +1,7 @@
 -- Read this.
 -- The three demands, for a recipe's bytes and a route, made of the definitions in Calls; each call's contract equates the call with them.
 -- Renders the customer's demands 1, 2 and 3, document 01's "Conditions of acceptance", W-204 and W-209; any word may name the route.
-use Rattle.core.specs.Prelude.{◌≡◌, ℕ, ◌*◌, ◌<◌, true, false, ◌≢◌, ◌⊎◌, List, length, slice_index, slice_set}
+use Rattle.std.specs.Prelude.{◌≡◌, ℕ, ◌*◌, ◌<◌, true, false, ◌≢◌, ◌⊎◌, List, length, slice_index, slice_set}
 use Rattle.base.specs.Lists.{In, Rising, Bytes}
 use Rattle.base.specs.Numbers.{Line, first_of, numbers_of}
 use Rattle.machine.specs.Plan.{Plan, Sound, count, held_by, dues_of, words}

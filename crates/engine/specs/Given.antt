@@ -1,14 +1,14 @@
 -- For contracts below the calls: no reader needs it.
 -- What the code below the calls is given: areas of their lengths, a fit state, a processor.
 -- No sentence of document 01.
-use Rattle.core.specs.Prelude.{◌≡◌, ℕ, ◌*◌, ◌<◌, true, List, [], ◌∷◌, ◌++◌, length, replicate, ◌==◌, nat_lt, slice_index, slice_set}
+use Rattle.std.specs.Prelude.{◌≡◌, ℕ, ◌*◌, ◌<◌, true, List, [], ◌∷◌, ◌++◌, length, replicate, ◌==◌, nat_lt, slice_index, slice_set}
 use Rattle.base.specs.Tests.{not, pick}
 use Rattle.base.specs.Numbers.{Line, line, first_of}
 use Rattle.machine.specs.Plan.{Plan, count, words}
 use Rattle.machine.specs.Machine.{State, fit, Answered, answered}
 use Rattle.stages.specs.Progress.{set_record}
 use Rattle.engine.specs.Calls.{area_lines}
-use Rattle.engine.specs.declared.core.Turned.{Turned}
+use Rattle.engine.specs.declared.inner.Turned.{Turned}
 
 -- each lent area has exactly its length
 pub record AreaLengths (p : Plan) (input : List ℕ) (s : State) : Type 0 where

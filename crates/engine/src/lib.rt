@@ -1,12 +1,12 @@
 // The calls for programs, which keep the records as words, three a processor, each on the route that a word names; and the sweep.
 #![tactic(auto)]
 
-ghost use Rattle.core.specs.Prelude.{◌≡◌, ◌+◌, ◌*◌, ◌<◌, length};
+ghost use Rattle.std.specs.Prelude.{◌≡◌, ◌+◌, ◌*◌, ◌<◌, length};
 ghost use Rattle.machine.specs.Machine.{state_of};
 ghost use Rattle.stages.specs.Progress.{set_record};
 ghost use Rattle.engine.specs.Calls.{answer, fresh_call, turn_call, deliver_call, collect_call, sweep_call};
 
-pub mod core; // core.rt: the calls without the stores into the records
+pub mod inner; // inner.rt: the calls without the stores into the records
 
 use base::{refusals, zero_words};
 use layout::sizes_of;
@@ -28,7 +28,7 @@ pub fn fresh(
         ≡ fresh_call encoded.now route source.now
         (state_of memories.old buffer.old progress.old status.old) }
 {
-    let number = core::fresh(
+    let number = inner::fresh(
         encoded,
         route,
         source,
@@ -70,7 +70,7 @@ pub fn turn(
         ≡ turn_call encoded.now route source.now
         (state_of memories.old buffer.old progress.old status.old) processor }
 {
-    let after = core::turn(
+    let after = inner::turn(
         encoded,
         route,
         source,
@@ -104,7 +104,7 @@ pub fn deliver(
         ≡ deliver_call encoded.now route source.now
         (state_of memories.now buffer.now progress.now status.old) message }
 {
-    core::deliver(
+    inner::deliver(
         encoded,
         route,
         source,
@@ -131,7 +131,7 @@ pub fn collect(
         ≡ collect_call encoded.now route source.now
         (state_of memories.now buffer.now progress.now status.now) grid.old }
 {
-    core::collect(
+    inner::collect(
         encoded,
         route,
         source,

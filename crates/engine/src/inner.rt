@@ -1,7 +1,7 @@
 // The calls, each by the first true line of document 01's table, but for the stores into the records: these are read as words, and a call
 // gives its number and what is to be stored. The contracts hold for every list of words that the `Flat` carries, since code has no other
 // way to name the caller's records. The route is a word, 0 direct, any other indirect, so that nothing is asked of it.
-ghost use Rattle.core.specs.Prelude.{◌≡◌, ℕ, ◌*◌, true, List, length};
+ghost use Rattle.std.specs.Prelude.{◌≡◌, ℕ, ◌*◌, true, List, length};
 ghost use Rattle.base.specs.Numbers.{first_of};
 ghost use Rattle.machine.specs.Machine.{state_of, turn};
 ghost use Rattle.plan.specs.Shaped.{plan_of};
