@@ -23,32 +23,33 @@ ROOT = os.path.join(os.path.dirname(os.path.abspath(__file__)), '..')
 SHIPPED = 'prebuilt/x86_64-linux/'
 MADE = 'target/staticlib/libcalls.a'
 SOURCES = {
-    'crates.txt': '# beside: low\nlow:\n\n  middle :\tlow # and no more\nbeside: low\ncalls: low\tmiddle io\n',
+    'crates.txt': '# beside: low\nlow:\n\n  middle :\tlow # and no more\nbeside: low\n calls_c  staticlib : calls\ncalls: low\tmiddle io\n',
     'crates/low/src/lib.rt': 'low\n', 'crates/low/specs/Low.antt': 'low\n', 'crates/low/must-fail/one.edit': 'edit\n',
     'crates/middle/src/lib.rt': 'middle\n', 'crates/middle/proofs/deep/Middle.antt': 'middle\n',
     'crates/beside/src/lib.rt': 'beside\n',
+    'crates/calls/src/lib.rt': 'calls\n',
     # each call is there, to be linked, and nothing calls it
-    'crates/calls/src/lib.rt': ''.join('int %s(void) { return 1; }\n' % name for name in header.declared(header.text_of(header.HEADER))),
+    'crates/calls_c/src/lib.rt': ''.join('int %s(void) { return 1; }\n' % name for name in header.declared(header.text_of(header.HEADER))),
 }
 # RT_CALLED has a line a call; RT_SECONDS is how long a crate takes; with RT_REFUSES the last crate is not proved
 RT = r'''#!/bin/sh
 echo "$*" >> "$RT_CALLED"
+proved() { printf 'statements core: modules loaded=1 checked=0\ncrate %s: modules loaded=0 checked=1\nlogic=proved functions=1\n' "$1"; }
 case $1 in
   version) echo 'stand-in 1' ;;
-  check)
-    shift
-    mkdir -p target/stamp target/log
-    for name; do
-      said="rt: $name proved (unchanged since it was last proved)"
-      if ! [ -f "target/stamp/$name" ]; then sleep "$RT_SECONDS"; said="rt: $name proved (7 s)"; fi
-      touch "target/stamp/$name"
-      echo "$said" | tee "target/log/$name.out"
-    done ;;
-  staticlib)
+  lib)
+    for name in low middle calls; do
+      stamp=../$name/out/rlib/stamp
+      [ -z "$(find "../$name" -name out -prune -o -type f -newer "$stamp" -print 2>&1)" ] && continue
+      sleep "$RT_SECONDS"
+      mkdir -p "../$name/out/rlib"
+      touch "$stamp"
+      proved "$name"
+    done
     sleep "$RT_SECONDS"
     [ -z "${RT_REFUSES:-}" ] || { echo 'lib.rt:1:1: error: a fact does not hold'; exit 1; }
-    mkdir -p target/staticlib
-    cc -x c -c "crates/$2/src/lib.rt" -o target/calls.o && ar rcD "target/staticlib/lib$2.a" target/calls.o ;;
+    mkdir -p out
+    cc -x c -c src/lib.rt -o out/calls_c.o && ar rcD out/libcalls_c.a out/calls_c.o && proved calls_c ;;
 esac
 '''
 
@@ -106,7 +107,7 @@ class Repository:
         """How often rt wrote an archive."""
         path = os.path.join(self.folder, 'called')
         with open(path) as file:
-            return file.read().splitlines().count('staticlib calls')
+            return file.read().splitlines().count('lib')
 
     def change(self, name='crates/middle/src/lib.rt'):
         self.write(name, self.read(name) + b'/* more */\n')
@@ -114,13 +115,18 @@ class Repository:
     def remove(self, name):
         shutil.rmtree(self.path(name), ignore_errors=True)
 
+    def as_cloned(self):
+        """Nothing was proved here."""
+        for name in ('target', *('crates/%s/out' % crate for crate in ('low', 'middle', 'calls', 'calls_c'))):
+            self.remove(name)
+
 
 class Shipped(unittest.TestCase):
     def setUp(self):
         self.repository = Repository()
         self.addCleanup(shutil.rmtree, self.repository.folder)
         self.assertEqual(self.repository.run('archive', '--refresh')[0], 0)
-        self.repository.remove('target')
+        self.repository.as_cloned()
 
     def taken(self, status_and_said):
         """The shipped archive was taken, which is told once."""
@@ -152,8 +158,8 @@ class Shipped(unittest.TestCase):
         self.assertIn('rt is not in PATH', said[0])
         status, said = self.repository.run('archive')
         self.assertEqual((status, len(said)), (0, 1), said)
-        self.assertRegex(said[0], r'^bindings/archive: proves 3 crates \(.*crates.txt and 2 more differ\): about \d+ seconds; .*target/archive.log$')
-        self.assertIn(b'rt: middle proved (7 s)', self.repository.read('target/archive.log'))
+        self.assertRegex(said[0], r'^bindings/archive: proves 4 crates \(.*crates.txt and 2 more differ\): about (a second|\d+ seconds); .*target/archive.log$')
+        self.assertIn(b'bindings/archive: middle proved (0 s)', self.repository.read('target/archive.log'))
         self.assertEqual(self.repository.run('archive', rt=False), (0, []))
 
     def test_a_new_source_and_one_less(self):
@@ -238,10 +244,10 @@ class Verified(unittest.TestCase):
         self.assertIn('the same byte for byte', said[-1])
 
     def test_another_archive_under_its_own_sum(self):
-        sources = self.repository.read('crates/calls/src/lib.rt')
-        self.repository.write('crates/calls/src/lib.rt', sources.replace(b'return 1', b'return 2'))
+        sources = self.repository.read('crates/calls_c/src/lib.rt')
+        self.repository.write('crates/calls_c/src/lib.rt', sources.replace(b'return 1', b'return 2'))
         self.assertEqual(self.repository.run('archive', '--refresh')[0], 0)
-        self.repository.write('crates/calls/src/lib.rt', sources)
+        self.repository.write('crates/calls_c/src/lib.rt', sources)
         made_from = self.repository.read(SHIPPED + 'made-from').splitlines()
         self.assertEqual(self.repository.run('archive', '--verify')[0], 1)
         honest = Repository()
@@ -270,16 +276,16 @@ class Verified(unittest.TestCase):
     def test_what_is_told_of_it(self):
         lines = self.repository.read(SHIPPED + 'made-from').decode().splitlines()
         self.assertIn('toolchain stand-in 1', lines)
-        self.assertEqual([line.split()[1] for line in lines if line.startswith('seconds ')], ['low', 'middle', 'calls'])
-        self.assertIn('seconds low 7', lines)
+        self.assertEqual([line.split()[1] for line in lines if line.startswith('seconds ')], ['low', 'middle', 'calls_c', 'calls'])
+        self.assertRegex('\n'.join(lines), r'(?m)^seconds low \d+$')
         named = {line.split()[2] for line in lines if line.startswith('source ')}
         self.assertEqual(named, {name for name in SOURCES if 'beside' not in name and 'must-fail' not in name})
 
-    def test_the_gates_times_are_kept(self):
-        self.repository.write('target/log/low.out', 'logic=proved\nrt: low proved (31 s)\n')
-        self.repository.write('target/stamp/low', '')
+    def test_earlier_times_are_kept(self):
+        self.repository.write('target/archive.log', 'logic=proved functions=1\nbindings/archive: low proved (31 s)\n')
+        self.repository.write('crates/low/out/rlib/stamp', '')
         self.assertEqual(self.repository.run('archive', '--refresh')[0], 0)
-        self.assertIn(b'\nseconds low 31\nseconds middle 7\n', self.repository.read(SHIPPED + 'made-from'))
+        self.assertRegex(self.repository.read(SHIPPED + 'made-from').decode(), r'\nseconds low 31\nseconds middle \d\n')
 
     def test_whether_it_is_proved(self):
         self.assertEqual(self.repository.run('archive', '--proved')[0], 1)
@@ -329,7 +335,7 @@ class Proved(unittest.TestCase):
             pass  # the terminal's other end is closed
         os.close(ours)
         self.assertEqual(process.wait(timeout=60), 0)
-        for line in (b'0 of 3 crates proved, about ', b'1 of 3 crates proved, about ', b'2 of 3 crates proved, about '):
+        for line in (b'0 of 4 crates proved, about ', b'1 of 4 crates proved, about ', b'3 of 4 crates proved, about '):
             self.assertIn(line, shown)
         self.assertEqual(shown.count(b'\n'), 1, shown)
 
@@ -348,10 +354,12 @@ class Proved(unittest.TestCase):
         left = sorted(os.listdir(self.repository.path('target/library/lib')))
         self.assertEqual(left, ['librolwyddac.a', 'librolwyddac.so', 'librolwyddac.so.1', 'librolwyddac.so.1.0.0', 'pkgconfig'])
         self.assertEqual([name for name in os.listdir(self.repository.path('target')) if name.startswith('library')], ['library'])
+        # rt ci refuses a repository with a link in it
+        self.assertEqual([at for at, _, files in os.walk(self.repository.path('target')) if any(os.path.islink(os.path.join(at, name)) for name in files)], [])
 
     def test_who_links_meanwhile_finds_a_whole_library(self):
         self.assertEqual(self.repository.run('library')[0], 0)
-        self.repository.write('crates/calls/src/lib.rt', SOURCES['crates/calls/src/lib.rt'].replace('return 1', 'return 2'))
+        self.repository.write('crates/calls_c/src/lib.rt', SOURCES['crates/calls_c/src/lib.rt'].replace('return 1', 'return 2'))
         before = self.repository.read('target/library/lib/librolwyddac.a')
         process = self.repository.start(['library'])
         while process.poll() is None:
