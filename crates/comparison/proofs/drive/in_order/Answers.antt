@@ -1,0 +1,20 @@
+-- The place in the order, by which the processors take turns.
+use borrow.Author.Rules.{rules}
+use mathlib.Core.Path.{sym, ◌∙◌, ap}
+use mathlib.Core.Bool.{Bool}
+use Rattle.comparison.specs.drive.Drive.{in_order}
+use Rattle.comparison.proofs.drive.Steps as steps
+use Rattle.comparison.proofs.drive.in_order.Goals as goal
+
+pub returns-then-place-processors : goal.returns-then-place-processors
+returns-then-place-processors c =
+    let A = c.args in steps.order_falling A.processors A.place c.if-place-processors.true ∙ ap (λ (f : Bool). in_order A.processors f
+    A.place) (sym c.if-falling.true)
+
+pub returns-else-place-processors : goal.returns-else-place-processors
+returns-else-place-processors c =
+    let A = c.args in steps.order_past A.processors A.place c.if-place-processors.false ∙ ap (λ (f : Bool). in_order A.processors f A.place)
+    (sym c.if-falling.true)
+
+pub returns-else-falling : goal.returns-else-falling
+returns-else-falling c = let A = c.args in steps.order_rising A.processors A.place ∙ ap (λ (f : Bool). in_order A.processors f A.place) (sym c.if-falling.false)

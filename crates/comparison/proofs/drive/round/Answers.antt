@@ -1,0 +1,21 @@
+-- The turns; where none was taken, the deliveries behind them.
+use borrow.Author.Rules.{rules}
+use Rattle.machine.specs.Machine.{state_of}
+use Rattle.comparison.proofs.drive.Steps as steps
+use Rattle.comparison.proofs.drive.round.Goals as goal
+
+pub returns-then-turn_each : goal.returns-then-turn_each
+returns-then-turn_each c =
+    let A = c.args in
+    let G = c.turn_each in
+    steps.round_turns A.encoded.now A.source.now (state_of A.memories.now A.buffer.now A.progress.now A.status.now) A.order
+    G.result (state_of G.new.memories G.new.buffer G.new.progress G.new.status) G.ensures c.if-turn_each.true
+
+pub returns : goal.returns
+returns c =
+    let A = c.args in
+    let G = c.turn_each in
+    let D = c.deliver_each in
+    steps.round_both A.encoded.now A.source.now (state_of A.memories.now A.buffer.now A.progress.now A.status.now) A.order
+    G.result D.result (state_of G.new.memories G.new.buffer G.new.progress G.new.status) _ G.ensures
+    c.if-turn_each.false D.ensures
