@@ -35,7 +35,7 @@ pub extern "C" fn rolwyddac_awaited(
         marks.old result marks.new }
 {
     let flat = records::flatten(progress);
-    transport::core::awaited(encoded, route, flat, status, processor, marks)
+    transport::inner::awaited(encoded, route, flat, status, processor, marks)
 }
 
 // A message taken in at its taker's: its words into their place, and its status from 0 to 2.
@@ -57,7 +57,7 @@ pub extern "C" fn rolwyddac_take_in(
         result (areas_of memories.now buffer.new progress.now status.new) }
 {
     let flat = records::flatten(progress);
-    transport::core::take_in(
+    transport::inner::take_in(
         encoded, route, source, memories, buffer, flat, status, processor, message, words,
     )
 }

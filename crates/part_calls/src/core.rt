@@ -26,7 +26,7 @@ use part::MESSAGE_ENDS;
 use part::sides::arrived;
 use records::Flat;
 use tables::{TABLE_WORDS, nth};
-use transport::core::as_long;
+use transport::inner::as_long;
 
 // ---- how long the areas are
 

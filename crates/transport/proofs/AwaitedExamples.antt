@@ -1,5 +1,5 @@
 -- The rows of what is awaited, computed on the nest of row D.
-use Rattle.core.specs.Prelude.{◌≡◌, ℕ, ltb, List, [], ◌∷◌, ◌++◌}
+use Rattle.std.specs.Prelude.{◌≡◌, ℕ, ltb, List, [], ◌∷◌}
 use mathlib.Core.Path.{refl, ap, ◌∙◌}
 use Rattle.base.specs.Tests.{◌and◌, ◌or◌, not, pick, one, every, some, keep, those, tabulate, product}
 use Rattle.base.specs.Numbers.{Line, line, first_of}

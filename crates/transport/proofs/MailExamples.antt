@@ -1,5 +1,5 @@
 -- The rows, computed on the nests of their recipes.
-use Rattle.core.specs.Prelude.{◌≡◌, ℕ, List, [], ◌∷◌, replicate}
+use Rattle.std.specs.Prelude.{◌≡◌, [], ◌∷◌, replicate}
 use mathlib.Core.Path.{refl, ap, ◌∙◌}
 use Rattle.base.specs.Tests.{◌and◌, ◌or◌, not, pick, one, every, some, keep, those, tabulate, product}
 use Rattle.machine.specs.Plan.{Plan, offset}

@@ -1,27 +1,27 @@
 -- Laws of the cells' processors: a row has one, and the words of the rows passed.
-use Rattle.core.specs.Prelude.{◌≡◌, ℕ, ◌+◌, ◌-◌, ◌*◌, ◌<◌, ◌≤◌, Bool, true, false, eqb, ltb, leb, List, length, get_or, take, drop}
+use Rattle.std.specs.Prelude.{◌≡◌, ℕ, ◌+◌, ◌-◌, ◌*◌, ◌<◌, ◌≤◌, Bool, true, false, List, length, get_or, take, drop}
 use mathlib.Core.Path.{refl, sym, ap, ◌∙◌}
 use native.Mathlib.Nat.{zero-mul, mul-le-mul_left}
 use native.Mathlib.Decide.{dec_lt}
 use native.Mathlib.Omega.{arith}
 use borrow.Author.Tests.{ne_eqb, le-leb, lt-leb, lt-ltb, le-ltb}
 use borrow.Rule.Slice.PartMut.{put_mid}
-use Rattle.base.specs.Tests.{◌and◌, pick, tabulate}
+use Rattle.base.specs.Tests.{pick, tabulate}
 use Rattle.base.specs.Lists.{put}
-use Rattle.base.proofs.Tests.{pick_true, pick_false, and_false, and_no, and_true, length_tabulate, tabulate_at}
+use Rattle.base.proofs.Tests.{pick_true, pick_false, and_false, and_no, and_true, tabulate_at}
 use Rattle.base.proofs.Lists.{length_put}
 use Rattle.base.proofs.Entries.{put_same, put_before}
 use Rattle.nest.specs.declared.Nest.{Nest}
 use Rattle.nest.specs.declared.Interval.{Interval}
 use Rattle.nest.specs.Accepted.{Accepted}
 use Rattle.nest.specs.Nest.{length_of, cells, processors}
-use Rattle.nest.specs.Places.{cell_place, box_tile_of}
+use Rattle.nest.specs.Places.{box_tile_of}
 use Rattle.nest.specs.Shape.{in_shape}
 use Rattle.nest.specs.Spans.{last, within, Spans, Row}
 use Rattle.nest.proofs.Shapes.{framed, cell_place_row, span_row}
 use Rattle.plan.specs.declared.Route.TheVariants.{Direct}
 use Rattle.plan.specs.Geometry.{processor_of}
-use Rattle.plan.specs.Shaped.{box_tile, tile_of, plan_of}
+use Rattle.plan.specs.Shaped.{plan_of}
 use Rattle.plan.proofs.ShapedTiles.{box_tile_tile_of}
 use Rattle.layout.proofs.CellRows.{row_in, row_next}
 use Rattle.layout.proofs.Processors.{one_processor}

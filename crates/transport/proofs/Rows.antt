@@ -1,6 +1,6 @@
 -- Laws of the messages' rows: six words stored, rows one after the other, and the pass over the slots of the table.
-use Rattle.core.specs.Prelude.{◌≡◌, ℕ, zero, suc, ◌+◌, ◌-◌, ◌*◌, ◌<◌, ◌≤◌, ◌≢◌, ◌⊎◌, List, [], ◌∷◌, ◌++◌, length, get_or, take, drop, set}
-use mathlib.Core.Path.{refl, sym, ap, ◌∙◌, subst}
+use Rattle.std.specs.Prelude.{◌≡◌, ℕ, zero, suc, ◌+◌, ◌-◌, ◌*◌, ◌<◌, ◌≤◌, ◌≢◌, ◌⊎◌, List, [], ◌∷◌, ◌++◌, length, get_or, take, drop, set}
+use mathlib.Core.Path.{refl, sym, ap, ◌∙◌}
 use mathlib.Core.Logic.{inl, inr}
 use mathlib.Core.List.{append_assoc, append-nil}
 use native.Mathlib.Nat.{eq-or-lt_of_le, le_of_suc-le-suc}
@@ -14,12 +14,11 @@ use Rattle.base.specs.Lists.{sublist, put}
 use Rattle.base.proofs.Lists.{part_left, part_right, length_put}
 use Rattle.machine.specs.Plan.{Plan, Message, count, offset}
 use Rattle.nest.specs.declared.Nest.{Nest}
-use Rattle.nest.specs.Nest.{box_tiles}
 use Rattle.nest.specs.Shape.{tiles}
 use Rattle.plan.specs.declared.Route.{Route}
 use Rattle.plan.specs.declared.Route.TheVariants.{Direct}
-use Rattle.plan.specs.Messages.{ways, slots, slot_parcel, slot_message, messages_of, messages_to, box_plan}
-use Rattle.plan.specs.Shaped.{shaped_slot_parcel, shaped_message, shaped_slots, plan_of}
+use Rattle.plan.specs.Messages.{slots, slot_message, messages_of, messages_to, box_plan}
+use Rattle.plan.specs.Shaped.{shaped_message, shaped_slots, plan_of}
 use Rattle.plan.proofs.ShapedBox.{plan_of_box}
 use Rattle.layout.specs.declared.Sizes.{Sizes}
 use Rattle.layout.specs.Sizes.{Sized}

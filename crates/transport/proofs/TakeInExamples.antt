@@ -1,5 +1,5 @@
 -- The rows of taking in, computed on the nest of row D.
-use Rattle.core.specs.Prelude.{◌≡◌, ℕ, eqb, ltb, List, [], ◌∷◌, ◌++◌, get_or}
+use Rattle.std.specs.Prelude.{◌≡◌, ℕ, eqb, List, [], ◌∷◌, get_or}
 use mathlib.Core.Path.{refl, ap, ◌∙◌}
 use Rattle.base.specs.Tests.{◌and◌, ◌or◌, not, pick, every, some, keep, those, tabulate, product}
 use Rattle.base.specs.Lists.{sublist, put}

@@ -1,5 +1,5 @@
 -- The premise of the claim about arrivals is met, so it is about something: row D's message comes to processor 1, whose areas are as at a fresh start.
-use Rattle.core.specs.Prelude.{◌≡◌, ℕ, ◌<◌, true, [], ◌∷◌}
+use Rattle.std.specs.Prelude.{◌≡◌, ◌<◌, [], ◌∷◌}
 use mathlib.Core.Path.{refl, sym, subst}
 use native.Mathlib.Omega.{arith}
 use Rattle.base.specs.Tests.{◌and◌, ◌or◌, not, pick, every, some, keep, those, product}

@@ -1,6 +1,6 @@
 -- Read this. What the call for the messages awaited gives for row D, computed: what is told, and of each two neighbouring lines the number that wins.
 -- Renders document 01, "Numbers a call gives", lines 9, 10, 11 and 13. Ruled out: any two of these lines swapped.
-use Rattle.core.specs.Prelude.{◌≡◌, ℕ, List, [], ◌∷◌}
+use Rattle.std.specs.Prelude.{◌≡◌, ℕ, List, [], ◌∷◌}
 use Rattle.machine.specs.Machine.{State, state_of, Answered}
 use Rattle.nest.specs.Recipes.{row_d}
 use Rattle.conformance.specs.ShapedExamples.{row_triangle}

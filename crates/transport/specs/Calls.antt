@@ -1,8 +1,8 @@
 -- Read this.
 -- What a transport asks of the engine where boards share no memory: all messages, the processor of each cell, what a processor waits for, and
 -- taking a message in. Renders document 01, "Messages", "Cells, tiles and boards", "The machine" and "Numbers a call gives", W-204 and W-209.
-use Rattle.core.specs.Prelude.{ℕ, zero, suc, ◌*◌, Bool, List, [], ◌∷◌, ◌++◌, length, ◌==◌, nat_eq, nat_lt, slice_index}
-use Rattle.base.specs.Tests.{◌and◌, ◌or◌, not, pick, one, tabulate}
+use Rattle.std.specs.Prelude.{ℕ, zero, suc, ◌*◌, Bool, List, [], ◌∷◌, ◌++◌, length, ◌==◌, nat_eq, nat_lt, slice_index}
+use Rattle.base.specs.Tests.{◌and◌, not, pick, one, tabulate}
 use Rattle.base.specs.Numbers.{Line, line, first_of}
 use Rattle.machine.specs.Plan.{Plan, count, sender_of, taker_of, held_by, offset}
 use Rattle.machine.specs.Machine.{State, stage_of, tiles_left, current_tile, fit, Answered, answered}

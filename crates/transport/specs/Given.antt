@@ -1,7 +1,7 @@
 -- For contracts below the calls: no reader needs it.
 -- What the code below the calls is given and gives: the nest's table, areas of their lengths, answers past the first lines.
 -- No sentence of document 01.
-use Rattle.core.specs.Prelude.{◌≡◌, ℕ, ◌*◌, ◌<◌, List, [], ◌∷◌, length, ◌==◌, nat_eq, slice_index}
+use Rattle.std.specs.Prelude.{◌≡◌, ℕ, ◌*◌, ◌<◌, List, [], ◌∷◌, length, ◌==◌, nat_eq, slice_index}
 use Rattle.base.specs.Tests.{◌and◌, not, one, tabulate}
 use Rattle.base.specs.Numbers.{Line, line, first_of}
 use Rattle.machine.specs.Plan.{Plan, count, taker_of}

@@ -1,7 +1,7 @@
 -- Read this.
 -- What the definitions of the calls say together: a message has its row, it is waited for exactly where a turn waits, and taking it in is the
 -- arrival of a packet in the theorem about processors that share no memory. Renders document 01, "The machine", lines 11, 12 and 14.
-use Rattle.core.specs.Prelude.{◌≡◌, ℕ, ◌*◌, ◌<◌, true, ◌≢◌, List, length, slice_index}
+use Rattle.std.specs.Prelude.{◌≡◌, ℕ, ◌*◌, ◌<◌, true, ◌≢◌, List, length, slice_index}
 use Rattle.base.specs.Tests.{some}
 use Rattle.base.specs.Lists.{In, sublist}
 use Rattle.base.specs.Numbers.{first_of}

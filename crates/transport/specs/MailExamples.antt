@@ -1,7 +1,7 @@
 -- Read this.
 -- Rows of document 01's table, and a small recipe with a bound, by the calls for a transport, computed: messages' rows, cells' processors, and
 -- what is waited for at the start. Renders "Recipes to be met": row B's messages are those of the plan printer, with their places.
-use Rattle.core.specs.Prelude.{◌≡◌, [], ◌∷◌}
+use Rattle.std.specs.Prelude.{◌≡◌, [], ◌∷◌}
 use Rattle.base.specs.Tests.{tabulate}
 use Rattle.machine.specs.Machine.{fresh}
 use Rattle.nest.specs.Recipes.{row_b, row_d}

@@ -1,6 +1,6 @@
 -- Read this. What taking a message in gives for row D, computed: the message taken in, and of each two neighbouring lines the number that wins.
 -- Renders document 01, "Numbers a call gives", lines 9, 10, 11 and 14, for boards that share no memory. Ruled out: any two of these lines swapped.
-use Rattle.core.specs.Prelude.{◌≡◌, ℕ, List, [], ◌∷◌, replicate}
+use Rattle.std.specs.Prelude.{◌≡◌, ℕ, List, [], ◌∷◌, replicate}
 use Rattle.machine.specs.Machine.{State, state_of, Answered}
 use Rattle.nest.specs.Recipes.{row_d}
 use Rattle.conformance.specs.ShapedExamples.{row_triangle}

@@ -1,5 +1,5 @@
 // A message that arrives at its taker's: past the lines before it, its words go into their place, and its mark says so.
-ghost use Rattle.core.specs.Prelude.{◌≡◌, ℕ, List};
+ghost use Rattle.std.specs.Prelude.{◌≡◌, ℕ, List};
 ghost use Rattle.machine.specs.Machine.{state_of};
 ghost use Rattle.plan.specs.Shaped.{plan_of};
 ghost use Rattle.layout.specs.Sizes.{Sized};

@@ -2,12 +2,12 @@
 // processor of each cell, what a processor waits for, and taking a message in. The route is a word, 0 direct, any other indirect.
 #![tactic(auto)]
 
-ghost use Rattle.core.specs.Prelude.{◌≡◌, []};
+ghost use Rattle.std.specs.Prelude.{◌≡◌, []};
 ghost use Rattle.machine.specs.Machine.{state_of};
 ghost use Rattle.engine.specs.Calls.{answer};
 ghost use Rattle.transport.specs.Calls.{messages_call, owners_call, waits_of, awaited_call, take_in_call};
 
-pub mod core; // core.rt: the work of the calls, and those that are lent records without their form
+pub mod inner; // inner.rt: the work of the calls, and those that are lent records without their form
 pub mod arrivals; // arrivals.rt: a message at its taker's: its words into their place, and its mark
 
 use base::refusals;
@@ -34,7 +34,7 @@ pub fn messages(encoded: &[u8], route: u32, out: &mut [u32]) -> u32
     if out.len() != 6 * total.messages {
         return refusals::AREA;
     }
-    core::put_rows(nest, sizes, &lens, out);
+    inner::put_rows(nest, sizes, &lens, out);
     0
 }
 
@@ -52,7 +52,7 @@ pub fn owners(encoded: &[u8], out: &mut [u32]) -> u32
     if out.len() != sizes.cells {
         return refusals::AREA;
     }
-    core::put_owners(nest, sizes, out);
+    inner::put_owners(nest, sizes, out);
     0
 }
 
@@ -77,7 +77,7 @@ pub fn awaited(
         ≡ awaited_call encoded.now route (state_of [] [] progress.now status.now) processor
         marks.old }
 {
-    core::awaited(encoded, route, flat_of(progress), status, processor, marks)
+    inner::awaited(encoded, route, flat_of(progress), status, processor, marks)
 }
 
 // A message taken in at its taker's: its words into their place, and its status from 0 to 2.
@@ -97,7 +97,7 @@ pub fn take_in(
         ≡ take_in_call encoded.now route source.now
         (state_of memories.now buffer.old progress.now status.old) processor message words.now }
 {
-    core::take_in(
+    inner::take_in(
         encoded,
         route,
         source,

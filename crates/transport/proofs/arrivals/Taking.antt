@@ -1,10 +1,10 @@
 -- Laws of taking a message in: its length, its taker, its words into their place.
-use Rattle.core.specs.Prelude.{◌≡◌, ℕ, ◌+◌, ◌-◌, ◌<◌, ◌≤◌, Bool, true, false, eqb, ◌≢◌, List, [], ◌∷◌, length, get_or, take, drop, set}
+use Rattle.std.specs.Prelude.{◌≡◌, ℕ, ◌+◌, ◌-◌, ◌<◌, ◌≤◌, Bool, true, false, eqb, ◌≢◌, List, [], ◌∷◌, length, get_or, take, drop, set}
 use mathlib.Core.Path.{refl, sym, ap, ◌∙◌}
 use native.Mathlib.Omega.{arith}
 use borrow.Author.Tests.{eqb-true, eq-eqb, ne_eqb, lt-ltb, le-ltb}
 use borrow.Rule.Slice.PartMut.{put_mid}
-use Rattle.base.specs.Tests.{◌and◌, ◌or◌, not}
+use Rattle.base.specs.Tests.{◌or◌, not}
 use Rattle.base.specs.Lists.{put}
 use Rattle.base.specs.Numbers.{line, first_of}
 use Rattle.base.proofs.Tests.{and_true, and_false, and_no, or_left, not-true, not-false}

@@ -1,7 +1,7 @@
 -- Read this.
 -- A message at its taker's: what is left of the call's lines once its areas are known to be fit; whose it is and how many words it has, network says.
 -- Renders document 01, "The machine" and "Numbers a call gives", lines 9, 11 and 14.
-use Rattle.core.specs.Prelude.{◌≡◌, ℕ, true, List, [], ◌∷◌, length, ◌==◌, slice_index}
+use Rattle.std.specs.Prelude.{◌≡◌, ℕ, true, List, [], ◌∷◌, length, ◌==◌, slice_index}
 use Rattle.base.specs.Tests.{not}
 use Rattle.base.specs.Numbers.{line, first_of}
 use Rattle.machine.specs.Plan.{Plan, count, words}
