@@ -23,7 +23,7 @@ ALL = (PAGE, HEADER, CRATE, PROGRAMS)
 # the header's line of a number, a refusal of the crate, a line of the programs
 IN_HEADER = re.compile(r'^ \* +(\d+) (\S.*?)  +(\S.*)$', flags=re.M)
 IN_CRATE = re.compile(r'^    (\d+) \w+ "([^"]*)":\s+"([^"]*)";$', flags=re.M)
-IN_PROGRAMS = re.compile(r'b"(\d+), ([^:"]+): ([^"]*)\\n"')
+IN_PROGRAMS = re.compile(r'"(\d+), ([^:"]+): ([^"]*)\\n"')
 
 # the programs' limit of 512 bytes is a part of their line 1
 RAGGED = 'the recipe is empty, longer than 512 bytes or no multiple of 16 bytes'

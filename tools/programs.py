@@ -1,8 +1,8 @@
 """Holds the two programs to what docs/RECIPE.md says of their faults. Run as
 
-    python3 tools/programs.py FOLDER
+    python3 tools/programs.py
 
-with the folder of the linked programs. Each shortest refused recipe of docs/RECIPE.md gives its number on standard output, and number, term and
+once they are linked: crates/NAME/out/NAME, which `.ci/run` makes, and `rt run` in the crate's folder. Each shortest refused recipe of docs/RECIPE.md gives its number on standard output, and number, term and
 meaning as the table there has them on standard error; a recipe that is not refused gives nothing there; what can't be read or written, and
 arguments, give their line. The page's lines for scripts have the status that it says. Rows A to H give the model's text, and row D the one that
 document 01 prints. The recipe that the gate runs the plan printer on has another plan on the other route. Status 1 where anything is wrong.
@@ -22,6 +22,10 @@ TEXTS = {'print_plan': model.plan_text, 'compare_sweeps': model.compare_text}
 RAGGED = 'the recipe is empty, longer than 512 bytes or no multiple of 16 bytes'
 # written by hand from document 01, "Recipes to be met"
 ROW_D = {'print_plan': 'tiles 2 messages 1 words 1 steps 6\n0 0 1 0 1 1\n', 'compare_sweeps': 'agree\nagree\nagree\nagree\n'}
+
+
+def linked(name):
+    return os.path.join('crates', name, 'out', name)
 
 
 def page(name):
@@ -72,34 +76,33 @@ def tells_routes():
 
 def tests_for_scripts():
     """Line, recipe and status: the page's one line a program, over a recipe that is accepted, two that are refused, and none at all."""
-    lines = re.findall(r'^(.*target/bin/(?:%s) < recipe.*)$' % '|'.join(TEXTS), page(recipe_page.PAGE), flags=re.M)
+    lines = re.findall(r'^(.*(?:%s) < recipe.*)$' % '|'.join(map(linked, TEXTS)), page(recipe_page.PAGE), flags=re.M)
     row = model.ROWS['D']
     return [(line, recipe, status) for line in lines for recipe, status in ((row, True), (row[16:], False), (b'', False), (None, False))]
 
 
-def ends_well(line, folder, recipe):
-    """Has the line status 0 where target/bin is that folder, and the recipe stands in a file?"""
+def ends_well(line, recipe):
+    """Has the line status 0 where the recipe stands in a file?"""
     with tempfile.TemporaryDirectory() as room:
-        os.mkdir(os.path.join(room, 'target'))
-        os.symlink(os.path.abspath(folder), os.path.join(room, 'target/bin'))
+        os.symlink(os.path.abspath(os.path.join(recipe_page.ROOT, 'crates')), os.path.join(room, 'crates'))
         if recipe is not None:
             with open(os.path.join(room, 'recipe'), 'wb') as file:
                 file.write(recipe)
         return subprocess.run(line, shell=True, cwd=room, capture_output=True, timeout=60, check=False).returncode == 0
 
 
-def main(folder):
+def main():
     wrong, tried = 0, 1
     if not tells_routes():
         wrong += 1
         print('crates/print_plan: the recipe there does not tell the routes apart')
     for line, recipe, well in tests_for_scripts():
         tried += 1
-        if ends_well(line, folder, recipe) != well:
+        if ends_well(line, recipe) != well:
             wrong += 1
             print('%s: not as it should be over %r' % (line, recipe))
     for name, text in TEXTS.items():
-        program = os.path.join(folder, name)
+        program = os.path.join(recipe_page.ROOT, linked(name))
         cases = faults(program, text, model.ROWS['D'])
         cases += [(program, recipe, ('refused %s\n' % line.split(',')[0], [line])) for line, recipe in refusals()]
         cases += [(program, recipe, (text(recipe), [])) for recipe in model.ROWS.values()]
@@ -116,6 +119,4 @@ def main(folder):
 
 
 if __name__ == '__main__':
-    if len(sys.argv) != 2:
-        sys.exit(__doc__)
-    sys.exit(main(sys.argv[1]))
+    sys.exit(main())

@@ -14,6 +14,7 @@ import sys
 import map_page
 import readme_words
 
+OWN = map_page.crates()
 HEAD, END = '| table | files | lines |\n|---|---|---|\n', '\n\n'
 
 
@@ -46,8 +47,8 @@ def counted(text):
 def imported(path):
     """The files of specs/ that a file imports, structs of code aside."""
     with open(os.path.join(readme_words.ROOT, path), encoding='utf-8') as file:
-        for crate, kind, rest in re.findall(r'^(?:pub )?use Rattle·(\w+)(?:·\w+)?\.(\w+)\.([\w.]+?)(?:\.\{|$| as )', file.read(), flags=re.M):
-            if not rest.startswith('declared'):
+        for crate, kind, rest in re.findall(r'^(?:pub )?use Rattle\.(\w+)\.(specs|proofs)\.([\w.]+?)(?:\.\{|$| as )', file.read(), flags=re.M):
+            if crate in OWN and not rest.startswith('declared'):
                 yield 'crates/%s/%s/%s.antt' % (crate, kind, rest.replace('.', '/'))
 
 

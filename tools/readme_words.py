@@ -87,7 +87,7 @@ def named(text):
 
 def is_path(word):
     """Does it look like a file of the repository? A name with a wildcard or a placeholder is none."""
-    if word.startswith(MADE) or not re.fullmatch(r'[\w./-]+', word) or re.search(r'\.\.|NAME|WHAT|NNN', word):
+    if word.startswith(MADE) or '/out/' in word or not re.fullmatch(r'[\w./-]+', word) or re.search(r'\.\.|NAME|WHAT|NNN', word):
         return False
     return word.split('/')[0] in FOLDERS and '/' in word or bool(re.fullmatch(r'\w+\.md', word))
 

@@ -2,7 +2,7 @@
 
     ./rolwyddac recipe mine.toml -o mine.recipe
     python3 tools/worked.py mine.recipe [FIRST]     writes specs/Harbour.antt, proofs/Computed.antt and src/lib.rt
-    rt check worked                                 has the checker compute every figure from the definitions
+    rt check, in crates/worked                      has the checker compute every figure from the definitions
     python3 tools/worked.py check                   are the stored figures those of the model? status 1 where not
 
 The source is FIRST, FIRST + 1, .., 100 where none is given. `git checkout crates/worked` brings the harbour back. docs/MODELLERS.md walks
@@ -83,8 +83,8 @@ def with_recipe(specs, proofs, source, encoded, first):
     both = []
     for text in (specs, proofs):
         text = put(text, r'≡ accepted (.*)$', figures)
-        text = put(text, r'(?:linesOf Direct harbour|\)\)) ≡ (\(.*)$', lines_of(plan))
-        text = put(text, r'heldBy \(.*\) (\d+ ≡ .*)$', '%d ≡ %s' % (told, listed(plan.messages[told].cells)))
+        text = put(text, r'(?:lines_of Direct harbour|\)\)) ≡ (\(.*)$', lines_of(plan))
+        text = put(text, r'held_by \(.*\) (\d+ ≡ .*)$', '%d ≡ %s' % (told, listed(plan.messages[told].cells)))
         text = put(text, r'depths\n +≡ (.*)$', grid)
         both.append(text)
     specs, proofs = both
@@ -97,9 +97,9 @@ def with_recipe(specs, proofs, source, encoded, first):
         if name == 'components':
             numbers = [x for d in numbers for x in d]
         proofs = put(proofs, r'^ +%s = (.*);$' % name, filled(numbers, places))
-    if re.search(r'heldBy p (\d+)', proofs):
-        proofs = put(proofs, r'heldBy p (\d+)', str(told))
-    source = put(source, r'⌜ r ≡ (\d+) ⌝', str(plan.cells))
+    if re.search(r'held_by p (\d+)', proofs):
+        proofs = put(proofs, r'held_by p (\d+)', str(told))
+    source = put(source, r'result ≡ (\d+) }', str(plan.cells))
     source = put(source, r'^    (\d+)$', str(plan.cells))
     return specs, proofs, source
 
@@ -147,7 +147,7 @@ def main(words):
     for name, text in zip((SPECS, PROOFS, SOURCE), made):
         with open(os.path.join(ROOT, name), 'w', encoding='utf-8') as file:
             file.write(text)
-    print('written; next: rt check worked')
+    print('written; next: rt check, in crates/worked')
     return 0
 
 
