@@ -1,5 +1,5 @@
 -- The driver's calls against the machine: what it tells, and each return of the call.
-use Rattle.core.specs.Prelude.{◌≡◌, ℕ, eqb, ◌≢◌, List, length}
+use Rattle.std.specs.Prelude.{◌≡◌, ℕ, eqb, ◌≢◌, List, length}
 use mathlib.Core.Path.{refl, sym, ap, ◌∙◌}
 use borrow.Author.Tests.{eq-eqb, ne_eqb}
 use Rattle.base.specs.Numbers.{first_of}

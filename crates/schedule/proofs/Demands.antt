@@ -1,5 +1,5 @@
 -- What W-213 demands holds of the calls' definitions, for every recipe's bytes.
-use Rattle.core.specs.Prelude.{◌≡◌, ℕ, ◌<◌, true, List, length, get_or}
+use Rattle.std.specs.Prelude.{◌≡◌, ℕ, ◌<◌, true, List, length, get_or}
 use mathlib.Core.Path.{refl, sym, ap, ◌∙◌}
 use Rattle.base.specs.Lists.{Bytes}
 use Rattle.base.specs.Numbers.{first_of}

@@ -1,5 +1,5 @@
 -- Rows A and B by rounds, computed on the box's plan, which is theirs; and a row with a bound, on the shape's.
-use Rattle.core.specs.Prelude.{◌≡◌, ℕ, true, List, [], ◌∷◌, get_or}
+use Rattle.std.specs.Prelude.{◌≡◌, ℕ, true, List, [], ◌∷◌, get_or}
 use mathlib.Core.Path.{refl, ap, ◌∙◌}
 use Rattle.base.specs.Tests.{◌and◌, ◌or◌, pick, every, some, keep, those, tabulate, product}
 use Rattle.base.proofs.Lists.{small}

@@ -1,7 +1,7 @@
 -- Read this.
 -- The calls by rounds, from the recipe's bytes and the lent areas: the driver, and each tile's round.
 -- Renders document 02, W-213: the driver has a fresh start's lines, on the direct route, and goes on by rounds to the run's end.
-use Rattle.core.specs.Prelude.{ℕ, List, [], ◌∷◌, ◌++◌, length, ◌==◌}
+use Rattle.std.specs.Prelude.{ℕ, List, [], ◌∷◌, ◌++◌, length, ◌==◌}
 use Rattle.base.specs.Tests.{not}
 use Rattle.base.specs.Numbers.{Line, line, first_of}
 use Rattle.machine.specs.Machine as machine

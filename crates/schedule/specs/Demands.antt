@@ -1,7 +1,7 @@
 -- Read this.
 -- What is demanded of the calls by rounds, for a recipe's bytes: made of the definitions in Calls, which the calls' contracts equate them with.
 -- Renders document 02, W-213: which round a tile has, that the driver ends in the greatest, and that no plan of whole tiles ends sooner.
-use Rattle.core.specs.Prelude.{◌≡◌, ℕ, ◌<◌, List, length, slice_index}
+use Rattle.std.specs.Prelude.{◌≡◌, ℕ, ◌<◌, List, length, slice_index}
 use Rattle.base.specs.Lists.{Bytes}
 use Rattle.base.specs.Numbers.{first_of}
 use Rattle.machine.specs.Machine as machine

@@ -1,7 +1,7 @@
 -- For contracts below the calls: no reader needs it.
 -- What the code of a round is given: the nest's table, its messages listed and chained; and what a tile leaves.
 -- No sentence of document 02.
-use Rattle.core.specs.Prelude.{◌≡◌, ℕ, ◌<◌, ◌≤◌, List, [], ◌∷◌, map, length, ◌==◌, slice_index}
+use Rattle.std.specs.Prelude.{◌≡◌, ℕ, ◌<◌, ◌≤◌, List, [], ◌∷◌, map, length, ◌==◌, slice_index}
 use Rattle.base.specs.Tests.{pick, those}
 use Rattle.base.specs.Lists.{put, pack, set_all, store_all}
 use Rattle.machine.specs.Plan.{Plan, count, offset, held_by, sends_of, dues_of}

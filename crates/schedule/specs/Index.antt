@@ -1,7 +1,7 @@
 -- For contracts below the calls: no reader needs it.
 -- The messages of a plan listed by number, and chained by the tile at an end of each.
 -- No sentence of document 02.
-use Rattle.core.specs.Prelude.{◌≡◌, ℕ, suc, ◌+◌, ◌<◌, ◌≤◌, List, length, slice_index, slice_index_or}
+use Rattle.std.specs.Prelude.{◌≡◌, ℕ, suc, ◌+◌, ◌<◌, ◌≤◌, List, length, slice_index, slice_index_or}
 use Rattle.base.specs.Tests.{those}
 use Rattle.machine.specs.Plan.{count}
 use Rattle.nest.specs.declared.Nest.{Nest}

@@ -1,7 +1,7 @@
 // The messages of a plan, made once in a call: where each is found, and for each tile those that it sends and those due at it, one after
 // the other. `spots` has the slot of message m at m and its offset at 7168 + m. A chain has at 7168 + t the first message with tile t at
 // an end, and at m the next one with the same tile there; as many as there are messages stands for none.
-ghost use Rattle.core.specs.Prelude.{◌≡◌, ℕ, suc, ◌+◌, ◌<◌, ◌≤◌, length, get_or, slice_index, slice_index_or, slice_set};
+ghost use Rattle.std.specs.Prelude.{◌≡◌, ℕ, suc, ◌+◌, ◌<◌, ◌≤◌, length, get_or, slice_index, slice_index_or, slice_set};
 ghost use Rattle.base.proofs.Select.{rank_in};
 ghost use Rattle.machine.specs.Plan.{Message, count};
 ghost use Rattle.plan.specs.Messages.{messages_of};

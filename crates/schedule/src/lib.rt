@@ -2,7 +2,7 @@
 // table is made once, and a processor is tested when its place comes, which changes nothing (rounds/proofs/AsItGoes).
 #![tactic(auto)]
 
-ghost use Rattle.core.specs.Prelude.{◌≡◌, ◌*◌, ◌<◌, length};
+ghost use Rattle.std.specs.Prelude.{◌≡◌, ◌*◌, ◌<◌, length};
 ghost use Rattle.base.specs.Lists.{set_all, all_at};
 ghost use Rattle.machine.specs.Plan.{count, words, sender_of, sends_of, dues_of};
 ghost use Rattle.machine.specs.Machine.{state_of, unpack_all, fresh};
@@ -19,7 +19,7 @@ ghost use Rattle.schedule.specs.Calls.{rounds_call, rounds_of_call};
 pub mod index; // index.rt: the messages of a plan by number and by tile
 
 use base::{refusals, word_index, zero_bytes, zero_words};
-use engine::core::areas_fit;
+use engine::inner::areas_fit;
 use engine::store_record;
 use index::{chain_ends, first, list, next, spot};
 use layout::Sizes;

@@ -1,0 +1,16 @@
+-- What is left to gather gives the same.
+use native.Mathlib.Omega.{arith}
+use mathlib.Core.Path.{◌∙◌}
+use Rattle.std.specs.Prelude.{◌-◌, length}
+use Rattle.plan.specs.Shaped.{plan_of}
+use Rattle.machine.specs.Plan.{count, taker_of}
+use Rattle.schedule.proofs.Telling as telling
+use Rattle.schedule.proofs.Chains as chains
+use Rattle.schedule.proofs.Laws as laws
+use Rattle.schedule.proofs.gather.Given as goal
+
+abbrev pub invariant-loop-m : goal.invariant-loop-m
+invariant-loop-m l = laws.GatherLoop l.sizes.route l.nest l.t l.buffer l.initial.memory l.initial.status l.memory l.status l.m
+
+abbrev pub decreases-loop-m : goal.decreases-loop-m
+decreases-loop-m l = length l.initial.status - l.m

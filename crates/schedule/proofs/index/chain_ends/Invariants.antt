@@ -1,0 +1,17 @@
+-- From the last message on.
+use native.Mathlib.Omega.{arith}
+use mathlib.Core.Path.{ap, ◌∙◌, subst}
+use Rattle.std.specs.Prelude.{ℕ, ◌≤◌}
+use Rattle.plan.specs.Shaped.{plan_of}
+use Rattle.machine.specs.Plan.{count}
+use Rattle.tables.specs.boxes.Table.{end_of}
+use Rattle.schedule.specs.Index.{ChainedFrom}
+use Rattle.schedule.proofs.Chains as chains
+use Rattle.schedule.proofs.Telling as telling
+use Rattle.schedule.proofs.index.chain_ends.Given as goal
+
+abbrev pub invariant-loop-m : goal.invariant-loop-m
+invariant-loop-m l = ChainedFrom (end_of l.side (plan_of l.sizes.route l.nest)) (count (plan_of l.sizes.route l.nest)) l.m l.chain × (l.m ≤ count (plan_of l.sizes.route l.nest))
+
+abbrev pub decreases-loop-m : goal.decreases-loop-m
+decreases-loop-m l = l.m

@@ -1,0 +1,19 @@
+-- The latest round so far of the tiles that mail to it.
+use native.Mathlib.Omega.{arith}
+use mathlib.Core.Path.{ap, ◌∙◌}
+use Rattle.std.specs.Prelude.{ℕ, ◌-◌, get_or}
+use mathlib.Core.Logic.{⊎_elim, inl, inr}
+use Rattle.machine.specs.Plan.{count, sender_of, taker_of}
+use Rattle.plan.proofs.ShapedSound.{sound}
+use Rattle.plan.specs.Shaped.{plan_of}
+use Rattle.schedule.proofs.Laws.{tiles_low}
+use Rattle.schedule.proofs.Listing as L
+use Rattle.schedule.proofs.Chains as chains
+use Rattle.schedule.proofs.Telling as telling
+use Rattle.schedule.proofs.round_at.Given as goal
+
+abbrev pub invariant-loop-m : goal.invariant-loop-m
+invariant-loop-m l = telling.DuesWalk (plan_of l.sizes.route l.nest) l.tile l.last l.latest l.m
+
+abbrev pub decreases-loop-m : goal.decreases-loop-m
+decreases-loop-m l = l.messages - l.m
