@@ -1,5 +1,5 @@
 -- Request W-208 holds: of the definitions of a tenant's calls, and of every run of them.
-use Rattle.core.specs.Prelude.{◌≡◌, ℕ, ◌*◌, Bool, true, false, eqb, List, [], length}
+use Rattle.std.specs.Prelude.{◌≡◌, ℕ, ◌*◌, Bool, true, false, eqb, List, [], length}
 use mathlib.Core.Path.{refl, sym}
 use Rattle.base.specs.Tests.{pick}
 use Rattle.base.specs.Lists.{Bytes, sublist}

@@ -1,5 +1,5 @@
 -- Laws of the lines of a tenant's calls: lengths and fit states, and each call by the line that counts.
-use Rattle.core.specs.Prelude.{◌≡◌, ℕ, ◌+◌, ◌*◌, ◌<◌, ◌≤◌, Bool, true, false, eqb, ltb, leb, ◌≢◌, List, [], ◌∷◌, ◌++◌, length, get_or, set}
+use Rattle.std.specs.Prelude.{◌≡◌, ℕ, ◌+◌, ◌*◌, ◌<◌, ◌≤◌, Bool, true, false, eqb, ltb, leb, ◌≢◌, List, [], ◌∷◌, ◌++◌, length, get_or, set}
 use mathlib.Core.Path.{refl, sym, ap, ◌∙◌}
 use native.Mathlib.Omega.{arith}
 use borrow.Author.Tests.{eqb-true, eq-eqb, ne_eqb, ltb-true, lt-ltb, le-ltb}
@@ -20,7 +20,7 @@ use Rattle.recipe.proofs.Laws.{numbered_for}
 use Rattle.stages.specs.Progress.{set_record}
 use Rattle.engine.specs.Calls.{answer, areas}
 use Rattle.engine.specs.Given.{records_after, handed_over}
-use Rattle.engine.specs.declared.core.Turned.{Turned}
+use Rattle.engine.specs.declared.inner.Turned.{Turned}
 use Rattle.engine.proofs.Lines.{Opened, areas_are, and_right, call_read, call_later, call_done, handed}
 use Rattle.sharing.specs.Calls.{areas_for, area_lines_for, turn_call_for, deliver_call_for, collect_call_for}
 use Rattle.sharing.specs.Given.{LengthsFor, unfit_lines_for, barred_lines_for, words_after}

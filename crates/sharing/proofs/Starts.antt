@@ -1,5 +1,5 @@
 -- Laws of a fresh start of both tenants, and of the records' words after a call as programs keep them.
-use Rattle.core.specs.Prelude.{◌≡◌, ℕ, ◌+◌, ◌*◌, ◌<◌, true, false, ◌≢◌, List, [], ◌∷◌, ◌++◌, length, replicate}
+use Rattle.std.specs.Prelude.{◌≡◌, ℕ, ◌+◌, ◌*◌, ◌<◌, true, false, ◌≢◌, List, [], ◌∷◌, ◌++◌, length, replicate}
 use mathlib.Core.Path.{sym, ap, ◌∙◌}
 use native.Mathlib.Omega.{arith}
 use borrow.Author.Tests.{eqb-true, eq-eqb, ne_eqb, ltb-true}
@@ -16,7 +16,7 @@ use Rattle.recipe.proofs.Laws.{numbered_for}
 use Rattle.stages.specs.Progress.{set_record}
 use Rattle.engine.specs.Calls.{answer, recipe, areas}
 use Rattle.engine.specs.Given.{records_after, zeros_after}
-use Rattle.engine.specs.declared.core.Turned.{Turned}
+use Rattle.engine.specs.declared.inner.Turned.{Turned}
 use Rattle.engine.proofs.Turns.{answered_no, answered_yes}
 use Rattle.engine.proofs.Lines.{Opened, areas_are}
 use Rattle.engine.proofs.Reading.{zeros_after_no, zeros_after_yes}

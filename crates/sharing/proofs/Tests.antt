@@ -1,5 +1,5 @@
 -- Laws of the tests and stores below a tenant's calls, each over numbers and lists alone.
-use Rattle.core.specs.Prelude.{◌≡◌, ℕ, ◌+◌, ◌*◌, ◌<◌, ◌≤◌, Bool, true, false, eqb, ◌≢◌, List, length, get_or, set}
+use Rattle.std.specs.Prelude.{◌≡◌, ℕ, ◌+◌, ◌*◌, ◌<◌, ◌≤◌, Bool, true, false, eqb, ◌≢◌, List, length, get_or, set}
 use mathlib.Core.Path.{sym, ap, ◌∙◌}
 use borrow.Author.Tests.{eq-eqb, ne_eqb, lt-ltb, le-ltb, le-leb, lt-leb}
 use Rattle.base.specs.Tests.{◌or◌}
@@ -7,7 +7,7 @@ use Rattle.base.proofs.Tests.{and_true, and_left, and_false, and_no, pick_true, 
 use Rattle.machine.specs.Plan.{Plan, tiles_of}
 use Rattle.machine.specs.Machine.{progress_only, tiles_left}
 use Rattle.tenants.specs.Tenants.{tenant_areas, other_than, stage_agrees, word_for, fit_word, held_by_other}
-use Rattle.engine.specs.declared.core.Turned.{Turned}
+use Rattle.engine.specs.declared.inner.Turned.{Turned}
 use Rattle.sharing.specs.Given.{words_after}
 
 -- ---- one word against one stage

@@ -1,5 +1,5 @@
 -- A tenant's calls are guarded, so the claims about guarded calls hold of their runs: words, marks, and areas that are those of a run alone.
-use Rattle.core.specs.Prelude.{◌≡◌, ℕ, ◌≤◌, List, length}
+use Rattle.std.specs.Prelude.{◌≡◌, ℕ, ◌≤◌, List, length}
 use mathlib.Core.Path.{refl}
 use Rattle.base.specs.Numbers.{first_of}
 use Rattle.machine.specs.Plan.{Plan, Sound}

@@ -1,7 +1,7 @@
 -- Read this.
 -- The calls for a tenant, each from the recipe's bytes, the word that names its route and what is lent: its number, and what is written.
 -- Renders request W-208, and W-209's line 21: all lines in table order: line 9 covers all that is lent, then the tenant's number, then the machine's lines.
-use Rattle.core.specs.Prelude.{ℕ, ◌*◌, Bool, List, [], ◌∷◌, ◌++◌, length, ◌==◌, nat_eq, nat_le, nat_lt}
+use Rattle.std.specs.Prelude.{ℕ, ◌*◌, Bool, List, [], ◌∷◌, ◌++◌, length, ◌==◌, nat_eq, nat_le, nat_lt}
 use Rattle.base.specs.Tests.{◌and◌, not, pick}
 use Rattle.base.specs.Lists.{sublist}
 use Rattle.base.specs.Numbers.{Line, line, first_of}

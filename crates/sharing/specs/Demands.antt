@@ -1,7 +1,7 @@
 -- Read this.
 -- Request W-208 for a recipe's bytes and a route, made of the definitions in Calls; each call's contract equates the call with them.
 -- Renders its claims: every call is fixed; each tenant's run is counted apart; progress; words and marks; nothing but the numbers tells one of the other.
-use Rattle.core.specs.Prelude.{◌≡◌, ℕ, ◌≤◌, List, [], length}
+use Rattle.std.specs.Prelude.{◌≡◌, ℕ, ◌≤◌, List, [], length}
 use Rattle.base.specs.Lists.{Bytes}
 use Rattle.base.specs.Numbers.{first_of}
 use Rattle.machine.specs.Machine.{next_action, collected, memory_of}

@@ -1,13 +1,13 @@
 -- For contracts below the calls: no reader needs it.
 -- What the code below the calls for a tenant is given: lengths, lines 9 to 10; and the shared words after a turn.
 -- No sentence of a paper.
-use Rattle.core.specs.Prelude.{◌≡◌, ℕ, ◌*◌, List, [], ◌∷◌, ◌++◌, length, ◌==◌, nat_le, nat_lt, slice_set}
+use Rattle.std.specs.Prelude.{◌≡◌, ℕ, ◌*◌, List, [], ◌∷◌, ◌++◌, length, ◌==◌, nat_le, nat_lt, slice_set}
 use Rattle.base.specs.Tests.{not, pick}
 use Rattle.base.specs.Numbers.{Line, line}
 use Rattle.machine.specs.Plan.{Plan}
 use Rattle.tenants.specs.Tenants.{TenantAreas, word_for, fit_for, held_by_other}
 use Rattle.engine.specs.Given.{AreaLengths}
-use Rattle.engine.specs.declared.core.Turned.{Turned}
+use Rattle.engine.specs.declared.inner.Turned.{Turned}
 use Rattle.sharing.specs.Calls.{area_lines_for}
 
 -- all that is lent has its length

@@ -1,6 +1,6 @@
 -- Read this. What a view at a processor's memory gives for row D, computed: the part that it shows, and each number by its line.
 -- Renders document 02, W-208. Ruled out: 11 before 9, the other tenant's part, another processor's, a part at a refusal.
-use Rattle.core.specs.Prelude.{◌≡◌, ℕ, List, [], ◌∷◌}
+use Rattle.std.specs.Prelude.{◌≡◌, ℕ, List, [], ◌∷◌}
 use Rattle.nest.specs.Recipes.{row_d}
 use Rattle.sharing.specs.Calls.{view_number, view_part}
 

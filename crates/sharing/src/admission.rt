@@ -1,6 +1,6 @@
 // What a call on two tenants tests first, past the recipe's lines: the areas' lengths, both tenants' records, the shared words; and the number of a
-// fresh start, the recipe's lines with it. The records are read as words, as in `core`.
-ghost use Rattle.core.specs.Prelude.{◌≡◌, ℕ, ◌+◌, ◌*◌, ◌<◌, ◌≤◌, List, [], length};
+// fresh start, the recipe's lines with it. The records are read as words, as in `inner`.
+ghost use Rattle.std.specs.Prelude.{◌≡◌, ℕ, ◌+◌, ◌*◌, ◌<◌, ◌≤◌, List, [], length};
 ghost use Rattle.base.specs.Tests.{every};
 ghost use Rattle.base.specs.Numbers.{first_of};
 ghost use Rattle.machine.specs.Plan.{count};
@@ -15,7 +15,7 @@ ghost use Rattle.sharing.specs.Calls.{fresh_sharing_lines};
 ghost use Rattle.sharing.specs.Given.{unfit_lines_for, barred_lines_for};
 
 use base::refusals;
-use engine::core::areas_fit;
+use engine::inner::areas_fit;
 use layout::Sizes;
 use nest::Nest;
 use recipe::open;

@@ -2,14 +2,14 @@
 // The rules of engaging and freeing a processor are crate `tenants`'; the stages are the engine's.
 #![tactic(auto)]
 
-ghost use Rattle.core.specs.Prelude.{◌≡◌};
+ghost use Rattle.std.specs.Prelude.{◌≡◌};
 ghost use Rattle.machine.specs.Machine.{state_of};
 ghost use Rattle.tenants.specs.Tenants.{tenant_areas, sharing_of, sources_of};
 ghost use Rattle.engine.specs.Calls.{answer};
 ghost use Rattle.sharing.specs.Calls.{turn_call_for, deliver_call_for, collect_call_for, fresh_sharing_call};
 
 pub mod admission; // admission.rt: what a call tests first, past the recipe's lines
-pub mod core; // core.rt: the calls without the stores into the records
+pub mod inner; // inner.rt: the calls without the stores into the records
 pub mod view; // view.rt: the view at a processor's memory, lent both tenants' memories and nothing else
 
 use records::flat_of;
@@ -37,7 +37,7 @@ pub fn fresh(
         (state_of memories1.old buffer1.old progress1.old status1.old)
         engaged.old) }
 {
-    let number = core::fresh(
+    let number = inner::fresh(
         encoded,
         route,
         source0,
@@ -52,8 +52,8 @@ pub fn fresh(
         status1,
         engaged,
     );
-    core::clear_records(progress0, number);
-    core::clear_records(progress1, number);
+    inner::clear_records(progress0, number);
+    inner::clear_records(progress1, number);
     number
 }
 
@@ -77,7 +77,7 @@ pub fn turn(
         (tenant_areas (state_of memories.old buffer.old progress.old status.old)
         engaged.old) theirs.now processor }
 {
-    let after = core::turn(
+    let after = inner::turn(
         encoded,
         route,
         source,
@@ -90,7 +90,7 @@ pub fn turn(
         tenant,
         processor,
     );
-    core::store_after(progress, processor, after);
+    inner::store_after(progress, processor, after);
     after.number
 }
 
@@ -114,7 +114,7 @@ pub fn deliver(
         (tenant_areas (state_of memories.now buffer.now progress.now status.old)
         engaged.now) theirs.now message }
 {
-    core::deliver(
+    inner::deliver(
         encoded,
         route,
         source,
@@ -148,7 +148,7 @@ pub fn collect(
         (tenant_areas (state_of memories.now buffer.now progress.now status.now)
         engaged.now) theirs.now grid.old }
 {
-    core::collect(
+    inner::collect(
         encoded,
         route,
         source,

@@ -1,8 +1,8 @@
 // The view at a processor's memory, lent both tenants' memories and nothing else: its number, and the part of the named tenant's memories.
-ghost use Rattle.core.specs.Prelude.{◌≡◌};
+ghost use Rattle.std.specs.Prelude.{◌≡◌};
 ghost use Rattle.sharing.specs.Calls.{view_number, view_part};
 
-pub mod core; // core.rt: where a view finds its part
+pub mod inner; // inner.rt: where a view finds its part
 
 // The number of a view at a processor's memory.
 pub fn view_number(
@@ -14,7 +14,7 @@ pub fn view_number(
 ) -> u32
     ensures { result ≡ view_number encoded.now first.now second.now tenant processor }
 {
-    let seen = core::view_at(encoded, first.len(), second.len(), tenant, processor);
+    let seen = inner::view_at(encoded, first.len(), second.len(), tenant, processor);
     seen.number
 }
 
@@ -28,7 +28,7 @@ pub fn view<'a>(
 ) -> &'a [u32]
     ensures { result.now ≡ view_part encoded.now first.now second.now tenant processor }
 {
-    let seen = core::view_at(encoded, first.len(), second.len(), tenant, processor);
+    let seen = inner::view_at(encoded, first.len(), second.len(), tenant, processor);
     let start = seen.start;
     let words = seen.words;
     if seen.number != 0 {

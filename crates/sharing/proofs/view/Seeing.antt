@@ -1,5 +1,5 @@
 -- Laws of the view at a processor's memory: its number by the line that counts, and its part.
-use Rattle.core.specs.Prelude.{◌≡◌, ℕ, ◌+◌, ◌-◌, ◌*◌, ◌<◌, ◌≤◌, false, ltb, leb, ◌≢◌, List, [], ◌∷◌, length, take, drop}
+use Rattle.std.specs.Prelude.{◌≡◌, ℕ, ◌+◌, ◌-◌, ◌*◌, ◌<◌, ◌≤◌, false, ltb, leb, ◌≢◌, List, [], ◌∷◌, length, take, drop}
 use mathlib.Core.Path.{sym, ap, ◌∙◌}
 use native.Mathlib.Nat.{mul-le-mul_right, suc-mul}
 use native.Mathlib.Omega.{arith}
@@ -19,7 +19,7 @@ use Rattle.engine.specs.Calls.{recipe}
 use Rattle.engine.proofs.Lines.{Opened}
 use Rattle.sharing.specs.Calls.{memories_long, view_number, view_part}
 use Rattle.sharing.specs.view.Given.{SeenAt}
-use Rattle.sharing.specs.declared.view.core.Seen.{Seen}
+use Rattle.sharing.specs.declared.view.inner.Seen.{Seen}
 
 module _ (bytes a c : List ℕ) (o b : ℕ) where
   pub look_read : (n : ℕ) → n ≡ first_of (read_lines bytes) → n ≢ 0 → n ≡ view_number bytes a c o b

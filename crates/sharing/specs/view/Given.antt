@@ -1,9 +1,9 @@
 -- For contracts below the calls: no reader needs it.
 -- What the code below the view gives: where a processor's part lies in memories of the given lengths.
 -- No sentence of a paper.
-use Rattle.core.specs.Prelude.{◌≡◌, ℕ, ◌+◌, ◌*◌, ◌<◌, ◌≤◌}
+use Rattle.std.specs.Prelude.{◌≡◌, ℕ, ◌+◌, ◌*◌, ◌<◌, ◌≤◌}
 use Rattle.machine.specs.Plan.{Plan}
-use Rattle.sharing.specs.declared.view.core.Seen.{Seen}
+use Rattle.sharing.specs.declared.view.inner.Seen.{Seen}
 
 -- processor b's part lies within memories of these lengths; where it begins and what it has fit in a word
 pub record SeenAt (p : Plan) (first second b : ℕ) (r : Seen) : Type 0 where
