@@ -1,15 +1,15 @@
 -- For the proofs alone.
 -- Sending and receiving together.
-use Rattle.core.specs.Prelude.{◌≡◌, ℕ, zero, suc, ◌+◌, ◌*◌, ◌^◌, ◌<◌, ◌≤◌, Bool, true, false, eqb, ltb, ◌≢◌, List, [], ◌∷◌, ◌++◌, length, get_or, take, drop}
+use Rattle.std.specs.Prelude.{◌≡◌, ℕ, zero, suc, ◌+◌, ◌*◌, ◌^◌, ◌<◌, ◌≤◌, Bool, true, false, eqb, ◌≢◌, List, [], ◌∷◌, ◌++◌, length, get_or, take, drop}
 use mathlib.Core.Path.{refl, sym, ap, ap₂, ◌∙◌}
 use native.Mathlib.Omega.{arith}
 use native.Mathlib.Decide.{dec_lt}
 use lib.Seq.{take_at, get_or-take, get_or-drop}
 use borrow.Author.Tests.{eq-eqb, ne_eqb, lt-ltb}
-use Rattle.base.specs.Tests.{not, pick}
-use Rattle.base.specs.Lists.{Bytes, sublist}
+use Rattle.base.specs.Tests.{not}
+use Rattle.base.specs.Lists.{sublist}
 use Rattle.base.specs.Numbers.{Line, line, first_of}
-use Rattle.base.proofs.Tests.{and_true, not-true, pick_true, pick_false}
+use Rattle.base.proofs.Tests.{and_true, not-true, pick_false}
 use Rattle.base.proofs.Numbers.{first_nil, first_true, first_false, first_cons, first_some, first_behind, none_front, none_behind}
 use Rattle.machine.specs.Plan.{Plan, Sound, count, held_by, sender_of, taker_of}
 use Rattle.machine.specs.Machine.{State, place_of, fit, Answered, answered}
@@ -25,16 +25,15 @@ use Rattle.recipe.proofs.Laws.{numbered_for, reads_for}
 use Rattle.engine.specs.Calls.{answer, recipe, areas}
 use Rattle.engine.proofs.Turns.{answered_no, answered_yes}
 use Rattle.packets.specs.declared.Header.{Header}
-use Rattle.packets.specs.Bits.{Burst}
 use Rattle.packets.specs.Fingerprint.{fingerprint_of}
-use Rattle.packets.specs.Packet.{Words, Fit, encode_packet, header_of, words_of, damaged, stale, decode_lines, Decoded, packet, refused, decoded_by, decode_packet}
-use Rattle.packets.specs.Cut.{chunks_of, chunk_length, Chunk, chunk_of, cut, Assembly, complete, placed, fits}
+use Rattle.packets.specs.Packet.{Words, Fit, encode_packet, header_of, words_of, damaged, stale, decode_lines, packet, refused, decoded_by, decode_packet}
+use Rattle.packets.specs.Cut.{chunks_of, chunk_length, chunk_of, cut, fits}
 use Rattle.packets.proofs.Laws.{packets_hold}
 use Rattle.packets.proofs.Assembling.{few, cut_length}
 use Rattle.packets.proofs.RoundTrip.{header_is, words_are, whole, fresh, decode_encode, encode_bytes}
 use Rattle.packets.proofs.Bursts.{burst_damaged, damaged_refused}
-use Rattle.wire.specs.Wire.{Label, headed, item_packet, Letter, letter, letter_of, message_label, packet_of, send_lines, send_call, Inbox, came_of, inbox_fits}
-use Rattle.wire.specs.Wire.{address_lines, Received, received_as, came_now, taken_packet, receive_lines, receive_call}
+use Rattle.wire.specs.Wire.{headed, item_packet, Letter, letter, letter_of, message_label, packet_of, send_lines, send_call, Inbox, inbox_fits}
+use Rattle.wire.specs.Wire.{address_lines, Received, received_as, taken_packet, receive_lines, receive_call}
 use Rattle.wire.specs.Carried.{Sent, sent_bytes, arrival_lines, chunk_came, WireHolds}
 use Rattle.wire.proofs.Sending.{Sendable, sendable, place_long}
 use Rattle.wire.proofs.Receiving.{rising_few, decoded_numbered}

@@ -1,6 +1,6 @@
 -- For the proofs alone.
 -- What receiving answers, line by line: a packet opened, whose it is, its chunk put to what came of its message, the whole message taken in.
-use Rattle.core.specs.Prelude.{◌≡◌, ℕ, zero, suc, ◌+◌, ◌-◌, ◌<◌, ◌≤◌, Bool, true, false, eqb, ltb, ◌≢◌, List, [], ◌∷◌, ◌++◌, length, get_or, take, drop, set}
+use Rattle.std.specs.Prelude.{◌≡◌, ℕ, zero, suc, ◌+◌, ◌-◌, ◌<◌, ◌≤◌, Bool, true, false, eqb, ltb, ◌≢◌, List, [], ◌∷◌, ◌++◌, length, get_or, take, drop, set}
 use mathlib.Core.Path.{refl, sym, ap, ap₂, ◌∙◌, subst}
 use mathlib.Core.Logic.{inl, inr}
 use native.Mathlib.Omega.{arith}
@@ -11,11 +11,11 @@ use lib.Seq.{take_at}
 use Rattle.base.specs.Tests.{◌and◌, not, pick, one}
 use Rattle.base.specs.Lists.{In, Rising, sublist, put}
 use Rattle.base.specs.Numbers.{Line, line, first_of}
-use Rattle.base.proofs.Tests.{both, and_true, and_left, and_false, and_no, or_right, not-true, not-false, true_not, pick_true, pick_false}
+use Rattle.base.proofs.Tests.{both, and_true, and_left, and_false, or_right, not-true, not-false, true_not}
 use Rattle.base.proofs.Lists.{part_length, part_put_same}
 use Rattle.base.proofs.Numbers.{Numbered, first_nil, first_true, first_false, first_some, first_behind, none_first}
 use Rattle.machine.specs.Plan.{Plan, Sound, count, words, held_by, offset}
-use Rattle.machine.specs.Machine.{State, state_of, place_of, fit, Answered, answered}
+use Rattle.machine.specs.Machine.{State, fit, Answered, answered}
 use Rattle.machine.proofs.Values.{offset_apart}
 use Rattle.network.specs.Apart.{sender_at, taker_at, received}
 use Rattle.nest.specs.declared.Nest.{Nest}
@@ -33,7 +33,7 @@ use Rattle.tables.specs.Tables.{FoundIn}
 use Rattle.summary.specs.declared.MessageLine.{MessageLine}
 use Rattle.summary.specs.Summary.{line_of}
 use Rattle.stages.proofs.Parts.{mid_is, mid_length, back}
-use Rattle.engine.specs.Calls.{answer, recipe, areas}
+use Rattle.engine.specs.Calls.{answer, areas}
 use Rattle.engine.specs.Given.{unfit_lines}
 use Rattle.engine.proofs.Turns.{answered_no, answered_yes}
 use Rattle.engine.proofs.Lines.{Opened, areas_are, unfit_none, call_read}
@@ -45,13 +45,13 @@ use Rattle.packets.specs.declared.chunks.Taken.{Taken}
 use Rattle.packets.specs.Fingerprint.{fingerprint_of}
 use Rattle.packets.specs.Packet.{count_of, header_of, words_of, damaged, stale, decode_lines}
 use Rattle.packets.specs.Calls.{Read, read_of, read_by, read_lines, read_call}
-use Rattle.packets.specs.Cut.{Chunk, chunk_of, Assembly, assembly, complete, fits, placed, take_lines, Taking, taking_by, taking_of, take_chunk_call}
+use Rattle.packets.specs.Cut.{Chunk, chunk_of, Assembly, assembly, complete, fits, take_lines, Taking, taking_by, taking_of, take_chunk_call}
 use Rattle.packets.proofs.Answers.{whole_is}
 use Rattle.packets.proofs.Assembling.{no_line, no_lines}
 use Rattle.packets.proofs.RoundTrip.{words_long}
 use Rattle.wire.specs.declared.inbox.Received as declared
 use Rattle.wire.specs.Wire.{Inbox, inbox_of, came_of, with_came, inbox_fits, address_lines, Received, received_as, came_now, came_with, taken_packet}
-use Rattle.wire.specs.Wire.{receive_lines, receive_call}
+use Rattle.wire.specs.Wire.{receive_call}
 use Rattle.wire.specs.Given.{OpenedAs, MayReceive, taken_or}
 
 -- ---- lengths

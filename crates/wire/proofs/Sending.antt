@@ -1,16 +1,16 @@
 -- For the proofs alone.
 -- What writing an item's chunk and sending a message's answer, line by line.
-use Rattle.core.specs.Prelude.{◌≡◌, ℕ, zero, suc, ◌+◌, ◌-◌, ◌*◌, ◌<◌, ◌≤◌, Bool, true, false, eqb, ltb, ◌≢◌, List, [], ◌∷◌, ◌++◌, length, get_or, take, drop}
-use mathlib.Core.Path.{refl, sym, ap, ap₂, ◌∙◌, subst}
-use native.Mathlib.Nat.{add-sub_cancel_left, sub-zero, div-add-mod'}
+use Rattle.std.specs.Prelude.{◌≡◌, ℕ, ◌+◌, ◌-◌, ◌*◌, ◌<◌, ◌≤◌, false, eqb, ltb, ◌≢◌, List, [], ◌∷◌, ◌++◌, length, get_or, take, drop}
+use mathlib.Core.Path.{refl, sym, ap, ap₂, ◌∙◌}
+use native.Mathlib.Nat.{add-sub_cancel_left, sub-zero}
 use native.Mathlib.Omega.{arith}
-use borrow.Author.Tests.{eq-eqb, ne_eqb, lt-ltb, le-ltb, eqb-true, eqb-false, ltb-true, ltb-false}
+use borrow.Author.Tests.{eq-eqb, ne_eqb, lt-ltb, le-ltb, eqb-true, ltb-true, ltb-false}
 use borrow.Rule.Slice.PartMut.{put_mid}
 use lib.ListN.{length-take, length-drop}
-use lib.Seq.{get_or-take, get_or-drop, ext_get_or}
+use lib.Seq.{get_or-take, ext_get_or}
 use Rattle.base.specs.Tests.{not}
-use Rattle.base.specs.Lists.{sublist, put}
-use Rattle.base.specs.Numbers.{Line, line, first_of}
+use Rattle.base.specs.Lists.{sublist}
+use Rattle.base.specs.Numbers.{line, first_of}
 use Rattle.base.proofs.Tests.{not-true, not-false, true_not}
 use Rattle.base.proofs.Lists.{part_length}
 use Rattle.base.proofs.Numbers.{first_nil, first_true, first_false, first_behind, none_first}
@@ -23,13 +23,13 @@ use Rattle.plan.specs.Shaped.{plan_of}
 use Rattle.layout.specs.RouteWords.{route_of}
 use Rattle.recipe.specs.Routes.{lines_for}
 use Rattle.recipe.proofs.Laws.{numbered_for}
-use Rattle.network.specs.Apart.{sender_at, taker_at}
+use Rattle.network.specs.Apart.{sender_at}
 use Rattle.tables.specs.declared.scans.MessageSlot.{MessageSlot}
 use Rattle.tables.specs.Tables.{FoundIn}
 use Rattle.summary.specs.declared.MessageLine.{MessageLine}
 use Rattle.summary.specs.Summary.{line_of}
 use Rattle.stages.proofs.Parts.{mid_is}
-use Rattle.engine.specs.Calls.{answer, recipe}
+use Rattle.engine.specs.Calls.{answer}
 use Rattle.engine.proofs.Turns.{answered_no, answered_yes}
 use Rattle.engine.proofs.Lines.{Opened, call_read}
 use Rattle.packets.specs.declared.Header.{Header}
@@ -38,7 +38,7 @@ use Rattle.packets.specs.Packet.{packet_length, encode_packet, unfit}
 use Rattle.packets.specs.Cut.{chunks_of, chunk_length, cut}
 use Rattle.packets.specs.Calls.{Written, written_of, write_call}
 use Rattle.packets.proofs.Answers.{header_from, fit_is, write_done}
-use Rattle.packets.proofs.Assembling.{begins, ends, cut_length}
+use Rattle.packets.proofs.Assembling.{ends, cut_length}
 use Rattle.packets.proofs.RoundTrip.{encode_length}
 use Rattle.wire.specs.Wire.{Label, label, headed, item_packet, Letter, letter_of, letter, packet_lines, packet_call, message_label, packet_of, send_lines}
 use Rattle.wire.specs.Wire.{sent_or, send_call}

@@ -1,7 +1,7 @@
 -- Read this.
 -- What is proved of sending and receiving together: a sent packet is received as the chunk that it is, of which crates/packets/specs/Cut says that a message's
 -- chunks give the message; whatever is refused changes nothing.
-use Rattle.core.specs.Prelude.{◌≡◌, ℕ, ◌^◌, ◌<◌, ◌≢◌, List, [], ◌∷◌, length, take, ◌==◌, slice_index}
+use Rattle.std.specs.Prelude.{◌≡◌, ℕ, ◌^◌, ◌<◌, ◌≢◌, List, [], ◌∷◌, length, take, ◌==◌, slice_index}
 use Rattle.base.specs.Tests.{not}
 use Rattle.base.specs.Lists.{Bytes}
 use Rattle.base.specs.Numbers.{Line, line, first_of}

@@ -1,7 +1,7 @@
 -- For contracts below the calls: no reader needs it.
 -- What the code below the calls is given and gives: a packet opened into 285 words, areas of their lengths, the answer past the first lines.
 -- No sentence of document 01.
-use Rattle.core.specs.Prelude.{◌≡◌, ℕ, ◌≤◌, List, length, take}
+use Rattle.std.specs.Prelude.{◌≡◌, ℕ, ◌≤◌, List, length, take}
 use Rattle.base.specs.Numbers.{first_of}
 use Rattle.machine.specs.Plan.{Plan, count, words}
 use Rattle.machine.specs.Machine.{State, Answered, answered}

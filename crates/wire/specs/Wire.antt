@@ -3,7 +3,7 @@
 -- sent out of its sender's buffer. Bytes as they came are put together at the message's taker's, and the message is taken in exactly when it is whole.
 -- The packet is that of crates/packets/specs/Packet, the chunk that of crates/packets/specs/Cut. Numbers 26 and 27 are the product's own, the others
 -- document 01's, "Numbers a call gives". At every refusal no lent word is changed.
-use Rattle.core.specs.Prelude.{ℕ, ◌*◌, Bool, List, [], ◌∷◌, ◌++◌, length, drop, ◌==◌, nat_eq, nat_lt, slice_index, slice_set}
+use Rattle.std.specs.Prelude.{ℕ, ◌*◌, Bool, List, [], ◌∷◌, ◌++◌, length, drop, ◌==◌, nat_eq, nat_lt, slice_index, slice_set}
 use Rattle.base.specs.Tests.{◌and◌, not, pick, one}
 use Rattle.base.specs.Lists.{put}
 use Rattle.base.specs.Numbers.{Line, line, first_of}
@@ -15,7 +15,7 @@ use Rattle.recipe.specs.Routes.{lines_for}
 use Rattle.engine.specs.Calls.{recipe, areas}
 use Rattle.packets.specs.declared.Header.{Header}
 use Rattle.packets.specs.Fingerprint.{fingerprint_of}
-use Rattle.packets.specs.Packet.{most_words, packet_length, encode_packet, header_of, words_of, decode_lines}
+use Rattle.packets.specs.Packet.{most_words, encode_packet, header_of, words_of, decode_lines}
 use Rattle.packets.specs.Calls.{Read}
 use Rattle.packets.specs.Cut.{most_chunks, chunks_of, chunk_of, cut, Assembly, assembly, complete, fits, placed}
 use Rattle.wire.specs.declared.PacketLine.{PacketLine}

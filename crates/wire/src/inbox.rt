@@ -1,6 +1,6 @@
 // Bytes as they came at a message's taker's: each chunk into what came of its message so far, and the message into the taker's own areas once it is whole.
 // `receive` is lent the records as words: its contract holds for every list of words that the `Flat` carries.
-ghost use Rattle.core.specs.Prelude.{◌≡◌, ℕ, List, length, nat_eq};
+ghost use Rattle.std.specs.Prelude.{◌≡◌, ℕ, List, length, nat_eq};
 ghost use Rattle.base.specs.Tests.{◌and◌};
 ghost use Rattle.base.specs.Numbers.{first_of};
 ghost use Rattle.machine.specs.Plan.{count, words};
@@ -211,7 +211,7 @@ pub fn receive(
     if !inbox_fits(nest, sizes, &lens, parts.len(), masks.len()) {
         return refusal(9);
     }
-    let n = engine::core::refusal_of_areas(
+    let n = engine::inner::refusal_of_areas(
         nest, sizes, &lens, source, memories, buffer, progress, status,
     );
     if n != 0 {

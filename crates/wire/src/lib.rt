@@ -2,7 +2,7 @@
 // bytes as they came taken in at a message's taker's. specs/Wire.antt says what the calls answer.
 #![tactic(auto)]
 
-ghost use Rattle.core.specs.Prelude.{◌≡◌, ◌≤◌, [], ◌∷◌, length};
+ghost use Rattle.std.specs.Prelude.{◌≡◌, ◌≤◌, [], ◌∷◌, length};
 ghost use Rattle.base.specs.Numbers.{first_of};
 ghost use Rattle.machine.specs.Plan.{words};
 ghost use Rattle.plan.specs.Shaped.{plan_of};
