@@ -5,7 +5,8 @@
     python3 tools/landings.py check       # compares the table with the notes and with git; status 1 where one differs
 
 Each proof is made from nothing in a worktree of its own, which goes afterwards. It takes minutes of all cores, and must be the only work of the
-machine: a row has the load at its start. Processor time is user and system time of rt and all that it started. Needs rt and git.
+machine: a row has the load at its start. Processor time is user and system time of rt and all that it started. Needs git, and in PATH the rt that these
+landings were proved with, rattle-kit-5b: today's has no `rt prove`, and does not prove sources of that time.
 """
 
 import contextlib
