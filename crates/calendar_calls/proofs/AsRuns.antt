@@ -1,6 +1,6 @@
 -- From a fresh start that gave 0 the calls with hours answer, where the hours allow it, as those without, and are refused elsewhere; so what
 -- holds of the machine's runs with hours holds of theirs.
-use Rattle.core.specs.Prelude.{◌≡◌, ℕ, ◌≤◌, true, eqb, ◌≢◌, List, length}
+use Rattle.std.specs.Prelude.{◌≡◌, ℕ, ◌≤◌, true, eqb, ◌≢◌, List, length}
 use mathlib.Core.Path.{refl, sym, ap, ◌∙◌}
 use native.Mathlib.Omega.{arith}
 use native.Mathlib.Decide.{ℕ_discrete}
@@ -25,7 +25,6 @@ use Rattle.calendar.proofs.TwoTenants as two
 use Rattle.layout.specs.RouteWords.{route_of}
 use Rattle.recipe.specs.Routes.{lines_for}
 use Rattle.engine.specs.Calls.{recipe, areas, deliver_call, collect_call}
-use Rattle.engine.proofs.Lines.{Opened}
 use Rattle.engine.proofs.AsSteps.{turn_is, deliver_is, collect_is}
 use Rattle.sharing.specs.Calls.{areas_for, deliver_call_for, call_for, sharing_calls, sharing_collects}
 use Rattle.sharing.proofs.Lines.{all_long, as_collecting}

@@ -1,5 +1,5 @@
 -- Request W-212 holds: of the definitions of the calls with hours, and of every run of them.
-use Rattle.core.specs.Prelude.{◌≡◌, ℕ, List}
+use Rattle.std.specs.Prelude.{◌≡◌, ℕ, List}
 use borrow.Author.Tests.{eq-eqb}
 use Rattle.base.proofs.Tests.{pick_true}
 use Rattle.machine.specs.Machine.{State, fresh}

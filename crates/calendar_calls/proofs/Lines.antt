@@ -1,5 +1,5 @@
 -- Laws of the lines of the calls with hours: each call by the line that counts, and when a turn with hours is the turn without.
-use Rattle.core.specs.Prelude.{◌≡◌, ℕ, ◌+◌, ◌*◌, ◌<◌, ◌≤◌, Bool, true, false, ltb, leb, ◌≢◌, List, [], ◌∷◌, ◌++◌, length}
+use Rattle.std.specs.Prelude.{◌≡◌, ℕ, ◌+◌, ◌*◌, ◌<◌, ◌≤◌, Bool, true, false, ltb, leb, ◌≢◌, List, [], ◌∷◌, ◌++◌, length}
 use mathlib.Core.Path.{refl, sym, ap, ◌∙◌}
 use native.Mathlib.Omega.{arith}
 use borrow.Author.Tests.{eqb-true, eq-eqb, ne_eqb, ltb-true, lt-ltb, le-ltb}
@@ -23,7 +23,7 @@ use Rattle.recipe.specs.Routes.{lines_for}
 use Rattle.recipe.proofs.Laws.{numbered_for, reads_for}
 use Rattle.engine.specs.Calls.{answer, recipe, areas, turn_call}
 use Rattle.engine.specs.Given.{unfit_lines, records_after}
-use Rattle.engine.specs.declared.core.Turned.{Turned}
+use Rattle.engine.specs.declared.inner.Turned.{Turned}
 use Rattle.engine.proofs.Lines.{Opened, and_right, call_read, call_later, call_done}
 use Rattle.engine.proofs.Reading as reading
 use Rattle.sharing.specs.Calls.{areas_for, turn_call_for}

@@ -1,5 +1,5 @@
 -- Plain calls and calls with hours in one list: both kinds are guarded, so their mixture is, and the claims about guarded calls hold of it.
-use Rattle.core.specs.Prelude.{◌≡◌, ℕ, ◌≤◌, List, length}
+use Rattle.std.specs.Prelude.{◌≡◌, ℕ, ◌≤◌, List, length}
 use Rattle.base.specs.Numbers.{first_of}
 use Rattle.machine.specs.Plan.{Plan, Sound}
 use Rattle.machine.specs.Machine.{Answered, fresh}

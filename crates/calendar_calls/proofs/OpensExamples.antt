@@ -1,10 +1,8 @@
 -- The minutes until row D's processors next open, computed.
-use Rattle.core.specs.Prelude.{◌≡◌, ℕ, ◌+◌, ◌%◌, ◌<◌, false}
+use Rattle.std.specs.Prelude.{◌≡◌, ℕ, ◌+◌, ◌%◌, false}
 use mathlib.Core.Path.{refl, ap, ◌∙◌}
 use Rattle.base.specs.Tests.{◌and◌, ◌or◌, not, pick, every, some, keep, those, tabulate, product}
 use Rattle.base.specs.Numbers.{first_of}
-use Rattle.machine.specs.Machine.{Answered}
-use Rattle.calendar.specs.declared.Opening.{Opening}
 use Rattle.calendar.specs.declared.Opening.TheVariants.{Never}
 use Rattle.calendar.specs.Windows.{is_window, is_faulty, covers, faulty_board, faulty_table, faulty_minute, open_at, faulty_for, first_from, until_open, week}
 use Rattle.calendar.proofs.Search.{first_none}

@@ -1,7 +1,7 @@
 -- Read this.
 -- The calls with hours, each from the recipe's bytes, the word that names its route and what is lent: its number, and what is written.
 -- Renders request W-212, and W-209's line 21, all lines in table order: line 9 covers the table of hours too, 28 words a processor; then the machine's lines.
-use Rattle.core.specs.Prelude.{ℕ, Bool, List, [], ◌∷◌, ◌++◌, length, ◌==◌, nat_lt}
+use Rattle.std.specs.Prelude.{ℕ, Bool, List, [], ◌∷◌, ◌++◌, length, ◌==◌, nat_lt}
 use Rattle.base.specs.Tests.{◌and◌, not}
 use Rattle.base.specs.Numbers.{Line, line, first_of}
 use Rattle.machine.specs.Plan.{Plan}

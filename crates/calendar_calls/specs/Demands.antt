@@ -1,7 +1,7 @@
 -- Read this.
 -- Request W-212 for a recipe's bytes and a route, made of the definitions in Calls; each call's contract equates the call with them.
 -- Renders its claims: every call is fixed; demand 3 of runs with hours, for one tenant and for two, in lists with plain turns too; what is told of opening.
-use Rattle.core.specs.Prelude.{◌≡◌, ℕ, ◌≤◌, List}
+use Rattle.std.specs.Prelude.{◌≡◌, ℕ, ◌≤◌, List}
 use Rattle.base.specs.Lists.{Bytes}
 use Rattle.machine.specs.Machine.{State, Answered, carry_out, next_action}
 use Rattle.machine.specs.AnyCalls.{mixed}

@@ -1,7 +1,7 @@
 -- For contracts below the calls: no reader needs it.
 -- What the code below the calls with hours is given: lines 25, 11 and 24, which both turns share, and each turn's lines up to the machine's.
 -- No sentence of a paper.
-use Rattle.core.specs.Prelude.{ℕ, List, [], ◌∷◌, ◌++◌, nat_le, nat_lt}
+use Rattle.std.specs.Prelude.{ℕ, List, [], ◌∷◌, ◌++◌, nat_le, nat_lt}
 use Rattle.base.specs.Tests.{◌and◌, not}
 use Rattle.base.specs.Numbers.{Line, line}
 use Rattle.machine.specs.Plan.{Plan}

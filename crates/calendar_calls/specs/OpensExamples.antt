@@ -1,6 +1,6 @@
 -- Read this. What the call for the minutes until a processor next opens gives for row D, computed: what it tells, and each number by its line.
 -- Renders document 02, W-212. Ruled out: 11 before 25, 25 before 9, a wait told at a refusal, a week that ends with the table.
-use Rattle.core.specs.Prelude.{◌≡◌, ℕ, List, [], ◌∷◌, ◌++◌, replicate}
+use Rattle.std.specs.Prelude.{◌≡◌, ℕ, List, [], ◌∷◌, ◌++◌, replicate}
 use Rattle.machine.specs.Machine.{Answered}
 use Rattle.calendar.specs.declared.Opening.{Opening}
 use Rattle.calendar.specs.declared.Opening.TheVariants.{OpensIn, Never}

@@ -2,7 +2,7 @@
 // for one of two, and the minutes until a processor next opens. `hours` is the table, 14 pairs of words a processor.
 #![tactic(auto)]
 
-ghost use Rattle.core.specs.Prelude.{◌≡◌};
+ghost use Rattle.std.specs.Prelude.{◌≡◌};
 ghost use Rattle.machine.specs.Machine.{state_of};
 ghost use Rattle.tenants.specs.Tenants.{tenant_areas};
 ghost use Rattle.calendar.specs.declared.Opening.TheVariants.{OpensIn};
@@ -10,7 +10,7 @@ ghost use Rattle.calendar.specs.Windows.{moment_of};
 ghost use Rattle.engine.specs.Calls.{answer};
 ghost use Rattle.calendar_calls.specs.Calls.{turn_call_at, turn_call_at_for, opens_call};
 
-pub mod core; // core.rt: the calls without the stores into the records
+pub mod inner; // inner.rt: the calls without the stores into the records
 pub mod windows; // windows.rt: code of the hours (W-212): faulty windows, open at a minute, minutes until a processor opens
 
 use crate::windows::minutes;
@@ -19,7 +19,7 @@ use layout::sizes_of;
 use plan::Route;
 use reader::read;
 use records::flat_of;
-use sharing::core::store_after;
+use sharing::inner::store_after;
 
 // Minutes of a week.
 pub const WEEK: u32 = 10080;
@@ -44,7 +44,7 @@ pub fn turn(
         ≡ turn_call_at encoded.now route source.now (moment_of hours.now minute)
         (state_of memories.old buffer.old progress.old status.old) processor }
 {
-    let after = core::turn(
+    let after = inner::turn(
         encoded,
         route,
         source,
@@ -82,7 +82,7 @@ pub fn turn_for(
         (tenant_areas (state_of memories.old buffer.old progress.old status.old)
         engaged.old) theirs.now processor }
 {
-    let after = core::turn_for(
+    let after = inner::turn_for(
         encoded,
         route,
         source,
@@ -134,7 +134,7 @@ pub fn opens(encoded: &[u8], hours: &[u32], minute: u32, processor: u32) -> Aske
     if hours.len() != WINDOW_WORDS * n {
         return untold(9);
     }
-    if core::faulty(hours, n, minute) {
+    if inner::faulty(hours, n, minute) {
         return untold(25);
     }
     if b >= n {

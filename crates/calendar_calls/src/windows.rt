@@ -1,6 +1,6 @@
 // Code of the hours when processors may run (W-212): whether a table has a faulty window, whether a processor is open, and the minutes until
 // it next opens. Nothing here knows a recipe.
-ghost use Rattle.core.specs.Prelude.{◌≡◌, ℕ, ◌+◌, ◌*◌, ◌%◌, ◌<◌, ◌≤◌, false, length};
+ghost use Rattle.std.specs.Prelude.{◌≡◌, ℕ, ◌+◌, ◌*◌, ◌%◌, ◌<◌, ◌≤◌, false, length};
 ghost use Rattle.calendar.specs.Windows.{week, is_faulty, covers, faulty_board, faulty_table, open_at, until_open};
 ghost use Rattle.calendar.specs.Waits.{Fair, First};
 

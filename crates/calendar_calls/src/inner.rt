@@ -1,6 +1,6 @@
-// The calls with hours, each by the first true line, but for the stores into the records, as in engine's `core` and sharing's: the records
+// The calls with hours, each by the first true line, but for the stores into the records, as in engine's `inner` and sharing's: the records
 // are read as words, and a turn gives its number and the record to be stored.
-ghost use Rattle.core.specs.Prelude.{◌≡◌, ℕ, ◌*◌, ◌≤◌, List, length};
+ghost use Rattle.std.specs.Prelude.{◌≡◌, ℕ, ◌*◌, ◌≤◌, List, length};
 ghost use Rattle.base.specs.Numbers.{first_of};
 ghost use Rattle.machine.specs.Machine.{state_of};
 ghost use Rattle.plan.specs.Shaped.{plan_of};
@@ -18,13 +18,13 @@ ghost use Rattle.calendar_calls.specs.Given.{hour_lines, away_lines, away_lines_
 use crate::windows::{faulty_table, open_at};
 use crate::{WEEK, WINDOW_WORDS};
 use base::refusals;
-use engine::core::{Turned, refusal_of_areas, refused, step};
+use engine::inner::{Turned, refusal_of_areas, refused, step};
 use layout::Sizes;
 use nest::Nest;
 use recipe::open;
 use records::Flat;
 use sharing::admission::held_by_other;
-use sharing::core::step_for;
+use sharing::inner::step_for;
 use tables::TABLE_WORDS;
 
 // Line 25: a faulty window of any of n processors, or a faulty minute.
