@@ -28,7 +28,7 @@ pub extern "C" fn rolwyddac_turn_at(
         result (areas_of memories.new buffer.new progress.new status.new) }
 {
     let flat = records::flatten(progress);
-    let after = calendar_calls::core::turn(
+    let after = calendar_calls::inner::turn(
         encoded, route, source, memories, buffer, flat, status, hours, minute, processor,
     );
     records::put(progress, after.number, processor, after.progress);
@@ -59,7 +59,7 @@ pub extern "C" fn rolwyddac_tenant_turn_at(
 {
     let own = records::flatten(progress);
     let theirs = records::flatten(other);
-    let after = calendar_calls::core::turn_for(
+    let after = calendar_calls::inner::turn_for(
         encoded, route, source, memories, buffer, own, status, engaged, theirs, hours, minute,
         tenant, processor,
     );

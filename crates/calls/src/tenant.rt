@@ -31,7 +31,7 @@ pub extern "C" fn rolwyddac_tenant_turn(
 {
     let own = records::flatten(progress);
     let theirs = records::flatten(other);
-    let after = sharing::core::turn(
+    let after = sharing::inner::turn(
         encoded, route, source, memories, buffer, own, status, engaged, theirs, tenant, processor,
     );
     records::put(progress, after.number, processor, after.progress);
@@ -60,7 +60,7 @@ pub extern "C" fn rolwyddac_tenant_deliver(
 {
     let own = records::flatten(progress);
     let theirs = records::flatten(other);
-    sharing::core::deliver(
+    sharing::inner::deliver(
         encoded, route, source, memories, buffer, own, status, engaged, theirs, tenant, message,
     )
 }
@@ -86,7 +86,7 @@ pub extern "C" fn rolwyddac_tenant_collect(
 {
     let own = records::flatten(progress);
     let theirs = records::flatten(other);
-    sharing::core::collect(
+    sharing::inner::collect(
         encoded, route, source, memories, buffer, own, status, engaged, theirs, tenant, grid,
     )
 }
@@ -119,7 +119,7 @@ pub extern "C" fn rolwyddac_fresh_both(
 {
     let first_words = 3 * first_progress.len();
     let second_words = 3 * second_progress.len();
-    let number = sharing::core::fresh(
+    let number = sharing::inner::fresh(
         encoded,
         route,
         first_source,
@@ -169,7 +169,7 @@ pub extern "C" fn rolwyddac_view(
 ) -> Viewed
     ensures { ViewGave encoded.now first.now second.now tenant processor result }
 {
-    let seen = sharing::view::core::view_at(encoded, first.len(), second.len(), tenant, processor);
+    let seen = sharing::view::inner::view_at(encoded, first.len(), second.len(), tenant, processor);
     let number = seen.number;
     if number != 0 {
         return no_view(number);
