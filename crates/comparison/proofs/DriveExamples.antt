@@ -22,9 +22,9 @@ use Rattle.plan.specs.Shaped.{shaped_slot_parcel, plan_of}
 use Rattle.plan.proofs.SmallNests.{nest}
 use Rattle.layout.specs.RouteWords.{route_of}
 use Rattle.engine.specs.Calls.{recipe}
-use Rattle.comparison.specs.drive.Drive.{in_order, turns_to, turns, deliveries_to, took, round_of, rounds_of}
+use Rattle.comparison.specs.drive.Drive.{in_order, turns_to, deliveries_to, took, round_of, rounds_of}
 use Rattle.comparison.specs.Agreement.{source_of}
-use Rattle.comparison.specs.DriveExamples.{three, two, events_of, DriveExamples}
+use Rattle.comparison.specs.DriveExamples.{two, DriveExamples}
 use lib.ListN.{replicate}
 
 nest_d : Nest

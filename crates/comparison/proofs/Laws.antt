@@ -10,7 +10,7 @@ use lib.ListN.{length, get_or, take, drop, set, length-append, length-replicate}
 use lib.Dec.{ltb}
 use lib.Seq.{ext_get_or, length-take-le, take_at, get_or-set_same, get_or-set_other}
 use borrow.Author.Tests.{eqb-true, eq-eqb, ne_eqb, lt-ltb, le-ltb, ltb-false}
-use Rattle.base.specs.Tests.{◌and◌, ◌or◌, pick}
+use Rattle.base.specs.Tests.{◌or◌, pick}
 use Rattle.base.specs.Alike.{same_words}
 use Rattle.base.specs.Numbers.{first_of}
 use Rattle.base.proofs.Alike.{same_self}

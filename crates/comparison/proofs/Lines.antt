@@ -1,11 +1,11 @@
 -- Laws of the second program's lines: each step of the code over plain variables; and that no recipe within the limits differs.
-use Prim.Native.Nat.{ℕ, zero, suc, ◌+◌, ◌*◌, ◌≤◌, ◌<◌}
+use Prim.Native.Nat.{ℕ, zero, suc, ◌*◌, ◌≤◌, ◌<◌}
 use mathlib.Core.Path.{◌≡◌, refl, sym, ap, ◌∙◌}
 use mathlib.Core.Logic.{◌≢◌}
 use mathlib.Core.Bool.{Bool, true, false}
-use mathlib.Core.List.{List, [], ◌∷◌, ◌++◌}
+use mathlib.Core.List.{List, ◌∷◌, ◌++◌}
 use native.Mathlib.Omega.{arith}
-use lib.ListN.{length, take, drop, replicate, length-replicate}
+use lib.ListN.{length, take, drop, length-replicate}
 use borrow.Author.Tests.{lt-ltb, le-ltb}
 use Rattle.base.specs.Lists.{Bytes}
 use Rattle.base.specs.Tests.{pick}
@@ -14,7 +14,7 @@ use Rattle.base.proofs.Tests.{pick_true, pick_false}
 use Rattle.text.specs.Writing.{Pen, write}
 use Rattle.text.proofs.Pens.{next}
 use Rattle.machine.specs.Plan.{Plan, count, words}
-use Rattle.machine.specs.Machine.{State, state_of}
+use Rattle.machine.specs.Machine.{state_of}
 use Rattle.machine.specs.Runs.{total}
 use Rattle.nest.specs.declared.Reading.{Reading}
 use Rattle.nest.specs.Nest.{cells, processors}
@@ -28,7 +28,7 @@ use Rattle.plan_text.specs.PlanText.{refused_text}
 use Rattle.comparison.specs.declared.Extent.{Extent}
 use Rattle.comparison.specs.Agreement.{is_beyond, source_of, Outcome, ran_and_compared, Within}
 use Rattle.comparison.specs.Lines.{agree_line, differ_line, beyond_line, verdict_line, zeros, blank}
-use Rattle.comparison.specs.Lines.{turn_order, plan_agrees, agrees_for, four_lines, compared_if, comparison_text, NeverDiffers}
+use Rattle.comparison.specs.Lines.{plan_agrees, agrees_for, four_lines, compared_if, comparison_text, NeverDiffers}
 use Rattle.comparison.proofs.Laws.{not_beyond, processors_low, messages_low, words_low, low_within, cells_room, counted, back_is}
 use Rattle.comparison.proofs.Laws.{order_of, starts, source_long, never_differs}
 

@@ -8,7 +8,7 @@ use native.Mathlib.Omega.{arith}
 use lib.ListN.{length, length-append}
 use lib.Dec.{eqb}
 use borrow.Author.Tests.{eq-eqb, eqb-true}
-use Rattle.base.specs.Tests.{◌and◌, pick, keep, keep_if, those, sum}
+use Rattle.base.specs.Tests.{pick, keep, keep_if, those, sum}
 use Rattle.base.proofs.Tests.{both, never_both, pick_true, sum_most, sum_same, sum_const}
 use Rattle.base.proofs.Select.{sum_those}
 use Rattle.machine.specs.Plan.{count, words}

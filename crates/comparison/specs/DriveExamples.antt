@@ -1,7 +1,7 @@
 -- Read this. The second program's two sources and its two orders of turns, computed as lists; and all events of row D in either order.
 -- Renders document 01, "Recipes to be met": every word 1, or each word its cell's number plus 1; turns in rising, then in falling order, mail when none can be
 -- taken. Ruled out: a second source that counts from 0, turns of one order in both, deliveries while a turn can be taken.
-use Rattle.std.specs.Prelude.{ℕ, ◌≡◌, Bool, true, false, List, [], ◌∷◌}
+use Rattle.std.specs.Prelude.{◌≡◌, Bool, true, false, List, [], ◌∷◌}
 use Rattle.machine.specs.Machine.{fresh}
 use Rattle.machine.specs.Runs.{Event, turn_of, delivery_of, act}
 use Rattle.nest.specs.Recipes.{row_d}

@@ -12,13 +12,13 @@ use Rattle.nest.specs.declared.Nest.{Nest}
 use Rattle.nest.specs.Nest.{tile_count, cells, processors, box_tiles}
 use Rattle.nest.specs.Reader.{of_kind, filled, nest_by, nest_of, ragged, blank, checked, may_stand, fits_at, well_formed, stray_record, no_length, bad_length}
 use Rattle.nest.specs.Reader.{too_large, needlessly_wide, same, beyond, faulty, bad_distance, reached, bad_tile, bad_spread, last_spread, bad_processors}
-use Rattle.nest.specs.Reader.{too_many_tiles, nest_lines, read_lines}
+use Rattle.nest.specs.Reader.{too_many_tiles, read_lines}
 use Rattle.nest.specs.Places.{rank, place, cell_at, cell_place, tile_at, tile_place, box_tile_of}
-use Rattle.plan.specs.Geometry.{cells_of, processor_of, inside, has_read, read_at, reads_of, value}
+use Rattle.plan.specs.Geometry.{processor_of, inside, has_read, read_at, value}
 use Rattle.plan.specs.declared.Route.TheVariants.{Direct}
 use Rattle.plan.specs.Messages.{directions, ahead, reaches, crosses, parcel, taker, slot_cells, slot_taker, at_home, slot_parcel, messages_to, box_plan}
 use Rattle.plan.specs.Shaped.{plan_of}
-use Rattle.conformance.specs.Examples.{accepted, figures, figures_if, message_line, lines_to, lines_of}
+use Rattle.conformance.specs.Examples.{accepted, figures, figures_if, message_line, lines_to}
 use Rattle.nest.proofs.Quick.{quick}
 use Rattle.plan.proofs.ShapedBox.{recipe_box}
 use Rattle.engine.proofs.Demands.{demands}

@@ -1,7 +1,6 @@
 -- The run, then the comparison of what it left.
 use Rattle.machine.specs.Machine.{state_of}
 use Rattle.comparison.proofs.Laws as laws
-use borrow.Author.Rules.{rules}
 use Rattle.comparison.proofs.agrees.Goals as goal
 
 pub returns : goal.returns

@@ -1,7 +1,6 @@
 -- Both calls' answers, and the comparison of what they left.
 use Rattle.machine.specs.Machine.{state_of}
 use Rattle.comparison.proofs.Laws as laws
-use borrow.Author.Rules.{rules}
 use Rattle.comparison.proofs.compare.Goals as goal
 
 pub returns-then-collecting-ne0 : goal.returns-then-collecting-ne0

@@ -22,7 +22,7 @@ use Rattle.machine.proofs.RunLaws.{after_append, steps_append, after_one}
 use Rattle.comparison.specs.drive.Drive.{in_order, turns_to, turns, deliveries_to, took, round_of, rounds_of, Tried, Delivered, Driven}
 use Rattle.comparison.specs.declared.drive.Order.{Order}
 use Rattle.comparison.proofs.drive.Passes.{took_one, took_none}
-use Rattle.comparison.proofs.drive.Whole.{refuses, delivery_low, ended}
+use Rattle.comparison.proofs.drive.Whole.{delivery_low, ended}
 
 -- ---- the order
 

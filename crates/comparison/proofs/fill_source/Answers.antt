@@ -1,10 +1,6 @@
 -- The words so far are the source's.
 use borrow.Author.Rules.{rules}
-use mathlib.Core.Path.{◌≡◌}
 use native.Mathlib.Omega.{arith}
-use lib.ListN.{length, get_or}
-use Prim.Native.Nat.{ℕ, ◌+◌, ◌-◌, ◌<◌}
-use Rattle.base.specs.Tests.{pick}
 use Rattle.comparison.proofs.Laws as laws
 use Rattle.comparison.proofs.fill_source.Goals as goal
 
@@ -18,8 +14,7 @@ pub overflow_cast-c : goal.overflow_cast-c
 overflow_cast-c c = omega (arith, c.loop-c.invariant.0, c.loop-c-test.true, c.requires)
 
 pub loop-c-preserved : goal.loop-c-preserved
-loop-c-preserved c =
-    (
+loop-c-preserved c = (
   search rules,
   laws.source_next c.args.counting c.loop-c.source c.loop-c.c _
       c.loop-c-test.true c.loop-c.invariant.1 c.source_word.ensures,

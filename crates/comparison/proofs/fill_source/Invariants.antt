@@ -1,11 +1,8 @@
 -- The words so far are the source's.
-use borrow.Author.Rules.{rules}
 use mathlib.Core.Path.{◌≡◌}
-use native.Mathlib.Omega.{arith}
 use lib.ListN.{length, get_or}
 use Prim.Native.Nat.{ℕ, ◌+◌, ◌-◌, ◌<◌}
 use Rattle.base.specs.Tests.{pick}
-use Rattle.comparison.proofs.Laws as laws
 use Rattle.comparison.proofs.fill_source.Given as goal
 
 abbrev pub invariant-loop-c : goal.invariant-loop-c

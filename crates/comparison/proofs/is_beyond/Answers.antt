@@ -1,7 +1,6 @@
 -- The two limits.
 use Rattle.comparison.proofs.Laws as laws
 use native.Mathlib.Omega.{arith}
-use borrow.Author.Rules.{rules}
 use Rattle.comparison.proofs.is_beyond.Goals as goal
 
 pub returns-then-cells-gt1024 : goal.returns-then-cells-gt1024

@@ -1,7 +1,6 @@
 -- `comparison::print` meets its contract.
 use Prim.Native.Nat.{ℕ}
 use lib.ListN.{length-replicate}
-use borrow.Author.Rules.{rules}
 use Rattle.comparison.proofs.print.Goals as goal
 
 pub print_by-requires : goal.print_by-requires

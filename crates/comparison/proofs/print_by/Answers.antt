@@ -1,7 +1,6 @@
 -- `comparison::print_by` meets its contract.
 use Rattle.plan_text.proofs.Laws.{counted}
 use native.Mathlib.Omega.{arith}
-use borrow.Author.Rules.{rules}
 use Rattle.comparison.proofs.print_by.Goals as goal
 
 pub slice_bounds-write_all-end-2 : goal.slice_bounds-write_all-end-2

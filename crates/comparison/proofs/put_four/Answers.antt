@@ -2,7 +2,6 @@
 use native.Mathlib.Omega.{arith}
 use Rattle.comparison.proofs.Lines as L
 use Rattle.text.specs.Writing.{pen}
-use borrow.Author.Rules.{rules}
 use Rattle.comparison.proofs.put_four.Goals as goal
 
 pub put_verdict-a-requires : goal.put_verdict-a-requires
@@ -19,11 +18,14 @@ put_verdict-requires c = (omega (arith, c.put_verdict-c.ensures.upper_bound, c.p
 
 pub returns : goal.returns
 returns c =
-    record { space_after = L.four_put c.args.encoded.now (pen 0 c.args.space.now) _ _ _ _ c.put_verdict-a.ensures.space_after
-          c.put_verdict-b.ensures.space_after c.put_verdict-c.ensures.space_after c.put_verdict.ensures.space_after; upper_bound = omega (
+    record {
+      space_after = L.four_put c.args.encoded.now (pen 0 c.args.space.now) _ _ _ _ c.put_verdict-a.ensures.space_after
+          c.put_verdict-b.ensures.space_after c.put_verdict-c.ensures.space_after c.put_verdict.ensures.space_after;
+      upper_bound = omega (
         arith,
         c.put_verdict-a.ensures.upper_bound,
         c.put_verdict-b.ensures.upper_bound,
         c.put_verdict-c.ensures.upper_bound,
         c.put_verdict.ensures.upper_bound,
-      ) }
+      );
+    }

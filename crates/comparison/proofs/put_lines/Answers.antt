@@ -5,7 +5,6 @@ use Rattle.plan_text.proofs.Laws.{at_end_lem}
 use Rattle.comparison.proofs.Lines as L
 use Rattle.comparison.proofs.Laws as laws
 use Rattle.text.specs.Writing.{pen}
-use borrow.Author.Rules.{rules}
 use Rattle.comparison.proofs.put_lines.Goals as goal
 
 pub returns-then-encoded-gt512 : goal.returns-then-encoded-gt512
@@ -18,8 +17,11 @@ pub returns-then-number-ne0 : goal.returns-then-number-ne0
 returns-then-number-ne0 c =
     let wrote = c.put_refused-then-number-ne0 in
     let read = c.read-reading in
-    let short = c.if-encoded-gt512.false in record { space_after = L.refused_put c.args.encoded.now _ (pen 0 c.args.space.now) short read.result read.ensures.value c.if-number-ne0.true
-          wrote.ensures.space_after; upper_bound = omega (arith, wrote.ensures.upper_bound) }
+    let short = c.if-encoded-gt512.false in record {
+      space_after = L.refused_put c.args.encoded.now _ (pen 0 c.args.space.now) short read.result read.ensures.value c.if-number-ne0.true
+          wrote.ensures.space_after;
+      upper_bound = omega (arith, wrote.ensures.upper_bound);
+    }
 
 pub sizes_of-sizes-requires : goal.sizes_of-sizes-requires
 sizes_of-sizes-requires c =
@@ -35,8 +37,11 @@ returns-then-is_beyond c =
     let accepted = c.if-number-ne0.false in
     let read = c.read-reading in
     let short = c.if-encoded-gt512.false in
-    let wrote = c.put_bytes.ensures in record { space_after = L.beyond_put c.args.encoded.now _ (pen 0 c.args.space.now) short read.result read.ensures.value accepted sizes.result
-          sizes.ensures.0 first.result second.result first.ensures second.ensures beyond.result beyond.ensures c.if-is_beyond.true wrote; upper_bound = omega (arith, at_end_lem (pen 0 c.args.space.now) _ _ wrote) }
+    let wrote = c.put_bytes.ensures in record {
+      space_after = L.beyond_put c.args.encoded.now _ (pen 0 c.args.space.now) short read.result read.ensures.value accepted sizes.result
+          sizes.ensures.0 first.result second.result first.ensures second.ensures beyond.result beyond.ensures c.if-is_beyond.true wrote;
+      upper_bound = omega (arith, at_end_lem (pen 0 c.args.space.now) _ _ wrote);
+    }
 
 pub put_four-requires : goal.put_four-requires
 put_four-requires c =
@@ -60,6 +65,9 @@ returns c =
     let accepted = c.if-number-ne0.false in
     let read = c.read-reading in
     let short = c.if-encoded-gt512.false in
-    let wrote = c.put_four in record { space_after = L.lines_put c.args.encoded.now _ (pen 0 c.args.space.now) short read.result read.ensures.value accepted sizes.result
+    let wrote = c.put_four in record {
+      space_after = L.lines_put c.args.encoded.now _ (pen 0 c.args.space.now) short read.result read.ensures.value accepted sizes.result
           sizes.ensures.0 first.result second.result first.ensures second.ensures beyond.result beyond.ensures c.if-is_beyond.false
-          wrote.ensures.space_after; upper_bound = wrote.ensures.upper_bound }
+          wrote.ensures.space_after;
+      upper_bound = wrote.ensures.upper_bound;
+    }

@@ -3,7 +3,6 @@ use Rattle.plan_text.proofs.Laws.{at_end_lem}
 use Rattle.comparison.proofs.Lines as L
 use native.Mathlib.Omega.{arith}
 use Rattle.text.specs.Writing.{pen}
-use borrow.Author.Rules.{rules}
 use Rattle.comparison.proofs.put_verdict.Goals as goal
 
 pub verdict-requires : goal.verdict-requires

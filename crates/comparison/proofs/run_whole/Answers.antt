@@ -1,7 +1,6 @@
 -- A fresh start, and the drive from what it left.
 use Rattle.machine.specs.Machine.{state_of}
 use Rattle.comparison.proofs.Laws as laws
-use borrow.Author.Rules.{rules}
 use Rattle.comparison.proofs.run_whole.Goals as goal
 
 pub returns : goal.returns

@@ -6,7 +6,6 @@ use Rattle.base.specs.Lists.{Bytes}
 use Rattle.comparison.specs.Lines.{zeros}
 use Rattle.comparison.proofs.Lines as L
 use Rattle.comparison.proofs.Laws as laws
-use borrow.Author.Rules.{rules}
 use Rattle.comparison.proofs.verdict.Goals as goal
 
 pub slice_bounds-source-end : goal.slice_bounds-source-end

@@ -1,13 +1,10 @@
 -- After each delivery: the pass so far.
-use borrow.Author.Rules.{rules}
 use mathlib.Core.Path.{◌≡◌}
-use native.Mathlib.Omega.{arith}
 use Prim.Native.Nat.{◌-◌, ◌≤◌}
 use lib.ListN.{length}
 use Rattle.machine.specs.Machine.{state_of}
 use Rattle.engine.specs.Demands.{calls}
 use Rattle.comparison.specs.drive.Drive.{deliveries_to, Tried}
-use Rattle.comparison.proofs.drive.Steps as steps
 use Rattle.comparison.proofs.drive.deliver_each.Given as goal
 
 abbrev pub invariant-loop-message : goal.invariant-loop-message

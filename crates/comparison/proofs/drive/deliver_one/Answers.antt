@@ -1,5 +1,4 @@
 -- A message that is not in flight would be refused.
-use borrow.Author.Rules.{rules}
 use mathlib.Core.Path.{sym, ◌∙◌}
 use Rattle.machine.specs.Machine.{state_of}
 use Rattle.comparison.proofs.drive.Steps as steps

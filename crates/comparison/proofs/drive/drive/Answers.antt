@@ -1,8 +1,7 @@
 -- The rounds left from the state reached give what all the rounds give.
 use borrow.Author.Rules.{rules}
-use mathlib.Core.Path.{◌≡◌, refl}
+use mathlib.Core.Path.{refl}
 use native.Mathlib.Omega.{arith}
-use lib.ListN.{length}
 use Rattle.machine.specs.Machine.{state_of}
 use Rattle.comparison.proofs.drive.Steps as laws
 use Rattle.comparison.proofs.drive.drive.Goals as goal

@@ -1,7 +1,5 @@
 -- The rounds left from the state reached give what all the rounds give.
-use borrow.Author.Rules.{rules}
-use mathlib.Core.Path.{◌≡◌, refl}
-use native.Mathlib.Omega.{arith}
+use mathlib.Core.Path.{◌≡◌}
 use lib.ListN.{length}
 use Rattle.machine.specs.Machine.{state_of}
 use Rattle.comparison.proofs.drive.Steps as laws

@@ -1,5 +1,4 @@
 -- Beyond the last message there is none in flight.
-use borrow.Author.Rules.{rules}
 use mathlib.Core.Path.{sym, ap}
 use lib.ListN.{get_or-eq_default}
 use lib.Dec.{eqb}

@@ -1,5 +1,4 @@
 -- The place in the order, by which the processors take turns.
-use borrow.Author.Rules.{rules}
 use mathlib.Core.Path.{sym, ◌∙◌, ap}
 use mathlib.Core.Bool.{Bool}
 use Rattle.comparison.specs.drive.Drive.{in_order}

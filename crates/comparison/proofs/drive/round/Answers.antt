@@ -1,5 +1,4 @@
 -- The turns; where none was taken, the deliveries behind them.
-use borrow.Author.Rules.{rules}
 use Rattle.machine.specs.Machine.{state_of}
 use Rattle.comparison.proofs.drive.Steps as steps
 use Rattle.comparison.proofs.drive.round.Goals as goal

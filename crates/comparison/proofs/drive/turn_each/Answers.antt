@@ -1,12 +1,7 @@
 -- After each turn: the pass so far.
 use borrow.Author.Rules.{rules}
-use mathlib.Core.Path.{◌≡◌}
 use native.Mathlib.Omega.{arith}
-use Prim.Native.Nat.{◌-◌, ◌≤◌}
-use lib.ListN.{length}
 use Rattle.machine.specs.Machine.{state_of}
-use Rattle.engine.specs.Demands.{calls}
-use Rattle.comparison.specs.drive.Drive.{turns_to, Tried}
 use Rattle.comparison.proofs.drive.Steps as steps
 use Rattle.comparison.proofs.drive.turn_each.Goals as goal
 
@@ -22,8 +17,7 @@ loop-place-init c =
     )
 
 pub loop-place-preserved : goal.loop-place-preserved
-loop-place-preserved c =
-    (
+loop-place-preserved c = (
   search rules,
   (let at_turn = c in
       let at-in-order = at_turn in
