@@ -41,7 +41,7 @@ use Rattle.summary.specs.Summary.{as_figures, figures_of, no_figures, summary_of
 use Rattle.summary.specs.Summary.{no_hops, hops_if, hops_of}
 use Rattle.summary.proofs.Answers.{directed}
 use Rattle.summary.proofs.HopsTold.{hops_told}
-use Rattle.engine.specs.Calls.{answer, recipe, fresh_call, turn_call, deliver_call, collect_call, sweep_call_lines, sweep_call}
+use Rattle.engine.specs.Calls.{answer, recipe, fresh_call, turn_call, deliver_call, collect_call, sweep_call}
 use Rattle.engine.specs.Demands.{Fixed, Demand1, Demand2, calls, Demands}
 use Rattle.engine.proofs.Begins.{begins}
 use Rattle.engine.proofs.Lines.{areas_are}

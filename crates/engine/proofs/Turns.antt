@@ -1,5 +1,5 @@
 -- Laws of answers, and of the machine's turn by the stage.
-use Rattle.std.specs.Prelude.{◌≡◌, ℕ, zero, suc, ◌*◌, ◌<◌, ◌≤◌, Bool, true, false, eqb, ltb, ◌≢◌, List, [], ◌∷◌, length, get_or}
+use Rattle.std.specs.Prelude.{◌≡◌, ℕ, zero, suc, ◌<◌, ◌≤◌, Bool, true, false, eqb, ltb, ◌≢◌, List, [], ◌∷◌, length, get_or}
 use mathlib.Core.Path.{refl, sym, ap, ◌∙◌}
 use native.Mathlib.Omega.{arith}
 use native.Mathlib.Decide.{ℕ_discrete}
@@ -10,7 +10,7 @@ use Rattle.base.specs.Numbers.{line, first_of}
 use Rattle.base.proofs.Tests.{both, and_true, and_false, and_no, not-true, not-false, pick_true, pick_false, every_at}
 use Rattle.base.proofs.Numbers.{first_true, first_false}
 use Rattle.machine.specs.Plan.{Plan, tiles_of, sends_of, dues_of}
-use Rattle.machine.specs.Machine.{State, state_of, finished_of, stage_of, sent_of, tiles_left, current_tile, fit_record, fit, gather, calculate, send, carry_out}
+use Rattle.machine.specs.Machine.{State, finished_of, stage_of, sent_of, tiles_left, current_tile, fit_record, fit, gather, calculate, send, carry_out}
 use Rattle.machine.specs.Machine.{action_at, next_action, answered, waiting, turn_lines, turn}
 use Rattle.engine.specs.Calls.{answer}
 

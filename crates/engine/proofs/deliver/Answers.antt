@@ -1,4 +1,3 @@
-use borrow.Author.Rules.{rules}
 use Rattle.engine.proofs.deliver.Goals as goal
 
 pub returns : goal.returns

@@ -1,6 +1,5 @@
 -- Each return is the call by the line that counts.
 use mathlib.Core.Path.{refl, sym, ◌∙◌}
-use borrow.Author.Rules.{rules}
 use Rattle.nest.proofs.Answers.{accepted_read}
 use Rattle.plan.specs.declared.Route.TheVariants.{Direct}
 use Rattle.plan.specs.Shaped.{plan_of}
@@ -21,44 +20,40 @@ returns-then-source-sizes c =
     let read = c.read-reading in
     let if1 = c.if-number-ne0 in
     let sizes-of = c.sizes_of-sizes in
-    let if2 = c.if-source-sizes in
     let A = c.args in
     lines.sweep_source A.encoded.now A.source.now A.grid.now (plan_of Direct read.result.nest) (lines.opened_direct A.encoded.now
-    read.result read.ensures.value if1.false refl) (λ q. if2.true (q ∙ sym sizes-of.ensures.0.cells))
+    read.result read.ensures.value if1.false refl) (λ q. c.if-source-sizes.true (q ∙ sym sizes-of.ensures.0.cells))
 
 pub returns-then-grid-sizes : goal.returns-then-grid-sizes
 returns-then-grid-sizes c =
     let read = c.read-reading in
     let if1 = c.if-number-ne0 in
     let sizes-of = c.sizes_of-sizes in
-    let if3 = c.if-grid-sizes in
     let A = c.args in
     lines.sweep_grid A.encoded.now A.source.now A.grid.now (plan_of Direct read.result.nest) (lines.opened_direct A.encoded.now
-    read.result read.ensures.value if1.false refl) (λ q. if3.true (q ∙ sym sizes-of.ensures.0.cells))
+    read.result read.ensures.value if1.false refl) (λ q. c.if-grid-sizes.true (q ∙ sym sizes-of.ensures.0.cells))
 
 pub returns-then-nest-eq0 : goal.returns-then-nest-eq0
 returns-then-nest-eq0 c =
     let read = c.read-reading in
     let if1 = c.if-number-ne0 in
     let sizes-of = c.sizes_of-sizes in
-    let if2 = c.if-source-sizes in
-    let if3 = c.if-grid-sizes in
     let sweep = c.sweep in
     let if4 = c.if-nest-eq0 in
     let A = c.args in
+    let box-source = c.if-source-sizes.false ∙ sizes-of.ensures.0.cells in
+    let box-grid = c.if-grid-sizes.false ∙ sizes-of.ensures.0.cells in
     lines.sweep_done A.encoded.now A.source.now A.grid.now (plan_of Direct read.result.nest) (lines.opened_direct A.encoded.now
-    read.result read.ensures.value if1.false refl) sweep.new.grid (if2.false ∙ sizes-of.ensures.0.cells) (if3.false
-    ∙ sizes-of.ensures.0.cells) (lines.box_swept read.result.nest sizes-of.ensures.0.accepted if4.true _ _ sweep.ensures)
+    read.result read.ensures.value if1.false refl) sweep.new.grid box-source box-grid (lines.box_swept read.result.nest sizes-of.ensures.0.accepted if4.true _ _ sweep.ensures)
 
 pub returns : goal.returns
 returns c =
     let read = c.read-reading in
     let if1 = c.if-number-ne0 in
     let sizes-of = c.sizes_of-sizes in
-    let if2 = c.if-source-sizes in
-    let if3 = c.if-grid-sizes in
     let sweep2 = c.sweep-2 in
     let A = c.args in
+    let shape-source = c.if-source-sizes.false ∙ sizes-of.ensures.0.cells in
+    let shape-grid = c.if-grid-sizes.false ∙ sizes-of.ensures.0.cells in
     lines.sweep_done A.encoded.now A.source.now A.grid.now (plan_of Direct read.result.nest) (lines.opened_direct A.encoded.now
-    read.result read.ensures.value if1.false refl) sweep2.new.grid (if2.false ∙ sizes-of.ensures.0.cells) (if3.false
-    ∙ sizes-of.ensures.0.cells) sweep2.ensures
+    read.result read.ensures.value if1.false refl) sweep2.new.grid shape-source shape-grid sweep2.ensures

@@ -1,7 +1,6 @@
 use mathlib.Core.Path.{refl, sym, ap, ◌∙◌}
 use Rattle.machine.specs.Machine.{State, state_of, Answered}
 use Rattle.engine.proofs.Reading as reading
-use borrow.Author.Rules.{rules}
 use Rattle.engine.proofs.turn.Goals as goal
 
 pub flat_of-requires : goal.flat_of-requires

@@ -5,7 +5,6 @@ use Rattle.std.specs.Prelude.{eqb, length}
 use Rattle.machine.specs.Machine.{state_of}
 use Rattle.plan.specs.Shaped.{plan_of}
 use Rattle.engine.proofs.Lines as lines
-use borrow.Author.Rules.{rules}
 use Rattle.engine.proofs.inner.areas_fit.Goals as goal
 
 pub returns-then-source-cells : goal.returns-then-source-cells

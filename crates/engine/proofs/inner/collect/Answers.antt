@@ -6,7 +6,6 @@ use Rattle.machine.specs.Machine.{state_of}
 use Rattle.plan.specs.Shaped.{plan_of}
 use Rattle.engine.proofs.Lines as lines
 use Rattle.engine.proofs.Reading as reading
-use borrow.Author.Rules.{rules}
 use Rattle.engine.proofs.inner.collect.Goals as goal
 
 pub open-opening-requires : goal.open-opening-requires
@@ -108,13 +107,16 @@ copy_cells-requires c =
     let A = c.args in
     let p = plan_of opens.result.sizes.route opens.result.nest in
     let few = reading.few_words _ _ planned.0 A.progress.count (refusal-of-areas.ensures.1 if3.false) in
-    let l = take (A.progress.count - 0) (drop 0 A.progress.words) in record { sized = (planned.0, planned.1.routed); memories_len = (
+    let l = take (A.progress.count - 0) (drop 0 A.progress.words) in record {
+      sized = (planned.0, planned.1.routed);
+      memories_len = (
         (lines.areas_are p A.source.now (state_of A.memories.now A.buffer.now l A.status.now) (lines.unfit_none p A.source.now
             (state_of A.memories.now A.buffer.now l A.status.now) refusal-of-areas.result
             (refusal-of-areas.ensures.0 l (reading.part_carries A.progress c.requires few))
             if3.false).0).memories,
         if2.false ∙ planned.0.cells,
-      ) }
+      );
+    }
 
 pub returns : goal.returns
 returns c =

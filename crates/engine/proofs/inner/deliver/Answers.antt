@@ -3,7 +3,6 @@ use mathlib.Core.Path.{refl}
 use Rattle.machine.specs.Machine.{state_of}
 use Rattle.plan.specs.Shaped.{plan_of}
 use Rattle.engine.proofs.Lines as lines
-use borrow.Author.Rules.{rules}
 use Rattle.engine.proofs.inner.deliver.Goals as goal
 
 pub open-opening-requires : goal.open-opening-requires

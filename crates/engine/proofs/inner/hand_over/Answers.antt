@@ -1,5 +1,4 @@
 -- Each return is the delivery by the line that counts.
-use borrow.Author.Rules.{rules}
 use Rattle.engine.proofs.Lines as lines
 use Rattle.engine.proofs.inner.hand_over.Goals as goal
 

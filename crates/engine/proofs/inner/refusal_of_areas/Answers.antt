@@ -1,12 +1,10 @@
 use mathlib.Core.Path.{sym, ◌∙◌}
 use Rattle.std.specs.Prelude.{◌-◌, take, drop}
 use native.Mathlib.Omega.{arith}
-use borrow.Author.Tests.{not-true, not-false}
 use Rattle.machine.specs.Machine.{state_of}
 use Rattle.plan.specs.Shaped.{plan_of}
 use Rattle.engine.proofs.Lines as lines
 use Rattle.engine.proofs.Reading as reading
-use borrow.Author.Rules.{rules}
 use Rattle.engine.proofs.inner.refusal_of_areas.Goals as goal
 
 pub returns-then-not-areas_fit : goal.returns-then-not-areas_fit

@@ -2,14 +2,12 @@
 use Rattle.std.specs.Prelude.{◌≡◌, ℕ, ◌*◌, ◌<◌, length, get_or}
 use mathlib.Core.Path.{refl, ap, ◌∙◌}
 use native.Mathlib.Omega.{arith}
-use borrow.Author.Tests.{not-true, not-false}
 use Rattle.machine.specs.Plan.{tiles_of}
 use Rattle.machine.specs.Machine.{state_of}
 use Rattle.plan.specs.Shaped.{plan_of}
 use Rattle.stages.specs.Progress.{set_record}
 use Rattle.engine.proofs.Turns as turns
 use Rattle.engine.proofs.Reading as reading
-use borrow.Author.Rules.{rules}
 use Rattle.engine.proofs.inner.step.Goals as goal
 
 pub refused-requires : goal.refused-requires

@@ -8,7 +8,6 @@ use Rattle.engine.specs.Calls.{answer, turn_call}
 use Rattle.engine.specs.Given.{records_after}
 use Rattle.engine.proofs.Lines as lines
 use Rattle.engine.proofs.Reading as reading
-use borrow.Author.Rules.{rules}
 use Rattle.engine.proofs.inner.turn.Goals as goal
 
 pub open-opening-requires : goal.open-opening-requires
@@ -106,12 +105,15 @@ step-requires c =
     let A = c.args in
     let p = plan_of opens.result.sizes.route opens.result.nest in
     let few = reading.few_words _ _ planned.0 A.progress.count (refusal-of-areas.ensures.1 if2.false) in
-    let l = take (A.progress.count - 0) (drop 0 A.progress.words) in record { sized = planned; may_turn = lines.passed p A.source.now (state_of A.memories.now A.buffer.now l A.status.now) A.processor
+    let l = take (A.progress.count - 0) (drop 0 A.progress.words) in record {
+      sized = planned;
+      may_turn = lines.passed p A.source.now (state_of A.memories.now A.buffer.now l A.status.now) A.processor
           refusal-of-areas.result (refusal-of-areas.ensures.0 l (reading.part_carries A.progress c.requires few)) if2.false (omega (
             arith,
             planned.0.processors,
             if3.false,
-          )) }
+          ));
+    }
 
 pub shape_of-memories : goal.shape_of-memories
 shape_of-memories c = c.step.auto.memories
