@@ -1,5 +1,5 @@
 -- The row, computed on the nest of its recipe.
-use Rattle.core.specs.Prelude.{◌≡◌, [], ◌∷◌}
+use Rattle.std.specs.Prelude.{◌≡◌, [], ◌∷◌}
 use mathlib.Core.Path.{refl, ap, ◌∙◌}
 use Rattle.base.specs.Tests.{◌and◌, ◌or◌, not, pick, every, some, keep, those, product, sum}
 use Rattle.base.specs.Lists.{member, sublist, put, set_all, all_at, unpack, pack, store_all}

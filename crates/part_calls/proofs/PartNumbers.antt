@@ -1,5 +1,5 @@
 -- The numbers of the rows, computed on the nest of row D.
-use Rattle.core.specs.Prelude.{◌≡◌, ℕ, ◌*◌, eqb, ltb, List, [], ◌∷◌, ◌++◌, length, get_or}
+use Rattle.std.specs.Prelude.{◌≡◌, ℕ, ◌*◌, eqb, ltb, List, [], ◌∷◌, ◌++◌, length, get_or}
 use mathlib.Core.Path.{refl, ap, ◌∙◌}
 use mathlib.Core.List.{append_assoc}
 use Rattle.base.specs.Tests.{◌and◌, ◌or◌, not, pick, every, some, keep, those, tabulate, product}

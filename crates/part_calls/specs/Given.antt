@@ -1,7 +1,7 @@
 -- For contracts below the calls: no reader needs it.
 -- What the code below the calls for one processor gives past their first lines: a fresh start, a message handed over or arrived, cells collected, rows.
 -- No sentence of document 01.
-use Rattle.core.specs.Prelude.{◌≡◌, ℕ, ◌*◌, ◌<◌, ◌≤◌, true, List, [], ◌∷◌, length, ◌==◌, nat_lt, slice_index, slice_set}
+use Rattle.std.specs.Prelude.{◌≡◌, ℕ, ◌*◌, ◌<◌, ◌≤◌, true, List, [], ◌∷◌, length, ◌==◌, nat_lt, slice_index, slice_set}
 use Rattle.base.specs.Tests.{◌and◌, not, pick}
 use Rattle.base.specs.Lists.{put}
 use Rattle.base.specs.Numbers.{Line, line, first_of}

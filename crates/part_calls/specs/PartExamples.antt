@@ -1,7 +1,7 @@
 -- Read this.
 -- Row D of document 01's table by the calls for one processor, computed: how long the areas are, a message's row, and the second processor's two turns.
 -- Renders "Recipes to be met" and "The machine" for a board that is lent its own part alone.
-use Rattle.core.specs.Prelude.{◌≡◌, ℕ, [], ◌∷◌}
+use Rattle.std.specs.Prelude.{◌≡◌, ℕ, [], ◌∷◌}
 use Rattle.base.specs.Numbers.{first_of}
 use Rattle.machine.specs.Machine.{State, state_of, turn_lines}
 use Rattle.nest.specs.Recipes.{row_d}

@@ -1,7 +1,7 @@
 -- Read this. The numbers that the calls for one processor give for row D, computed: of each two neighbouring lines the one that wins.
 -- Renders document 01, "Numbers a call gives", for a board that is lent its own part alone; 11 for the processor comes before 9, since the processor
 -- decides how long its areas are. Ruled out: any two neighbouring lines swapped.
-use Rattle.core.specs.Prelude.{◌≡◌, ℕ, List, [], ◌∷◌}
+use Rattle.std.specs.Prelude.{◌≡◌, ℕ, List, [], ◌∷◌}
 use Rattle.machine.specs.Machine.{State, state_of}
 use Rattle.nest.specs.Recipes.{row_d}
 use Rattle.conformance.specs.ShapedExamples.{row_triangle}

@@ -1,7 +1,7 @@
 // What the calls for one processor that is lent its own part alone share: their first lines, what is found once in a call, lines 9 and 10 of a lent part,
 // and how many words its source has. `unfit` is lent the record as words: its contract holds for every list of words that the `Flat` carries, since code
 // has no other way to name the caller's record.
-ghost use Rattle.core.specs.Prelude.{◌≡◌, ℕ, ◌<◌, ◌≤◌, List, length};
+ghost use Rattle.std.specs.Prelude.{◌≡◌, ℕ, ◌<◌, ◌≤◌, List, length};
 ghost use Rattle.base.specs.Numbers.{first_of};
 ghost use Rattle.machine.specs.Plan.{count};
 ghost use Rattle.machine.specs.Machine.{State, state_of, finished_of, stage_of, sent_of, fit_record};

@@ -1,5 +1,5 @@
 // A processor's own cells and the cells outside the shape, into the grid: the lines before it, and the words.
-ghost use Rattle.core.specs.Prelude.{◌≡◌, ℕ, ◌<◌, ◌≤◌, List, [], length, ◌==◌, slice_index};
+ghost use Rattle.std.specs.Prelude.{◌≡◌, ℕ, ◌<◌, ◌≤◌, List, [], length, ◌==◌, slice_index};
 ghost use Rattle.base.specs.Tests.{pick, tabulate};
 ghost use Rattle.base.specs.Numbers.{first_of};
 ghost use Rattle.machine.specs.Machine.{state_of};

@@ -3,12 +3,12 @@
 // The route is a word, 0 direct, any other indirect.
 #![tactic(auto)]
 
-ghost use Rattle.core.specs.Prelude.{◌≡◌, []};
+ghost use Rattle.std.specs.Prelude.{◌≡◌, []};
 ghost use Rattle.machine.specs.Machine.{state_of};
 ghost use Rattle.engine.specs.Calls.{answer};
 ghost use Rattle.part_calls.specs.front.Calls.{part_sizes_call, part_messages_call, part_fresh_call, part_post_call, part_arrive_call, part_collect_call};
 
-pub mod core; // core.rt: the calls without the form of the record
+pub mod inner; // inner.rt: the calls without the form of the record
 pub mod grid; // grid.rt: its cells' words into the grid
 pub mod listing; // listing.rt: the rows of its messages
 pub mod front; // front.rt: what the calls share: first lines, what is found once in a call, lines 9 and 10
@@ -36,9 +36,9 @@ pub fn sizes(encoded: &[u8], route: u32, processor: u32) -> AreaLengths
     let board = front::open(encoded, route, processor);
     let number = board.number;
     if number != 0 {
-        return core::no_sizes(number);
+        return inner::no_sizes(number);
     }
-    core::sizes_of(board.nest, board.sizes, processor as usize)
+    inner::sizes_of(board.nest, board.sizes, processor as usize)
 }
 
 // The messages that it handles, seven words each: number, sending tile, taking tile, sending processor, taking processor, words, their place in its mail.
@@ -68,7 +68,7 @@ pub fn fresh(
         ≡ part_fresh_call encoded.now route
         (state_of memory.old mail.old progress.old marks.old) processor }
 {
-    let number = core::fresh(
+    let number = inner::fresh(
         encoded,
         route,
         memory,
@@ -100,7 +100,7 @@ pub fn post(
         ≡ part_post_call encoded.now route
         (state_of memory.now mail.now progress.now marks.old) processor message }
 {
-    core::post(
+    inner::post(
         encoded,
         route,
         memory,
@@ -128,7 +128,7 @@ pub fn arrive(
         ≡ part_arrive_call encoded.now route
         (state_of memory.now mail.old progress.now marks.old) processor message words.now }
 {
-    core::arrive(
+    inner::arrive(
         encoded,
         route,
         memory,
@@ -153,5 +153,5 @@ pub fn collect(
     ensures { answer result grid.new
         ≡ part_collect_call encoded.now route (state_of memory.now [] progress.now []) processor grid.old }
 {
-    core::collect(encoded, route, memory, flat_of(progress), processor, grid)
+    inner::collect(encoded, route, memory, flat_of(progress), processor, grid)
 }

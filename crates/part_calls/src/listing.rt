@@ -1,5 +1,5 @@
 // The messages that a processor handles: a row of seven words for each.
-ghost use Rattle.core.specs.Prelude.{◌≡◌, ◌*◌, ◌<◌, [], ◌∷◌, length};
+ghost use Rattle.std.specs.Prelude.{◌≡◌, ◌*◌, ◌<◌, [], ◌∷◌, length};
 ghost use Rattle.base.specs.Tests.{pick};
 ghost use Rattle.base.specs.Lists.{put};
 ghost use Rattle.machine.specs.Plan.{count};

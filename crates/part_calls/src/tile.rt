@@ -2,7 +2,7 @@
 //
 // Cells side by side that are all kept stand side by side there too: so a row is stored as in a memory of all cells, from the rank of its first cell on,
 // and in a row each distance reads so many words back.
-ghost use Rattle.core.specs.Prelude.{◌≡◌, ℕ, ◌+◌, ◌<◌, ◌≤◌, length, slice_index};
+ghost use Rattle.std.specs.Prelude.{◌≡◌, ℕ, ◌+◌, ◌<◌, ◌≤◌, length, slice_index};
 ghost use Rattle.base.specs.Lists.{store_all, pack};
 ghost use Rattle.nest.specs.Accepted.{Accepted};
 ghost use Rattle.nest.specs.Nest.{length_of};

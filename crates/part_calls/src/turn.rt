@@ -1,5 +1,5 @@
 // A turn of the processor on its part: its lines, then the stage at which it stands. The part after is that of the machine's areas after the machine's turn.
-ghost use Rattle.core.specs.Prelude.{◌≡◌, ℕ, ◌<◌, ◌≢◌, List, length, slice_index};
+ghost use Rattle.std.specs.Prelude.{◌≡◌, ℕ, ◌<◌, ◌≢◌, List, length, slice_index};
 ghost use Rattle.machine.specs.Machine.{state_of};
 ghost use Rattle.nest.specs.Nest.{processors};
 ghost use Rattle.plan.specs.Shaped.{plan_of};
@@ -17,7 +17,7 @@ pub mod on_part; // on_part.rt: the stages
 
 use crate::front::{keep_cells, open, own_count, prepare, refusal_of_areas};
 use base::{refusals, word_index};
-use engine::core::{Turned, done, refused};
+use engine::inner::{Turned, done, refused};
 use layout::Sizes;
 use nest::{MOST_CELLS, Nest};
 use on_part::{calculate_stage, gather_stage, ready, send_stage};

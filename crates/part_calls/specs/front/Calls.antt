@@ -2,7 +2,7 @@
 -- The calls for one processor that is lent its own part alone, each from the recipe's bytes, the word that names its route, the processor and its part.
 -- Renders document 01, "The machine" and "Numbers a call gives", for a board with memory for nothing else: a call's number, and what it leaves, are those of
 -- the machine on areas that have this part (`widened`, network/specs/Own). 11 comes before 9 here: the processor decides how long its areas are.
-use Rattle.core.specs.Prelude.{ℕ, zero, suc, ◌*◌, Bool, List, [], ◌∷◌, ◌++◌, length, ◌==◌, nat_eq, nat_lt, slice_index}
+use Rattle.std.specs.Prelude.{ℕ, zero, suc, ◌*◌, Bool, List, [], ◌∷◌, ◌++◌, length, ◌==◌, nat_eq, nat_lt, slice_index}
 use Rattle.base.specs.Tests.{◌and◌, not, pick, tabulate}
 use Rattle.base.specs.Numbers.{Line, line, first_of}
 use Rattle.machine.specs.Plan.{Plan, sender_of, taker_of, held_by}

@@ -1,7 +1,7 @@
 -- For contracts below the calls: no reader needs it.
 -- A row of a tile in its processor's part: that its cells and what they read are kept, where they stand there, and how far back each distance reads.
 -- No sentence of document 01.
-use Rattle.core.specs.Prelude.{◌≡◌, ℕ, ◌+◌, ◌-◌, ◌<◌, ◌≤◌, true, List, length, slice_index}
+use Rattle.std.specs.Prelude.{◌≡◌, ℕ, ◌+◌, ◌-◌, ◌<◌, ◌≤◌, true, List, length, slice_index}
 use Rattle.base.specs.Tests.{one, tabulate}
 use Rattle.base.specs.Lists.{In, store_all}
 use Rattle.nest.specs.declared.Nest.{Nest}

@@ -1,7 +1,7 @@
 -- For contracts below the calls: no reader needs it.
 -- What the code of a turn is given and gives below its first lines: a part of its lengths, where the handled messages stand in it, the machine's answer.
 -- No sentence of document 01.
-use Rattle.core.specs.Prelude.{◌≡◌, ℕ, ◌+◌, ◌<◌, ◌≤◌, true, List, [], ◌∷◌, length, nat_eq, slice_index, slice_index_or}
+use Rattle.std.specs.Prelude.{◌≡◌, ℕ, ◌+◌, ◌<◌, ◌≤◌, true, List, [], ◌∷◌, length, nat_eq, slice_index, slice_index_or}
 use Rattle.base.specs.Tests.{◌and◌, not}
 use Rattle.base.specs.Lists.{In, sublist, unpack}
 use Rattle.base.specs.Numbers.{line, first_of}

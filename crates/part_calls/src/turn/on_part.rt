@@ -1,6 +1,6 @@
 // The stages on a part: kept cells' words by their ranks, mail and marks where the processor's two tables say. The part after is that of the machine's
 // areas after the machine's stage.
-ghost use Rattle.core.specs.Prelude.{◌≡◌, ℕ, ◌+◌, ◌<◌, ◌≤◌, List, [], length, slice_index};
+ghost use Rattle.std.specs.Prelude.{◌≡◌, ℕ, ◌+◌, ◌<◌, ◌≤◌, List, [], length, slice_index};
 ghost use Rattle.base.specs.Lists.{sublist, put, set_all, all_at, unpack, pack, store_all};
 ghost use Rattle.machine.specs.Plan.{held_by, sends_of, dues_of};
 ghost use Rattle.machine.specs.Machine.{state_of, carry_out, gather, calculate, send};

@@ -1,5 +1,5 @@
 -- `part_calls::front::own_count` meets its contract.
-use Rattle.core.specs.Prelude.{ℕ, replicate}
+use Rattle.std.specs.Prelude.{ℕ, replicate}
 use mathlib.Core.Path.{refl}
 use lib.ListN.{length-replicate}
 use Rattle.plan.specs.Shaped.{plan_of}

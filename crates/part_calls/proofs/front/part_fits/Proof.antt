@@ -1,7 +1,7 @@
 -- `part_calls::front::part_fits` meets its contract: each length in its turn.
 use mathlib.Core.Path.{sym, ap, ◌∙◌}
 use native.Mathlib.Omega.{arith}
-use Rattle.core.specs.Prelude.{eqb, length}
+use Rattle.std.specs.Prelude.{eqb, length}
 use Rattle.machine.specs.Machine.{state_of}
 use Rattle.plan.specs.Shaped.{plan_of}
 use Rattle.part_calls.proofs.front.Front as front

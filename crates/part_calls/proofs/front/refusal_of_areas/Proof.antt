@@ -1,5 +1,5 @@
 -- `part_calls::front::refusal-of-areas` meets its contract: each return by the line that counts.
-use Rattle.core.specs.Prelude.{ℕ, replicate}
+use Rattle.std.specs.Prelude.{ℕ, replicate}
 use mathlib.Core.Path.{sym}
 use native.Mathlib.Omega.{arith}
 use lib.ListN.{length-replicate}

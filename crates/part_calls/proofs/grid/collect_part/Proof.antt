@@ -1,5 +1,5 @@
 -- `grid::collect_part` meets its contract: each return by the line that counts.
-use Rattle.core.specs.Prelude.{ℕ, List, [], replicate}
+use Rattle.std.specs.Prelude.{ℕ, List, [], replicate}
 use mathlib.Core.Path.{refl, sym, subst}
 use lib.ListN.{length-replicate}
 use Rattle.machine.specs.Machine.{state_of}

@@ -1,5 +1,5 @@
 -- `grid::outside_row` meets its contract: the words passed, the rest as it was.
-use Rattle.core.specs.Prelude.{ℕ, ◌-◌, length, get_or}
+use Rattle.std.specs.Prelude.{ℕ, ◌-◌, length, get_or}
 use mathlib.Core.Path.{refl, ap, ◌∙◌}
 use native.Mathlib.Omega.{arith}
 use Rattle.base.specs.Tests.{pick}

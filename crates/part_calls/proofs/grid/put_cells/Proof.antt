@@ -1,5 +1,5 @@
 -- `grid::put_cells` meets its contract: the words passed are the grid's, the rest as it was.
-use Rattle.core.specs.Prelude.{◌-◌, length}
+use Rattle.std.specs.Prelude.{◌-◌, length}
 use mathlib.Core.Logic.{⊎_elim, inl, inr}
 use native.Mathlib.Omega.{arith}
 use Rattle.part_calls.proofs.Collecting as collecting

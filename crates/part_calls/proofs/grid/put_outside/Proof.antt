@@ -1,6 +1,6 @@
 -- `grid::put_outside` meets its contract: the rows passed, the rest as it was.
 use native.Mathlib.Omega.{arith}
-use Rattle.core.specs.Prelude.{◌-◌, ◌*◌, ◌≤◌}
+use Rattle.std.specs.Prelude.{◌-◌, ◌*◌, ◌≤◌}
 use mathlib.Core.Path.{refl}
 use Rattle.nest.specs.Nest.{length_of}
 use Rattle.nest.specs.Spans.{last}

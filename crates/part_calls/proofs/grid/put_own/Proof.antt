@@ -1,5 +1,5 @@
 -- `grid::put_own` meets its contract: outside the shape, then its own cells.
-use Rattle.core.specs.Prelude.{ℕ, replicate}
+use Rattle.std.specs.Prelude.{ℕ, replicate}
 use mathlib.Core.Path.{◌∙◌}
 use lib.ListN.{length-replicate}
 use Rattle.part_calls.proofs.front.Front as front

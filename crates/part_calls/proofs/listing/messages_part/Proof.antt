@@ -1,5 +1,5 @@
 -- `listing::messages_part` meets its contract: each return by the line that counts.
-use Rattle.core.specs.Prelude.{ℕ, ◌*◌}
+use Rattle.std.specs.Prelude.{ℕ, ◌*◌}
 use mathlib.Core.Path.{refl, ap, ◌∙◌}
 use native.Mathlib.Omega.{arith}
 use Rattle.plan.specs.Shaped.{plan_of}

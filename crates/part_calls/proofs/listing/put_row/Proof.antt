@@ -1,5 +1,5 @@
 -- `listing::put_row` meets its contract: a row, where the message is handled.
-use Rattle.core.specs.Prelude.{◌+◌}
+use Rattle.std.specs.Prelude.{◌+◌}
 use mathlib.Core.Path.{refl, ap, ◌∙◌}
 use native.Mathlib.Omega.{arith}
 use Rattle.plan.specs.Shaped.{plan_of}

@@ -1,5 +1,5 @@
 -- `listing::put_rows` meets its contract: the rows of the messages passed.
-use Rattle.core.specs.Prelude.{◌-◌}
+use Rattle.std.specs.Prelude.{◌-◌}
 use mathlib.Core.Path.{◌∙◌}
 use native.Mathlib.Omega.{arith}
 use Rattle.plan.specs.Shaped.{plan_of}

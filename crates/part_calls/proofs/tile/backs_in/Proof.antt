@@ -1,5 +1,5 @@
 -- `part_calls::tile::backs_in` meets its contract: those of the first e distances.
-use Rattle.core.specs.Prelude.{◌-◌}
+use Rattle.std.specs.Prelude.{◌-◌}
 use native.Mathlib.Omega.{arith}
 use Rattle.part_calls.proofs.tile.InPart.{Filling, filling_none, filling_more, filling_end}
 use Rattle.part_calls.proofs.tile.backs_in.Statement.{statement}

@@ -1,5 +1,5 @@
 -- `part_calls::tile::calculate_box` meets its contract: the first r rows of the tile's box are stored.
-use Rattle.core.specs.Prelude.{◌≡◌, ◌-◌, ◌*◌, ◌≤◌, length}
+use Rattle.std.specs.Prelude.{◌≡◌, ◌-◌, ◌*◌, ◌≤◌, length}
 use native.Mathlib.Omega.{arith}
 use mathlib.Core.Path.{refl, ap, ◌∙◌}
 use Rattle.base.proofs.Lists.{store_length}

@@ -1,5 +1,5 @@
 -- `part_calls::tile::row_in` meets its contract: the cells before and behind the span are outside, those in it stand side by side in the part.
-use Rattle.core.specs.Prelude.{◌-◌}
+use Rattle.std.specs.Prelude.{◌-◌}
 use native.Mathlib.Omega.{arith}
 use Rattle.nest.proofs.Shapes.{framed}
 use Rattle.values.proofs.shaped_values.Words.{place_narrow}

@@ -1,6 +1,6 @@
 -- Stages 1 and 2 of the turn on the part.
 use mathlib.Core.Path.{refl}
-use Rattle.core.specs.Prelude.{length, get_or}
+use Rattle.std.specs.Prelude.{length, get_or}
 use Rattle.machine.specs.Plan.{tiles_of}
 use Rattle.machine.specs.Machine.{state_of}
 use Rattle.plan.specs.Shaped.{plan_of}

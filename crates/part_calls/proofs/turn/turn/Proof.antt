@@ -1,5 +1,5 @@
 -- Each return is the call by the line that counts.
-use Rattle.core.specs.Prelude.{ℕ, List}
+use Rattle.std.specs.Prelude.{ℕ, List}
 use Rattle.machine.specs.Machine.{State, state_of}
 use Rattle.engine.proofs.Reading as reading
 use Rattle.part_calls.proofs.turn.Turned as turned

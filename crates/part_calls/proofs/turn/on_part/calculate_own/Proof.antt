@@ -1,5 +1,5 @@
 -- The marks of its own cells on the stack, then the tile.
-use Rattle.core.specs.Prelude.{ℕ, List, replicate}
+use Rattle.std.specs.Prelude.{ℕ, List, replicate}
 use mathlib.Core.Path.{refl, sym, subst, ◌∙◌}
 use lib.ListN.{length-replicate}
 use Rattle.rank_index.specs.Ranks.{Counted}

@@ -1,5 +1,5 @@
 -- The messages left to gather give the same memory and marks.
-use Rattle.core.specs.Prelude.{◌≡◌, ℕ, ◌-◌, List, length}
+use Rattle.std.specs.Prelude.{◌≡◌, ℕ, ◌-◌, List, length}
 use mathlib.Core.Path.{refl, sym, ap, ◌∙◌}
 use Rattle.base.specs.Lists.{pack}
 use Rattle.plan.specs.Shaped.{plan_of}

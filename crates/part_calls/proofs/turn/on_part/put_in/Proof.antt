@@ -1,5 +1,5 @@
 -- The cells as a list; the mutable part where the message's words begin comes back as their words.
-use Rattle.core.specs.Prelude.{◌-◌}
+use Rattle.std.specs.Prelude.{◌-◌}
 use mathlib.Core.Path.{sym, ◌∙◌}
 use Rattle.plan.specs.Shaped.{plan_of}
 use Rattle.plan.proofs.ShapedSound.{sound}

@@ -1,5 +1,5 @@
 -- The messages left to look at decide.
-use Rattle.core.specs.Prelude.{◌-◌}
+use Rattle.std.specs.Prelude.{◌-◌}
 use mathlib.Core.Path.{refl}
 use native.Mathlib.Omega.{arith}
 use Rattle.part_calls.proofs.turn.Working as working

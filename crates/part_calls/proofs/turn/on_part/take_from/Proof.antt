@@ -1,5 +1,5 @@
 -- The cells as a list, and the read part where the message's words begin.
-use Rattle.core.specs.Prelude.{ℕ, ◌-◌, List, take}
+use Rattle.std.specs.Prelude.{ℕ, ◌-◌, List, take}
 use mathlib.Core.Path.{sym, ap, ◌∙◌}
 use native.Mathlib.Omega.{arith}
 use Rattle.base.specs.Lists.{unpack, pack}

@@ -1,12 +1,12 @@
--- `core::arrive_in` meets its contract: each return by the line that counts.
+-- `inner::arrive_in` meets its contract: each return by the line that counts.
 use mathlib.Core.Path.{refl, sym, ◌∙◌}
 use borrow.Author.Tests.{not-true, not-false}
 use Rattle.machine.specs.Machine.{state_of}
 use Rattle.plan.specs.Shaped.{plan_of}
 use Rattle.part_calls.proofs.Answers as answers
 use borrow.Author.Rules.{rules}
-use Rattle.part_calls.proofs.core.arrive_in.Statement.{statement}
-use Rattle.part_calls.proofs.core.arrive_in.Tie as tie
+use Rattle.part_calls.proofs.inner.arrive_in.Statement.{statement}
+use Rattle.part_calls.proofs.inner.arrive_in.Tie as tie
 
 as-long-requires : tie.Need-as-long-requires
 as-long-requires c κs =

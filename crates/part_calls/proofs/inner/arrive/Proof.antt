@@ -1,9 +1,9 @@
--- `core::arrive` meets its contract: each return by the line that counts.
+-- `inner::arrive` meets its contract: each return by the line that counts.
 use Rattle.machine.specs.Machine.{state_of}
 use Rattle.part_calls.proofs.Answers as answers
 use borrow.Author.Rules.{rules}
-use Rattle.part_calls.proofs.core.arrive.Statement.{statement}
-use Rattle.part_calls.proofs.core.arrive.Tie as tie
+use Rattle.part_calls.proofs.inner.arrive.Statement.{statement}
+use Rattle.part_calls.proofs.inner.arrive.Tie as tie
 
 open-requires : tie.Need-open-requires
 open-requires c κs = search rules

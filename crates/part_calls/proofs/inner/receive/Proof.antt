@@ -1,5 +1,5 @@
--- `core::receive` meets its contract: each return by the line that counts.
-use Rattle.core.specs.Prelude.{ℕ, ◌<◌, []}
+-- `inner::receive` meets its contract: each return by the line that counts.
+use Rattle.std.specs.Prelude.{ℕ, ◌<◌, []}
 use mathlib.Core.Path.{refl, sym, ap, ◌∙◌}
 use native.Mathlib.Omega.{arith}
 use Rattle.base.specs.Lists.{put}
@@ -13,8 +13,8 @@ use Rattle.transport.proofs.arrivals.Taking as taking
 use Rattle.part_calls.proofs.front.Wide.{state_is}
 use Rattle.part_calls.proofs.Answers as answers
 use borrow.Author.Rules.{rules}
-use Rattle.part_calls.proofs.core.receive.Statement.{statement}
-use Rattle.part_calls.proofs.core.receive.Tie as tie
+use Rattle.part_calls.proofs.inner.receive.Statement.{statement}
+use Rattle.part_calls.proofs.inner.receive.Tie as tie
 
 returns : tie.Need-returns
 returns c =

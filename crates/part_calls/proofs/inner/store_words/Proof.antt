@@ -1,8 +1,8 @@
--- `core::store_words` meets its contract: the lent part comes back as the words.
+-- `inner::store_words` meets its contract: the lent part comes back as the words.
 use Rattle.stages.proofs.Parts as parts
 use borrow.Author.Rules.{rules}
-use Rattle.part_calls.proofs.core.store_words.Statement.{statement}
-use Rattle.part_calls.proofs.core.store_words.Tie as tie
+use Rattle.part_calls.proofs.inner.store_words.Statement.{statement}
+use Rattle.part_calls.proofs.inner.store_words.Tie as tie
 
 add-end : tie.Need-overflow-add-end
 add-end c = search rules

@@ -1,10 +1,10 @@
--- `core::collect` meets its contract: each return by the line that counts.
-use Rattle.core.specs.Prelude.{[]}
+-- `inner::collect` meets its contract: each return by the line that counts.
+use Rattle.std.specs.Prelude.{[]}
 use Rattle.machine.specs.Machine.{state_of}
 use Rattle.part_calls.proofs.Answers as answers
 use borrow.Author.Rules.{rules}
-use Rattle.part_calls.proofs.core.collect.Statement.{statement}
-use Rattle.part_calls.proofs.core.collect.Tie as tie
+use Rattle.part_calls.proofs.inner.collect.Statement.{statement}
+use Rattle.part_calls.proofs.inner.collect.Tie as tie
 
 open-requires : tie.Need-open-requires
 open-requires c κs = search rules

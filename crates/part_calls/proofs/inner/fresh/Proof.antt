@@ -1,13 +1,13 @@
--- `core::fresh` meets its contract: each return by the line that counts.
+-- `inner::fresh` meets its contract: each return by the line that counts.
 use mathlib.Core.Path.{sym, ap, ◌∙◌}
-use Rattle.core.specs.Prelude.{ℕ, List}
+use Rattle.std.specs.Prelude.{ℕ, List}
 use Rattle.machine.specs.Machine.{state_of}
 use Rattle.engine.specs.Calls.{answer}
 use Rattle.engine.proofs.Reading as reading
 use Rattle.part_calls.proofs.Answers as answers
 use borrow.Author.Rules.{rules}
-use Rattle.part_calls.proofs.core.fresh.Statement.{statement}
-use Rattle.part_calls.proofs.core.fresh.Tie as tie
+use Rattle.part_calls.proofs.inner.fresh.Statement.{statement}
+use Rattle.part_calls.proofs.inner.fresh.Tie as tie
 
 open-requires : tie.Need-open-requires
 open-requires c κs = search rules

@@ -1,11 +1,11 @@
--- `core::fresh_part` meets its contract: each return by the line that counts.
+-- `inner::fresh_part` meets its contract: each return by the line that counts.
 use mathlib.Core.Path.{refl}
 use borrow.Author.Tests.{not-true, not-false}
 use Rattle.plan.specs.Shaped.{plan_of}
 use Rattle.part_calls.proofs.Answers as answers
 use borrow.Author.Rules.{rules}
-use Rattle.part_calls.proofs.core.fresh_part.Statement.{statement}
-use Rattle.part_calls.proofs.core.fresh_part.Tie as tie
+use Rattle.part_calls.proofs.inner.fresh_part.Statement.{statement}
+use Rattle.part_calls.proofs.inner.fresh_part.Tie as tie
 
 prepare-requires : tie.Need-prepare-requires
 prepare-requires c κs =

@@ -1,8 +1,8 @@
--- `core::arrive_part` meets its contract.
+-- `inner::arrive_part` meets its contract.
 use mathlib.Core.Path.{refl}
 use borrow.Author.Rules.{rules}
-use Rattle.part_calls.proofs.core.arrive_part.Statement.{statement}
-use Rattle.part_calls.proofs.core.arrive_part.Tie as tie
+use Rattle.part_calls.proofs.inner.arrive_part.Statement.{statement}
+use Rattle.part_calls.proofs.inner.arrive_part.Tie as tie
 
 prepare-requires : tie.Need-prepare-requires
 prepare-requires c κs =

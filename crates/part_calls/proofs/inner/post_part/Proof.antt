@@ -1,11 +1,11 @@
--- `core::post_part` meets its contract: each return by the line that counts.
+-- `inner::post_part` meets its contract: each return by the line that counts.
 use mathlib.Core.Path.{refl}
 use Rattle.machine.specs.Machine.{state_of}
 use Rattle.plan.specs.Shaped.{plan_of}
 use Rattle.part_calls.proofs.Answers as answers
 use borrow.Author.Rules.{rules}
-use Rattle.part_calls.proofs.core.post_part.Statement.{statement}
-use Rattle.part_calls.proofs.core.post_part.Tie as tie
+use Rattle.part_calls.proofs.inner.post_part.Statement.{statement}
+use Rattle.part_calls.proofs.inner.post_part.Tie as tie
 
 prepare-requires : tie.Need-prepare-requires
 prepare-requires c κs =

@@ -1,5 +1,5 @@
--- `core::hand_over` meets its contract: each return by the line that counts.
-use Rattle.core.specs.Prelude.{◌+◌, ◌<◌}
+-- `inner::hand_over` meets its contract: each return by the line that counts.
+use Rattle.std.specs.Prelude.{◌+◌, ◌<◌}
 use mathlib.Core.Path.{◌∙◌}
 use native.Mathlib.Omega.{arith}
 use Rattle.machine.specs.Plan.{count}
@@ -7,8 +7,8 @@ use Rattle.machine.specs.Machine.{state_of}
 use Rattle.plan.specs.Shaped.{plan_of}
 use Rattle.part_calls.proofs.Answers as answers
 use borrow.Author.Rules.{rules}
-use Rattle.part_calls.proofs.core.hand_over.Statement.{statement}
-use Rattle.part_calls.proofs.core.hand_over.Tie as tie
+use Rattle.part_calls.proofs.inner.hand_over.Statement.{statement}
+use Rattle.part_calls.proofs.inner.hand_over.Tie as tie
 
 returns : tie.Need-returns
 returns c =

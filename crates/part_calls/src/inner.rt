@@ -1,6 +1,6 @@
 // The calls for one processor without the stores into its record, which is read as words: their contracts hold for every list of words that the `Flat`
 // carries, since code has no other way to name the caller's record.
-ghost use Rattle.core.specs.Prelude.{◌≡◌, ℕ, ◌+◌, ◌<◌, ◌≤◌, List, [], length};
+ghost use Rattle.std.specs.Prelude.{◌≡◌, ℕ, ◌+◌, ◌<◌, ◌≤◌, List, [], length};
 ghost use Rattle.base.specs.Lists.{put};
 ghost use Rattle.machine.specs.Plan.{count};
 ghost use Rattle.machine.specs.Machine.{state_of};

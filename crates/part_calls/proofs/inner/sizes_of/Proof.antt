@@ -1,8 +1,8 @@
--- `core::sizes_of` meets its contract: the four lengths.
+-- `inner::sizes_of` meets its contract: the four lengths.
 use Rattle.part_calls.proofs.front.Front as front
 use borrow.Author.Rules.{rules}
-use Rattle.part_calls.proofs.core.sizes_of.Statement.{statement}
-use Rattle.part_calls.proofs.core.sizes_of.Tie as tie
+use Rattle.part_calls.proofs.inner.sizes_of.Statement.{statement}
+use Rattle.part_calls.proofs.inner.sizes_of.Tie as tie
 
 prepare-requires : tie.Need-prepare-requires
 prepare-requires c κs = search rules
