@@ -7,7 +7,7 @@ use native.Mathlib.Decide.{dec_lt}
 use native.Mathlib.Numerals.{add-one}
 use lib.ListN.{replicate-append-replicate}
 use borrow.Author.Tests.{eqb-true, eq-eqb, ne_eqb, lt-ltb, le-ltb, ltb-true}
-use Rattle.base.specs.Tests.{◌and◌, ◌or◌, not}
+use Rattle.base.specs.Tests.{not}
 use Rattle.base.specs.Lists.{In, put, pack}
 use Rattle.base.specs.Numbers.{Line, line, first_of}
 use Rattle.base.proofs.Tests.{both, never_both, and_true, and_false, and_no, or_right, not-true, not-false, true_not, pick_true, pick_false}

@@ -33,7 +33,7 @@ use Rattle.part.specs.Part.{part_fits, words_of}
 use Rattle.part.specs.Part as sublist
 use Rattle.part_calls.specs.front.Calls.{from_part, board_lines, collect_fits, part_messages_call, part_fresh_call, part_turn_call, part_post_call, part_arrive_call}
 use Rattle.part_calls.specs.front.Calls.{part_collect_call}
-use Rattle.part_calls.specs.PartNumbers.{part_of, sender_part, unfit, short, source, grid, turned, posted, arrived, collected, PartNumbers}
+use Rattle.part_calls.specs.PartNumbers.{part_of, sender_part, unfit, short, source, grid, posted, arrived, collected, PartNumbers}
 
 abbrev d : Plan
 d = plan_of Direct nest_d

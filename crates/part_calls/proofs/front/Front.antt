@@ -1,11 +1,11 @@
 -- Laws of what the calls share: the first lines, marks at the front of a lent area, lines 9 and 10.
-use Rattle.std.specs.Prelude.{◌≡◌, ℕ, ◌+◌, ◌<◌, ◌≤◌, Bool, true, false, eqb, ltb, leb, ◌≢◌, List, [], ◌∷◌, ◌++◌, length, get_or, take, drop}
+use Rattle.std.specs.Prelude.{◌≡◌, ℕ, ◌<◌, ◌≤◌, Bool, true, false, eqb, ltb, leb, ◌≢◌, List, [], ◌∷◌, ◌++◌, length, get_or, take, drop}
 use mathlib.Core.Path.{refl, sym, ap, ◌∙◌}
 use native.Mathlib.Omega.{arith}
 use lib.ListN.{length-append, length-drop}
 use lib.Seq.{length-take-le, take_at, get_or-take}
 use borrow.Author.Tests.{eq-eqb, ne_eqb, lt-ltb, le-ltb}
-use Rattle.base.specs.Tests.{◌and◌, not, one, every, keep, tabulate}
+use Rattle.base.specs.Tests.{not, one, every, keep, tabulate}
 use Rattle.base.specs.Numbers.{line, first_of}
 use Rattle.base.proofs.Tests.{and_true, and_left, and_false, and_no, not-true, not-false, true_not}
 use Rattle.base.proofs.Numbers.{first_true, first_false, none_first, first_some, first_behind}

@@ -8,7 +8,7 @@ use native.Mathlib.Decide.{ℕ_discrete}
 use native.Mathlib.Nat.{eq-or-lt_of_le, le_of_suc-le-suc}
 use lib.ListN.{length-append, length-drop, length-set, take-append-drop}
 use lib.Seq.{take-append_seam, drop-append_seam, length-take-le, get_or-set_same, get_or-set_other, ext_get_or}
-use Rattle.base.specs.Tests.{◌or◌, keep_if, keep}
+use Rattle.base.specs.Tests.{keep_if, keep}
 use Rattle.base.specs.Lists.{In, Rising, sublist, put, set_all, all_at, unpack, pack}
 use Rattle.base.proofs.Select.{in_append, keep_in, keep_lt, keep_at, at_keep}
 use Rattle.base.proofs.Lists.{AllBelow, part_length, length_put, pack_length}

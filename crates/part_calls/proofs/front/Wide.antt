@@ -6,7 +6,7 @@ use native.Mathlib.Decide.{ℕ_discrete}
 use lib.ListN.{length-replicate}
 use lib.Seq.{ext_get_or}
 use borrow.Author.Tests.{eqb-true, eq-eqb, leb-true, le-leb}
-use Rattle.base.specs.Tests.{◌and◌, ◌or◌, every}
+use Rattle.base.specs.Tests.{◌and◌, every}
 use Rattle.base.specs.Lists.{In, sublist, put, unpack, pack}
 use Rattle.base.proofs.Tests.{both, and_true, or_left, or_right, every_at, every_all, same_test, never_both}
 use Rattle.base.proofs.Select.{keep_in, keep_rising, keep_lt, at_keep, those_in}

@@ -9,7 +9,6 @@ use Rattle.base.proofs.Select.{keep_lt, at_is, at_low, in_those}
 use Rattle.machine.specs.Plan.{Plan, count, sender_of, held_by, tiles_of, sends_of, dues_of}
 use Rattle.machine.specs.Machine.{state_of, set_progress, carry_out, gather, calculate, send}
 use Rattle.nest.specs.declared.Nest.{Nest}
-use Rattle.nest.specs.Shape.{tiles}
 use Rattle.plan.specs.Shaped.{plan_of}
 use Rattle.plan.proofs.ShapedSound.{sound}
 use Rattle.layout.specs.declared.Sizes.{Sizes}

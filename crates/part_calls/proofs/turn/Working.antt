@@ -7,7 +7,6 @@ use lib.ListN.{length-set, drop_of_length-le}
 use lib.Seq.{drop-cons}
 use borrow.Author.Tests.{eq-eqb, ne_eqb}
 use borrow.Rule.Slice.PartMut.{put_mid}
-use Rattle.base.specs.Tests.{◌and◌, one}
 use Rattle.base.specs.Lists.{In, sublist, put, set_all, all_at, unpack, pack}
 use Rattle.base.proofs.Tests.{and_left, and_false}
 use Rattle.base.proofs.Entries.{at_in}

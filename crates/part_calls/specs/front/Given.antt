@@ -2,7 +2,7 @@
 -- What the calls for one processor share: the nest of an accepted recipe, its table, the processor's cells and messages found once, lines 9 and 10.
 -- No sentence of document 01.
 use Rattle.std.specs.Prelude.{◌≡◌, ℕ, ◌<◌, ◌≤◌, Bool, List, [], ◌∷◌, length, slice_index}
-use Rattle.base.specs.Tests.{◌and◌, not, one, tabulate}
+use Rattle.base.specs.Tests.{not, one, tabulate}
 use Rattle.base.specs.Numbers.{Line, line, first_of}
 use Rattle.machine.specs.Plan.{Plan, count}
 use Rattle.machine.specs.Machine.{State, fit}

@@ -8,7 +8,6 @@ use Rattle.base.specs.Numbers.{line, first_of}
 use Rattle.machine.specs.Plan.{Plan, count, held_by, tiles_of}
 use Rattle.machine.specs.Machine.{State, fit, Answered, answered, turn_lines}
 use Rattle.nest.specs.declared.Nest.{Nest}
-use Rattle.nest.specs.Nest.{cells, processors}
 use Rattle.plan.specs.Shaped.{plan_of}
 use Rattle.layout.specs.declared.Sizes.{Sizes}
 use Rattle.network.specs.Own.{keeps, own_cells, kept_cells, handled}
