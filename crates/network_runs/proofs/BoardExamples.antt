@@ -1,12 +1,11 @@
 -- The row computed on the machine's boards, and by the theorem what the calls give; the premises of Boards are met by it.
-use Prim.Native.Nat.{ℕ, ◌<◌}
+use Prim.Native.Nat.{ℕ}
 use mathlib.Core.Path.{◌≡◌, refl, sym, ap, ◌∙◌, subst}
-use mathlib.Core.Bool.{true}
-use mathlib.Core.List.{List, [], ◌∷◌, ◌++◌}
+use mathlib.Core.List.{List, [], ◌∷◌}
 use native.Mathlib.Omega.{arith}
 use lib.ListN.{length}
 use lib.Dec.{eqb}
-use Rattle.base.specs.Tests.{◌and◌, ◌or◌, not, pick, one, every, some, keep, those, product, sum, tabulate}
+use Rattle.base.specs.Tests.{◌and◌, ◌or◌, not, pick, one, every, some, keep, those, product, sum}
 use Rattle.base.specs.Lists.{Bytes, count_if, member, sublist, put, set_all, all_at, unpack, pack, store_all}
 use Rattle.base.specs.Numbers.{first_of}
 use Rattle.base.proofs.Lists.{small, small_bytes}
@@ -29,7 +28,7 @@ use Rattle.layout.specs.RouteWords.{route_of}
 use Rattle.recipe.specs.Routes.{lines_for}
 use Rattle.recipe.proofs.Laws.{open_direct}
 use Rattle.engine.specs.Calls.{recipe}
-use Rattle.network.specs.Apart.{AreasApart, start_apart, replaced}
+use Rattle.network.specs.Apart.{start_apart, replaced}
 use Rattle.network.specs.Packets.{Packet, Network, start_network}
 use Rattle.network.specs.Brought.{BoardEvent, turn_at, post_at, brought_to, BoardCalls, act_boards, take_in, machine_boards, WasPosted, Carries}
 use Rattle.network.specs.OnBoards.{whole}
@@ -42,7 +41,7 @@ use Rattle.network_runs.specs.Demands.{Begun}
 use Rattle.network_runs.specs.part.Runs.{part_start}
 use Rattle.network_runs.specs.part.Demands.{BegunApart}
 use Rattle.network_runs.specs.Boards.{whole_calls, whole_boards, part_calls, part_boards}
-use Rattle.network_runs.specs.BoardExamples.{source_d, whole_sources, part_sources, whole_lent, part_lent, posting, taking, events_d, numbers_d, BoardExamples}
+use Rattle.network_runs.specs.BoardExamples.{source_d, whole_sources, part_sources, whole_lent, part_lent, posting, events_d, numbers_d, BoardExamples}
 use Rattle.network_runs.proofs.Demands as whole_run
 use Rattle.network_runs.proofs.Demands.{apart_demands}
 use Rattle.network_runs.proofs.part.Demands.{own_demands}

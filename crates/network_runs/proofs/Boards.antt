@@ -1,17 +1,16 @@
 -- The calls really used on boards that share nothing answer as the machine does on each board's areas, or on its part: so their runs have demand 3.
-use Prim.Native.Nat.{ℕ, ◌≤◌, ◌<◌}
+use Prim.Native.Nat.{ℕ, ◌<◌}
 use mathlib.Core.Path.{◌≡◌, refl, sym, ap, ◌∙◌}
 use mathlib.Core.Bool.{Bool, true, false}
 use mathlib.Core.List.{List, [], ◌∷◌}
 use lib.ListN.{length, get_or}
 use lib.Dec.{eqb}
 use borrow.Author.Tests.{eq-eqb}
-use Rattle.base.specs.Tests.{◌and◌, not, pick}
-use Rattle.base.specs.Lists.{Bytes}
+use Rattle.base.specs.Tests.{not, pick}
 use Rattle.base.specs.Numbers.{line, first_of}
 use Rattle.base.proofs.Tests.{and_left, or_left}
 use Rattle.base.proofs.Numbers.{first_behind}
-use Rattle.machine.specs.Plan.{Plan, Sound, count}
+use Rattle.machine.specs.Plan.{Plan, Sound}
 use Rattle.machine.specs.Machine.{State, memory_of, fit, answered, sweep, tiles_left}
 use Rattle.machine.proofs.Values.{table_is, sweep_outside}
 use Rattle.nest.specs.Reader.{nest_of}

@@ -1,25 +1,21 @@
 -- What `owners` tells is the processor of a cell's tile, on either route: so the cells told for a board are its own.
 use Prim.Native.Nat.{ℕ, ◌<◌}
 use mathlib.Core.Path.{◌≡◌, refl, sym, ap, ◌∙◌}
-use mathlib.Core.Logic.{◌≢◌}
 use mathlib.Core.Bool.{Bool, true, false}
-use mathlib.Core.List.{List, [], ◌∷◌, ◌++◌}
+use mathlib.Core.List.{List}
 use native.Mathlib.Omega.{arith}
-use native.Mathlib.Decide.{ℕ_discrete}
 use lib.ListN.{length, get_or}
 use lib.Dec.{eqb}
 use borrow.Author.Tests.{eq-eqb, ne_eqb, eqb-true}
-use Rattle.base.specs.Tests.{◌or◌, not, pick, keep, tabulate}
+use Rattle.base.specs.Tests.{tabulate}
 use Rattle.base.specs.Lists.{Bytes, In, pack}
-use Rattle.base.specs.Numbers.{line, first_of}
+use Rattle.base.specs.Numbers.{first_of}
 use Rattle.base.proofs.Tests.{is_false, same_test, or_left, pick_true, pick_false, length_tabulate, tabulate_at, never_both}
 use Rattle.base.proofs.Select.{keep_in, in_keep, keep_same}
 use Rattle.machine.specs.Plan.{Plan, Sound}
-use Rattle.machine.specs.Machine.{Answered}
 use Rattle.machine.proofs.RunLaws.{number_of, after_of}
-use Rattle.nest.specs.declared.Nest.{Nest}
 use Rattle.nest.specs.Accepted.{Accepted}
-use Rattle.nest.specs.Reader.{nest_of, read_lines}
+use Rattle.nest.specs.Reader.{nest_of}
 use Rattle.plan.specs.declared.Route.{Route}
 use Rattle.plan.specs.declared.Route.TheVariants.{Direct, Indirect}
 use Rattle.plan.specs.Shaped.{plan_of}

@@ -1,11 +1,11 @@
 -- Read this. Boards that share nothing, by the calls really used: on whole areas a turn is `turn`, a message is handed over by `deliver` and taken in by
 -- `take_in`; on own parts these are the part's turn, post and arrival. The claims, for every accepted recipe, route, source and list of calls over a transport
 -- that carries what was posted. Renders document 01, "Runs", and the customer's demand 3, for processors that share no memory.
-use Rattle.std.specs.Prelude.{ℕ, ◌≤◌, ◌<◌, ◌≡◌, List, length}
+use Rattle.std.specs.Prelude.{ℕ, ◌<◌, ◌≡◌, List, length}
 use Rattle.base.specs.Lists.{Bytes, sublist}
 use Rattle.base.specs.Numbers.{first_of}
-use Rattle.machine.specs.Plan.{count, held_by}
-use Rattle.machine.specs.Machine.{State, place_of, Answered, sweep}
+use Rattle.machine.specs.Plan.{held_by}
+use Rattle.machine.specs.Machine.{place_of, Answered, sweep}
 use Rattle.layout.specs.RouteWords.{route_of}
 use Rattle.recipe.specs.Routes.{lines_for}
 use Rattle.engine.specs.Calls.{recipe, turn_call, deliver_call, collect_call}

@@ -1,5 +1,5 @@
 -- A call on the part of a processor's areas answers as the machine does on the areas, and leaves the part of what the machine leaves.
-use Prim.Native.Nat.{ℕ, ◌+◌, ◌*◌, ◌<◌}
+use Prim.Native.Nat.{ℕ, ◌*◌, ◌<◌}
 use mathlib.Core.Path.{◌≡◌, refl, sym, ap, ◌∙◌}
 use mathlib.Core.Logic.{◌⊎◌, inl, inr, ◌≢◌}
 use mathlib.Core.Bool.{Bool, true, false}
@@ -9,7 +9,7 @@ use native.Mathlib.Decide.{ℕ_discrete}
 use lib.ListN.{length, get_or}
 use lib.Dec.{ltb, eqb}
 use borrow.Author.Tests.{lt-ltb, ltb-true, eqb-true, eq-eqb, ne_eqb}
-use Rattle.base.specs.Tests.{◌and◌, ◌or◌, not}
+use Rattle.base.specs.Tests.{◌and◌, not}
 use Rattle.base.specs.Lists.{In, sublist, pack}
 use Rattle.base.specs.Numbers.{Line, line, first_of}
 use Rattle.base.proofs.Tests.{both, and_true, and_left, either, or_right, or_false, not-true, true_not, false_not, never_both, pick_true, pick_false, every_at}

@@ -2,7 +2,7 @@
 use Prim.Native.Nat.{ℕ, zero, suc, ◌*◌, ◌-◌, ◌<◌}
 use mathlib.Core.Path.{◌≡◌, refl, sym, ap, ◌∙◌}
 use mathlib.Core.Bool.{true}
-use mathlib.Core.List.{List, [], ◌∷◌, ◌++◌}
+use mathlib.Core.List.{List, [], ◌∷◌}
 use native.Mathlib.Omega.{arith}
 use lib.ListN.{length, get_or}
 use borrow.Author.Tests.{eq-eqb, eqb-true}
@@ -22,7 +22,7 @@ use Rattle.network.specs.Own.{handles, handled, own_cells, kept_cells}
 use Rattle.part.specs.Part.{words_of, rank_of, part_fits}
 use Rattle.part_calls.specs.declared.AreaLengths.{AreaLengths}
 use Rattle.part_calls.specs.front.Calls.{lengths_of, part_row, part_rows, part_fresh_call}
-use Rattle.network_runs.specs.part.PartTold.{lengths_had, PartTold, PartTells}
+use Rattle.network_runs.specs.part.PartTold.{lengths_had, PartTells}
 use Rattle.network_runs.proofs.part.OnePart.{past, fresh_gives}
 
 module _ (p : Plan) (b : ℕ) where
