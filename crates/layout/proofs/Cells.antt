@@ -9,7 +9,7 @@ use Rattle.base.specs.Tests.{product}
 use Rattle.nest.specs.declared.Nest.{Nest}
 use Rattle.nest.specs.Accepted.{Accepted}
 use Rattle.nest.specs.Nest.{length_of, tile_length, processor_count, tile_count, cells, processors, box_tiles}
-use Rattle.nest.specs.Places.{rank, place, cell_at, cell_place, tile_at, tile_place}
+use Rattle.nest.specs.Places.{rank, cell_at, cell_place, tile_at, tile_place}
 use Rattle.plan.specs.Geometry.{processor_of}
 use Rattle.plan.specs.Messages.{two}
 use Rattle.plan.specs.Box.{box_length, box_size, box_place, box_cell}

@@ -10,7 +10,7 @@ use native.Mathlib.Omega.{arith}
 use lib.ListN.{length, get_or, take}
 use lib.Dec.{ltb}
 use borrow.Author.Tests.{lt-ltb, le-ltb, le-leb, lt-leb}
-use Rattle.base.specs.Tests.{◌and◌, pick, tabulate}
+use Rattle.base.specs.Tests.{pick, tabulate}
 use Rattle.base.specs.Lists.{sublist, pack, unpack}
 use Rattle.base.proofs.Tests.{pick_true, pick_false, and_true, and_false, and_no}
 use Rattle.nest.specs.declared.Nest.{Nest}

@@ -17,7 +17,7 @@ use Rattle.nest.specs.Accepted.{Accepted}
 use Rattle.nest.specs.Nest.{length_of, tile_length, processor_count, component, tile_count}
 use Rattle.plan.specs.declared.Route.{Route}
 use Rattle.plan.specs.declared.Route.TheVariants.{Direct, Indirect}
-use Rattle.nest.specs.Places.{place, cell_at, tile_place}
+use Rattle.nest.specs.Places.{cell_at, tile_place}
 use Rattle.plan.specs.Messages.{ways, slots, slot_tile, slot_direction, slot_dimension, slot_cells, slot_parcel}
 use Rattle.plan.specs.Hops.{hops, alone}
 use Rattle.layout.specs.Regions.{Region, among, side, region_size, region_place, region_cell, slot_box, slot_window, comes_into}

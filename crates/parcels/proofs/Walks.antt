@@ -5,10 +5,10 @@ use mathlib.Core.Bool.{Bool, true, false}
 use mathlib.Core.List.{List, [], ◌∷◌, ◌++◌}
 use native.Mathlib.Numerals.{add-one}
 use native.Mathlib.Omega.{arith}
-use lib.ListN.{length, get_or, take, set, length-map}
+use lib.ListN.{length, take, length-map}
 use lib.Seq.{take-length}
 use Rattle.base.specs.Tests.{keep}
-use Rattle.base.specs.Lists.{pack, unpack}
+use Rattle.base.specs.Lists.{unpack}
 use Rattle.base.proofs.Select.{keep_hit, keep_none, keep_few, keep_mono}
 use Rattle.base.proofs.Lists.{unpack_length}
 pub use Rattle.base.proofs.Lists.{pack_append, unpack_append}

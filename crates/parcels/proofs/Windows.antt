@@ -12,7 +12,7 @@ use lib.ListN.{length, get_or, take, drop, set, length-append, length-set}
 use lib.Seq.{get_or-set_same, get_or-set_other, take-add, length-take-le}
 use lib.Dec.{ltb}
 use borrow.Author.Tests.{lt-ltb, le-ltb, ltb-true, le-leb}
-use Rattle.base.specs.Tests.{◌and◌, ◌or◌, every, some}
+use Rattle.base.specs.Tests.{◌or◌, every, some}
 use Rattle.base.specs.Lists.{sublist, unpack}
 use Rattle.base.proofs.Tests.{and_left, and_no, or_left, never_both, same_test, every_at, every_all, every_not, length_tabulate}
 use Rattle.nest.specs.declared.Nest.{Nest}

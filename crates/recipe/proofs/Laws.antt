@@ -2,15 +2,15 @@
 use Prim.Native.Nat.{ℕ, zero, suc}
 use mathlib.Core.Path.{◌≡◌, refl, sym, ap, ◌∙◌}
 use mathlib.Core.Logic.{◌≢◌}
-use mathlib.Core.Bool.{Bool, true, false}
+use mathlib.Core.Bool.{true, false}
 use mathlib.Core.List.{List, [], ◌∷◌, ◌++◌}
 use native.Mathlib.Omega.{arith}
 use lib.Dec.{ltb}
 use borrow.Author.Tests.{lt-ltb, ltb-false}
 use Rattle.base.specs.Tests.{◌and◌}
 use Rattle.base.specs.Lists.{Bytes}
-use Rattle.base.specs.Numbers.{Line, line, first_of}
-use Rattle.base.proofs.Tests.{and_true, and_left, and_false, and_no}
+use Rattle.base.specs.Numbers.{Line, first_of}
+use Rattle.base.proofs.Tests.{and_true, and_false, and_no}
 use Rattle.base.proofs.Numbers.{Numbered, first_nil, first_true, first_false, none_first, first_some, first_behind, none_front, none_behind}
 use Rattle.nest.specs.declared.Nest.{Nest}
 use Rattle.nest.specs.declared.Reading.{Reading}

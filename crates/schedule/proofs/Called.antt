@@ -5,8 +5,7 @@ use borrow.Author.Tests.{eq-eqb, ne_eqb}
 use Rattle.base.specs.Numbers.{first_of}
 use Rattle.base.proofs.Tests.{pick_true, pick_false}
 use Rattle.machine.specs.Plan.{Plan, Sound}
-use Rattle.machine.specs.Machine.{State, answered, collect, fresh}
-use Rattle.machine.specs.Runs.{act}
+use Rattle.machine.specs.Machine.{State, answered, fresh}
 use Rattle.machine.proofs.RunLaws.{number_of, after_of}
 use Rattle.layout.specs.RouteWords.{route_of}
 use Rattle.recipe.specs.Routes.{lines_for}

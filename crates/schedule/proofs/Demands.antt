@@ -1,9 +1,8 @@
 -- What W-213 demands holds of the calls' definitions, for every recipe's bytes.
-use Rattle.std.specs.Prelude.{◌≡◌, ℕ, ◌<◌, true, List, length, get_or}
+use Rattle.std.specs.Prelude.{◌≡◌, ℕ, ◌<◌, true, List, get_or}
 use mathlib.Core.Path.{refl, sym, ap, ◌∙◌}
 use Rattle.base.specs.Lists.{Bytes}
 use Rattle.base.specs.Numbers.{first_of}
-use Rattle.machine.specs.Plan.{Sound}
 use Rattle.machine.specs.Machine as machine
 use Rattle.machine.specs.Machine.{State}
 use Rattle.nest.specs.Reader.{nest_of}
@@ -12,7 +11,7 @@ use Rattle.plan.proofs.ShapedSound.{sound}
 use Rattle.layout.specs.RouteWords.{route_of}
 use Rattle.recipe.specs.Routes.{lines_for}
 use Rattle.recipe.proofs.Laws.{reads_for}
-use Rattle.rounds.specs.Rounds.{told, drive, rounds, rounds_to, tile_round, RoundsHold}
+use Rattle.rounds.specs.Rounds.{told, drive, rounds_to, tile_round, RoundsHold}
 use Rattle.engine.specs.Calls.{recipe, areas, fresh_call_lines, fresh_call, collect_call}
 use Rattle.engine.specs.Demands.{Fixed, calls}
 use Rattle.engine.proofs.Lines.{areas_are}

@@ -14,7 +14,7 @@ use Rattle.nest.specs.Nest.{box_tiles}
 use Rattle.nest.specs.Shape.{tiles}
 use Rattle.plan.specs.declared.Route.{Route}
 use Rattle.plan.specs.declared.Route.TheVariants.{Direct}
-use Rattle.plan.specs.Messages.{ways, slots, slot_message, messages_of, messages_to}
+use Rattle.plan.specs.Messages.{slots, slot_message, messages_of, messages_to}
 use Rattle.plan.specs.Shaped.{shaped_message, shaped_slots, plan_of}
 use Rattle.plan.proofs.ShapedBox.{plan_of_box}
 use Rattle.plan.proofs.ShapedSound.{sound}

@@ -1,13 +1,11 @@
 -- Read this.
 -- What is demanded of the calls by rounds, for a recipe's bytes: made of the definitions in Calls, which the calls' contracts equate them with.
 -- Renders document 02, W-213: which round a tile has, that the driver ends in the greatest, and that no plan of whole tiles ends sooner.
-use Rattle.std.specs.Prelude.{◌≡◌, ℕ, ◌<◌, List, length, slice_index}
+use Rattle.std.specs.Prelude.{◌≡◌, ℕ, ◌<◌, List, slice_index}
 use Rattle.base.specs.Lists.{Bytes}
-use Rattle.base.specs.Numbers.{first_of}
 use Rattle.machine.specs.Machine as machine
 use Rattle.machine.specs.Machine.{State}
-use Rattle.nest.specs.Reader.{read_lines}
-use Rattle.rounds.specs.Rounds.{Told, told, drive, rounds, rounds_to, tile_round, rounds_from, RoundsHold, state_then}
+use Rattle.rounds.specs.Rounds.{told, drive, rounds, rounds_to, tile_round, RoundsHold, state_then}
 use Rattle.engine.specs.Calls.{recipe, fresh_call_lines, fresh_call, collect_call}
 use Rattle.engine.specs.Demands.{Fixed, calls}
 use Rattle.schedule.specs.Calls.{rounds_call, rounds_of_lines, rounds_of_call}

@@ -1,7 +1,7 @@
 -- Read this.
 -- Rows of document 01's table by rounds: each tile's round, and how many rounds there are.
 -- Renders document 02, W-213: the rounds of row A; row B's are read off its two messages; and W-209's: a row with a bound.
-use Rattle.std.specs.Prelude.{◌≡◌, ℕ, List, [], ◌∷◌}
+use Rattle.std.specs.Prelude.{◌≡◌, [], ◌∷◌}
 use Rattle.nest.specs.Recipes.{row_a, row_b}
 use Rattle.conformance.specs.ShapedExamples.{row_triangle}
 use Rattle.rounds.specs.Rounds.{rounds, rounds_to}

@@ -6,7 +6,7 @@ use mathlib.Core.Bool.{Bool, true, false}
 use mathlib.Core.List.{List, []}
 use native.Mathlib.Omega.{arith}
 use lib.ListN.{length, get_or}
-use Rattle.base.specs.Tests.{pick, those}
+use Rattle.base.specs.Tests.{pick}
 use Rattle.machine.specs.Plan.{Plan, Message, count, words, offset, held_by, message, tiles_of}
 use Rattle.nest.specs.declared.Nest.{Nest}
 use Rattle.nest.specs.Accepted.{Accepted}
@@ -18,14 +18,13 @@ use Rattle.plan.specs.declared.Route.TheVariants.{Direct}
 use Rattle.plan.specs.Messages.{ways, directions, slot_direction, slot_parcel, slot_message, messages_of, box_plan}
 use Rattle.plan.specs.Shaped.{box_tile, slot_box, shaped_parcel, shaped_home, shaped_slot_parcel, shaped_message, shaped_slots, plan_of}
 use Rattle.plan.proofs.ShapedBox.{plan_of_box}
-use Rattle.layout.specs.declared.Sizes.{Sizes}
 use Rattle.tables.specs.declared.scans.MessageSlot.{MessageSlot}
 use Rattle.tables.specs.scans.Scans.{Sheet, Lengths, Found}
-use Rattle.tables.specs.boxes.Table.{Table, FoundAt, at_end}
+use Rattle.tables.specs.boxes.Table.{FoundAt, at_end}
 use Rattle.tables.specs.shaped_table.Table as shaped
 use Rattle.tables.specs.shaped_table.Table.{ShapedTable}
 use Rattle.tables.proofs.shaped_table.Laws as table
-use Rattle.tables.specs.Tables.{Tabled, FoundIn}
+use Rattle.tables.specs.Tables.{FoundIn}
 
 full : (b : Bool) (l : List ℕ) → 0 < length (pick b [] l) → pick b [] l ≡ l
 unfolding pick

@@ -1,5 +1,4 @@
 -- `layout::along_of` meets its contract.
-use borrow.Author.Rules.{rules}
 use native.Mathlib.Omega.{arith}
 use Rattle.layout.proofs.Steps.{ways_few, way_few, ahead_places, along_direct, along_indirect}
 use Rattle.layout.proofs.along_of.Goals as goal

@@ -1,9 +1,6 @@
 -- `layout::bounds_of` meets its contract: corner and lengths are done before j; from j on the corner is still the tile's place.
-use borrow.Author.Rules.{rules}
-use native.Mathlib.Omega.{arith}
 use Prim.Native.Nat.{◌-◌}
-use mathlib.Core.Path.{refl}
-use Rattle.layout.proofs.Cells.{Boxing, boxing_none, boxing_low, boxing_more, boxing_countable, boxing_end}
+use Rattle.layout.proofs.Cells.{Boxing}
 use Rattle.layout.proofs.bounds_of.Given as goal
 
 abbrev pub invariant-loop-j : goal.invariant-loop-j

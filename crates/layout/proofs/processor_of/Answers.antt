@@ -1,5 +1,4 @@
 -- `layout::processor_of` meets its contract.
-use borrow.Author.Rules.{rules}
 use mathlib.Core.Path.{◌∙◌}
 use Rattle.plan.proofs.Tiles.{processor_of_low}
 use Rattle.layout.proofs.Cells.{processor_ranked, processor_rank}

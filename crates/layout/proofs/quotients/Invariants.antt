@@ -1,10 +1,8 @@
 -- `layout::quotients` meets its contract: the array is filled from its start.
-use borrow.Author.Rules.{rules}
-use native.Mathlib.Omega.{arith}
 use Prim.Native.Nat.{◌-◌, ◌/◌}
 use lib.ListN.{get_or}
 use Rattle.nest.specs.Nest.{tile_length}
-use Rattle.layout.proofs.Loops.{Filled, filled_none, filled_more, filled_end}
+use Rattle.layout.proofs.Loops.{Filled}
 use Rattle.layout.proofs.quotients.Given as goal
 
 abbrev pub invariant-loop-j : goal.invariant-loop-j

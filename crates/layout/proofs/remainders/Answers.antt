@@ -1,10 +1,9 @@
 -- `layout::remainders` meets its contract: before j the remainders, from j on as before.
-use borrow.Author.Rules.{rules}
 use native.Mathlib.Omega.{arith}
-use Prim.Native.Nat.{ℕ, ◌-◌, ◌%◌}
+use Prim.Native.Nat.{ℕ, ◌%◌}
 use mathlib.Core.Path.{ap}
 use lib.ListN.{get_or}
-use Rattle.layout.proofs.Loops.{Changed, changed_none, changed_more, filled_end}
+use Rattle.layout.proofs.Loops.{changed_none, changed_more, filled_end}
 use Rattle.layout.proofs.remainders.Goals as goal
 
 pub loop-j-init : goal.loop-j-init

@@ -1,10 +1,7 @@
 -- `layout::remainders` meets its contract: before j the remainders, from j on as before.
-use borrow.Author.Rules.{rules}
-use native.Mathlib.Omega.{arith}
-use Prim.Native.Nat.{ℕ, ◌-◌, ◌%◌}
-use mathlib.Core.Path.{ap}
+use Prim.Native.Nat.{◌-◌, ◌%◌}
 use lib.ListN.{get_or}
-use Rattle.layout.proofs.Loops.{Changed, changed_none, changed_more, filled_end}
+use Rattle.layout.proofs.Loops.{Changed}
 use Rattle.layout.proofs.remainders.Given as goal
 
 abbrev pub invariant-loop-j : goal.invariant-loop-j

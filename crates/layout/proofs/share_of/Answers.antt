@@ -1,10 +1,6 @@
 -- `layout::share_of` meets its contract.
 use native.Mathlib.Omega.{arith}
 use native.Mathlib.Nat.{mod-lt}
-use mathlib.Core.Path.{◌≡◌}
-use mathlib.Core.Bool.{true}
-use borrow.Author.Tests.{not-true, not-false}
-use borrow.Author.Rules.{rules}
 use Rattle.layout.proofs.Shares.{shared_all, shared_some}
 use Rattle.layout.proofs.share_of.Goals as goal
 

@@ -1,5 +1,4 @@
 -- `layout::sizes_of` meets its contract.
-use borrow.Author.Rules.{rules}
 use mathlib.Core.Path.{refl, ◌∙◌}
 use Rattle.nest.specs.Nest.{cells, processors}
 use Rattle.layout.proofs.Cells.{lengths_countable, across_countable, counts_countable, across_product}

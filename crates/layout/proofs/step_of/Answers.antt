@@ -1,7 +1,6 @@
 -- `layout::step_of` meets its contract.
 use mathlib.Core.Path.{◌∙◌}
 use native.Mathlib.Omega.{arith}
-use borrow.Author.Rules.{rules}
 use Rattle.layout.proofs.Cells.{tile_ranked, tile_rank}
 use Rattle.layout.proofs.Steps.{along_within, step_few}
 use Rattle.layout.proofs.step_of.Goals as goal

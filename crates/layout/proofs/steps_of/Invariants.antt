@@ -1,12 +1,9 @@
 -- `layout::steps_of` meets its contract: those of the first w ways.
-use borrow.Author.Rules.{rules}
-use native.Mathlib.Omega.{arith}
 use Prim.Native.Nat.{◌-◌}
 use Rattle.nest.specs.Places.{tile_at}
 use Rattle.plan.specs.Messages.{ways}
 use Rattle.layout.specs.Sizes.{along}
-use Rattle.layout.proofs.Loops.{Filled, filled_none, filled_more}
-use Rattle.layout.proofs.Steps.{ways_few, stepped_none, stepped_all}
+use Rattle.layout.proofs.Loops.{Filled}
 use Rattle.layout.proofs.steps_of.Given as goal
 
 abbrev pub invariant-loop-w : goal.invariant-loop-w

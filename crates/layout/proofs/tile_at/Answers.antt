@@ -1,8 +1,7 @@
 -- `layout::tile_at` meets its contract: what the dimensions left give, weighed, and the rank of those done.
 use native.Mathlib.Omega.{arith}
-use Prim.Native.Nat.{◌-◌, ◌<◌, ◌≤◌}
-use lib.ListN.{get_or}
-use Rattle.layout.proofs.Shares.{Finding, Turn, finding_none, finding_more, finding_end, share_asks}
+use Prim.Native.Nat.{◌-◌, ◌<◌}
+use Rattle.layout.proofs.Shares.{finding_none, finding_more, finding_end, share_asks}
 use Rattle.layout.proofs.tile_at.Goals as goal
 
 pub loop-j-init : goal.loop-j-init

@@ -1,8 +1,5 @@
 -- `layout::tile_at` meets its contract: what the dimensions left give, weighed, and the rank of those done.
-use native.Mathlib.Omega.{arith}
-use Prim.Native.Nat.{◌-◌, ◌<◌, ◌≤◌}
-use lib.ListN.{get_or}
-use Rattle.layout.proofs.Shares.{Finding, Turn, finding_none, finding_more, finding_end, share_asks}
+use Rattle.layout.proofs.Shares.{Finding}
 use Rattle.layout.proofs.tile_at.Given as goal
 
 abbrev pub invariant-loop-j : goal.invariant-loop-j

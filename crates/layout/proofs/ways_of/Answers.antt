@@ -1,5 +1,4 @@
 -- `layout::ways_of` meets its contract.
-use borrow.Author.Rules.{rules}
 use native.Mathlib.Omega.{arith}
 use Rattle.layout.proofs.Cells.{two_countable}
 use Rattle.layout.proofs.Steps.{ways_direct, ways_indirect, more_directions}

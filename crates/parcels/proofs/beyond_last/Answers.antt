@@ -1,12 +1,9 @@
 -- `parcels::beyond_last` meets its contract: none of the first j components is beyond.
 use native.Mathlib.Omega.{arith}
-use Prim.Native.Nat.{◌+◌, ◌-◌}
 use mathlib.Core.Path.{sym}
-use lib.ListN.{get_or}
-use lib.Dec.{leb}
 use borrow.Author.Tests.{le-leb, lt-leb}
 use Rattle.base.proofs.Tests.{some_one}
-use Rattle.layout.proofs.Loops.{Nowhere, nowhere_none, nowhere_more, nowhere_end}
+use Rattle.layout.proofs.Loops.{nowhere_none, nowhere_more, nowhere_end}
 use Rattle.parcels.proofs.beyond_last.Goals as goal
 
 pub loop-j-init : goal.loop-j-init

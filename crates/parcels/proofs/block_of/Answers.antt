@@ -1,11 +1,6 @@
 -- `parcels::block_of` meets its contract: the first j dimensions.
-use borrow.Author.Rules.{rules}
 use native.Mathlib.Omega.{arith}
-use Prim.Native.Nat.{◌+◌, ◌*◌, ◌-◌, min}
-use lib.ListN.{get_or}
-use lib.Dec.{ltb}
-use Rattle.base.specs.Tests.{one}
-use Rattle.layout.proofs.Loops.{Filled, filled_none, filled_more, filled_end}
+use Rattle.layout.proofs.Loops.{filled_none, filled_more, filled_end}
 use Rattle.layout.proofs.Cells.{count_most}
 use Rattle.parcels.proofs.Sendings.{tile_few, begin_end}
 use Rattle.parcels.proofs.block_of.Goals as goal

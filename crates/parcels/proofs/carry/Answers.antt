@@ -2,7 +2,6 @@
 use mathlib.Core.Path.{sym}
 use borrow.Author.Tests.{lt-leb, le-leb}
 use Rattle.base.proofs.Tests.{and_false, and_left}
-use borrow.Author.Rules.{rules}
 use Rattle.parcels.proofs.carry.Goals as goal
 
 pub returns-then-moved-low : goal.returns-then-moved-low

@@ -1,10 +1,8 @@
 -- `parcels::end_in_row` meets its contract: the first j components come into the window.
 use native.Mathlib.Omega.{arith}
-use Prim.Native.Nat.{◌-◌}
 use mathlib.Core.Path.{sym, ◌∙◌}
-use borrow.Author.Tests.{not-true, not-false}
-use Rattle.layout.proofs.Loops.{Sofar, sofar_none, sofar_more}
-use Rattle.parcels.proofs.Windows.{carried, given_few, end_stops, end_none, end_some}
+use Rattle.layout.proofs.Loops.{sofar_none, sofar_more}
+use Rattle.parcels.proofs.Windows.{given_few, end_stops, end_none, end_some}
 use Rattle.parcels.proofs.end_in_row.Goals as goal
 
 pub overflow_sub-last : goal.overflow_sub-last

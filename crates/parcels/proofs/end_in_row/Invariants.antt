@@ -1,10 +1,7 @@
 -- `parcels::end_in_row` meets its contract: the first j components come into the window.
-use native.Mathlib.Omega.{arith}
 use Prim.Native.Nat.{◌-◌}
-use mathlib.Core.Path.{sym, ◌∙◌}
-use borrow.Author.Tests.{not-true, not-false}
-use Rattle.layout.proofs.Loops.{Sofar, sofar_none, sofar_more}
-use Rattle.parcels.proofs.Windows.{carried, given_few, end_stops, end_none, end_some}
+use Rattle.layout.proofs.Loops.{Sofar}
+use Rattle.parcels.proofs.Windows.{carried}
 use Rattle.parcels.proofs.end_in_row.Given as goal
 
 abbrev pub invariant-loop-j : goal.invariant-loop-j

@@ -1,5 +1,4 @@
 -- `parcels::end_of` meets its contract.
-use borrow.Author.Rules.{rules}
 use native.Mathlib.Nat.{mul-le-mul}
 use native.Mathlib.Omega.{arith}
 use Rattle.parcels.proofs.end_of.Goals as goal

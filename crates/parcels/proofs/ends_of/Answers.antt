@@ -1,9 +1,6 @@
 -- `parcels::ends_of` meets its contract: those of the first e distances.
 use native.Mathlib.Omega.{arith}
-use Prim.Native.Nat.{◌-◌}
-use Rattle.layout.specs.Places.{nth}
-use Rattle.parcels.specs.Windows.{window_of}
-use Rattle.parcels.proofs.Windows.{Ending, ending_none, ending_more, ending_end}
+use Rattle.parcels.proofs.Windows.{ending_none, ending_more, ending_end}
 use Rattle.parcels.proofs.ends_of.Goals as goal
 
 pub loop-e-init : goal.loop-e-init

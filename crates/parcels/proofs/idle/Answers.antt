@@ -2,7 +2,6 @@
 use native.Mathlib.Omega.{arith}
 use mathlib.Core.Path.{sym, ◌∙◌}
 use Rattle.parcels.proofs.Sendings.{headed_to, idle_outside, idle_counts}
-use borrow.Author.Rules.{rules}
 use Rattle.parcels.proofs.idle.Goals as goal
 
 pub beyond_last-requires : goal.beyond_last-requires

@@ -1,5 +1,4 @@
 -- `parcels::later_of` meets its contract.
-use borrow.Author.Rules.{rules}
 use Rattle.parcels.proofs.later_of.Goals as goal
 
 pub returns-in-Indirect : goal.returns-in-Indirect

@@ -1,13 +1,8 @@
 -- `parcels::leaves` meets its contract: none of the first j steps comes to another processor.
-use borrow.Author.Rules.{rules}
 use native.Mathlib.Omega.{arith}
-use Prim.Native.Nat.{◌-◌}
 use mathlib.Core.Path.{sym, ◌∙◌}
-use lib.ListN.{get_or}
-use lib.Dec.{ltb, eqb}
-use Rattle.base.specs.Tests.{◌and◌}
 use Rattle.base.proofs.Tests.{some_one}
-use Rattle.layout.proofs.Loops.{Nowhere, nowhere_none, nowhere_more, nowhere_end}
+use Rattle.layout.proofs.Loops.{nowhere_none, nowhere_more, nowhere_end}
 use Rattle.parcels.proofs.leaves.Goals as goal
 
 pub loop-j-init : goal.loop-j-init

@@ -1,13 +1,9 @@
 -- `parcels::leaves` meets its contract: none of the first j steps comes to another processor.
-use borrow.Author.Rules.{rules}
-use native.Mathlib.Omega.{arith}
 use Prim.Native.Nat.{◌-◌}
-use mathlib.Core.Path.{sym, ◌∙◌}
 use lib.ListN.{get_or}
 use lib.Dec.{ltb, eqb}
 use Rattle.base.specs.Tests.{◌and◌}
-use Rattle.base.proofs.Tests.{some_one}
-use Rattle.layout.proofs.Loops.{Nowhere, nowhere_none, nowhere_more, nowhere_end}
+use Rattle.layout.proofs.Loops.{Nowhere}
 use Rattle.parcels.proofs.leaves.Given as goal
 
 abbrev pub invariant-loop-j : goal.invariant-loop-j

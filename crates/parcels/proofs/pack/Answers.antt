@@ -1,11 +1,10 @@
 -- `parcels::pack` meets its contract: the words of the first r rows are packed.
 use native.Mathlib.Omega.{arith}
-use Prim.Native.Nat.{◌-◌, ◌*◌}
 use native.Mathlib.Nat.{zero-mul, mul-le-mul_right}
 use mathlib.Core.Path.{refl, sym, ap, ◌∙◌}
 use Rattle.base.specs.Lists.{pack}
 use Rattle.layout.proofs.Steps.{ways_some, way_low}
-use Rattle.parcels.proofs.Packing.{PackedTo, packed_none, packed_room, packed_end}
+use Rattle.parcels.proofs.Packing.{packed_none, packed_room, packed_end}
 use Rattle.parcels.proofs.Rows.{size_few, rows_few, row_ranked}
 use Rattle.parcels.proofs.Alike.{row_first, packed_over, packed_next}
 use Rattle.parcels.proofs.Sendings.{headed, full_found, words_found}

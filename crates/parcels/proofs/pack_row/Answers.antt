@@ -1,14 +1,10 @@
 -- `parcels::pack_row` meets its contract: between two cells, the words of the row's cells so far that are read are packed; between
 -- two distances, nothing has changed since the cell was begun and no distance before e reads it there.
-use borrow.Author.Rules.{rules}
 use native.Mathlib.Omega.{arith}
-use Prim.Native.Nat.{◌-◌, ◌<◌}
 use mathlib.Core.Path.{refl}
-use lib.ListN.{length, get_or}
-use lib.Dec.{ltb}
 use borrow.Author.Tests.{le-ltb}
 use Rattle.layout.proofs.Loops.{nowhere_more}
-use Rattle.parcels.proofs.Packing.{Packing, Searching, packing_none, packing_long, packing_room, packing_hit, packing_left, packing_end}
+use Rattle.parcels.proofs.Packing.{packing_none, packing_long, packing_room, packing_hit, packing_left, packing_end}
 use Rattle.parcels.proofs.pack_row.Goals as goal
 
 pub cells-init : goal.cells-init

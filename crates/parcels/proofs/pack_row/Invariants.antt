@@ -1,13 +1,8 @@
 -- `parcels::pack_row` meets its contract: between two cells, the words of the row's cells so far that are read are packed; between
-use borrow.Author.Rules.{rules}
-use native.Mathlib.Omega.{arith}
-use Prim.Native.Nat.{◌-◌, ◌<◌}
-use mathlib.Core.Path.{refl}
-use lib.ListN.{length, get_or}
+use Prim.Native.Nat.{◌-◌}
+use lib.ListN.{get_or}
 use lib.Dec.{ltb}
-use borrow.Author.Tests.{le-ltb}
-use Rattle.layout.proofs.Loops.{nowhere_more}
-use Rattle.parcels.proofs.Packing.{Packing, Searching, packing_none, packing_long, packing_room, packing_hit, packing_left, packing_end}
+use Rattle.parcels.proofs.Packing.{Packing, Searching}
 use Rattle.parcels.proofs.pack_row.Given as goal
 
 abbrev pub invariant-distances : goal.invariant-distances

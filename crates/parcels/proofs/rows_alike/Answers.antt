@@ -1,10 +1,9 @@
 -- `parcels::rows_alike` meets its contract: so many rows are alike for the first e distances.
-use borrow.Author.Rules.{rules}
 use native.Mathlib.Omega.{arith}
 use Prim.Native.Nat.{◌-◌}
 use mathlib.Core.Path.{refl}
 use Rattle.parcels.proofs.Windows.{given_few}
-use Rattle.parcels.proofs.Alike.{Steady, steady_none, steady_more, steady_end}
+use Rattle.parcels.proofs.Alike.{steady_none, steady_more, steady_end}
 use Rattle.parcels.proofs.rows_alike.Goals as goal
 
 pub overflow_sub-last : goal.overflow_sub-last

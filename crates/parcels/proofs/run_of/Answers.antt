@@ -1,9 +1,7 @@
 -- `parcels::run_of` meets its contract: the highest of the first e ends, none below the row's first component.
-use borrow.Author.Rules.{rules}
 use native.Mathlib.Omega.{arith}
-use Prim.Native.Nat.{◌-◌}
-use mathlib.Core.Logic.{⊎_elim, inl, inr}
-use Rattle.parcels.proofs.Windows.{Highest, highest_none, highest_turn, run_end}
+use mathlib.Core.Logic.{inl, inr}
+use Rattle.parcels.proofs.Windows.{highest_none, highest_turn, run_end}
 use Rattle.parcels.proofs.run_of.Goals as goal
 use Rattle.parcels.proofs.run_of.Goals.{then-end-ends, else-end-ends}
 

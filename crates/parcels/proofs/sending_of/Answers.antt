@@ -4,7 +4,6 @@ use mathlib.Core.Path.{refl}
 use Rattle.layout.proofs.Steps.{ways_some, way_low, ways_few}
 use Rattle.layout.proofs.CellRows.{fewer}
 use Rattle.parcels.proofs.Sendings.{headed_at, headed_to, boxed_countable, sends_of}
-use borrow.Author.Rules.{rules}
 use Rattle.parcels.proofs.sending_of.Goals as goal
 
 pub nonzero_rem-way : goal.nonzero_rem-way

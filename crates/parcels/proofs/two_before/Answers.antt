@@ -1,5 +1,4 @@
 -- `parcels::two_before` meets its contract.
-use borrow.Author.Rules.{rules}
 use Rattle.parcels.proofs.two_before.Goals as goal
 
 pub returns-in-Direct : goal.returns-in-Direct

@@ -1,5 +1,4 @@
 -- `parcels::unchanged` meets its contract.
-use borrow.Author.Rules.{rules}
 use Rattle.parcels.proofs.Alike.{unchanged_below, unchanged_in, unchanged_above}
 use Rattle.parcels.proofs.unchanged.Goals as goal
 

@@ -1,13 +1,9 @@
 -- `parcels::window_of` meets its contract: the first j spread dimensions.
-use borrow.Author.Rules.{rules}
-use native.Mathlib.Omega.{arith}
 use Prim.Native.Nat.{◌+◌, ◌*◌, ◌-◌, min}
-use mathlib.Core.Path.{refl}
 use lib.ListN.{get_or}
 use lib.Dec.{leb}
 use Rattle.base.specs.Tests.{one}
-use Rattle.layout.proofs.Loops.{Changed, changed_none, changed_more}
-use Rattle.parcels.proofs.Sendings.{tile_few, one_few, windowed}
+use Rattle.layout.proofs.Loops.{Changed}
 use Rattle.parcels.proofs.window_of.Given as goal
 
 abbrev pub invariant-loop-j : goal.invariant-loop-j

@@ -1,6 +1,5 @@
 -- `recipe::open` meets its contract: the table is filled where the recipe is not refused.
 use Rattle.recipe.proofs.Laws as laws
-use borrow.Author.Rules.{rules}
 use Rattle.recipe.proofs.open.Goals as goal
 
 pub fill-requires : goal.fill-requires

@@ -1,5 +1,4 @@
 -- `recipe::read_for` meets its contract: one law for each return.
-use borrow.Author.Rules.{rules}
 use Rattle.layout.proofs.Steps.{route_direct, route_indirect}
 use Rattle.recipe.proofs.Laws as L
 use Rattle.recipe.proofs.read_for.Goals as goal

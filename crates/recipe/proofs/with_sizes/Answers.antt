@@ -1,7 +1,6 @@
 -- `recipe::with_sizes` meets its contract: refused by its number, or read with its counts.
 use mathlib.Core.Path.{◌∙◌}
 use Rattle.recipe.proofs.Laws as laws
-use borrow.Author.Rules.{rules}
 use Rattle.recipe.proofs.with_sizes.Goals as goal
 
 pub returns-then-number-ne0 : goal.returns-then-number-ne0

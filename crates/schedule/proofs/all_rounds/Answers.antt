@@ -1,6 +1,5 @@
 -- The messages listed and chained, then the rounds.
 use mathlib.Core.Path.{refl}
-use borrow.Author.Rules.{rules}
 use Rattle.schedule.proofs.all_rounds.Goals as goal
 
 pub list-messages-requires : goal.list-messages-requires
@@ -20,7 +19,8 @@ pub rounds_by-requires : goal.rounds_by-requires
 rounds_by-requires c =
     let list = c.list-messages in
     let chain-ends = c.chain_ends in
-    let chain-ends2 = c.chain_ends-2 in record { indexed = (
+    let chain-ends2 = c.chain_ends-2 in record {
+      indexed = (
         record {
           planned = c.requires.planned.0;
           listed = list.ensures.1;
@@ -30,7 +30,9 @@ rounds_by-requires c =
               list.ensures.1.few;
         },
         c.requires.planned.1,
-      ); status_value = c.requires.status_value }
+      );
+      status_value = c.requires.status_value;
+    }
 
 pub returns : goal.returns
 returns c =

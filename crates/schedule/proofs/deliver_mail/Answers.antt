@@ -1,9 +1,8 @@
 -- The marks so far.
 use native.Mathlib.Omega.{arith}
 use mathlib.Core.Path.{ap}
-use Rattle.std.specs.Prelude.{◌-◌, length, set}
+use Rattle.std.specs.Prelude.{set}
 use Rattle.schedule.proofs.Laws as laws
-use borrow.Author.Rules.{rules}
 use Rattle.schedule.proofs.deliver_mail.Goals as goal
 
 pub loop-m-init : goal.loop-m-init

@@ -1,9 +1,6 @@
 -- The marks so far.
-use native.Mathlib.Omega.{arith}
-use mathlib.Core.Path.{ap}
-use Rattle.std.specs.Prelude.{◌-◌, length, set}
+use Rattle.std.specs.Prelude.{◌-◌, length}
 use Rattle.schedule.proofs.Laws as laws
-use borrow.Author.Rules.{rules}
 use Rattle.schedule.proofs.deliver_mail.Given as goal
 
 abbrev pub invariant-loop-m : goal.invariant-loop-m

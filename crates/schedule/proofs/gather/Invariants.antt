@@ -1,11 +1,5 @@
 -- What is left to gather gives the same.
-use native.Mathlib.Omega.{arith}
-use mathlib.Core.Path.{◌∙◌}
 use Rattle.std.specs.Prelude.{◌-◌, length}
-use Rattle.plan.specs.Shaped.{plan_of}
-use Rattle.machine.specs.Plan.{count, taker_of}
-use Rattle.schedule.proofs.Telling as telling
-use Rattle.schedule.proofs.Chains as chains
 use Rattle.schedule.proofs.Laws as laws
 use Rattle.schedule.proofs.gather.Given as goal
 

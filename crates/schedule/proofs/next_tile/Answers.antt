@@ -2,7 +2,6 @@
 use native.Mathlib.Omega.{arith}
 use mathlib.Core.Path.{refl, sym, ap, ◌∙◌}
 use Rattle.std.specs.Prelude.{ℕ, ◌*◌, get_or}
-use borrow.Author.Tests.{not-true, not-false}
 use Rattle.machine.specs.Plan.{tiles_of}
 use Rattle.machine.specs.Machine.{state_of}
 use Rattle.nest.specs.Nest.{cells, processors}
@@ -10,7 +9,6 @@ use Rattle.plan.specs.Shaped.{plan_of}
 use Rattle.stages.proofs.Parts as parts
 use Rattle.schedule.proofs.Listing as L
 use Rattle.schedule.proofs.Laws as laws
-use borrow.Author.Rules.{rules}
 use Rattle.schedule.proofs.next_tile.Goals as goal
 
 pub overflow_mul-finished : goal.overflow_mul-finished
@@ -35,12 +33,11 @@ pub tile_at-t-requires : goal.tile_at-t-requires
 tile_at-t-requires c = (c.requires.indexed.0.planned.0, (c.requires.indexed.0.planned.1, omega (arith, c.tile_count-n.ensures.0, c.if-i-n.false)))
 
 pub ready-requires : goal.ready-requires
-ready-requires c =
-    (
-      record { chained = c.requires.indexed.0.by_taker; marks = c.requires.plan_areas.status; few = c.requires.indexed.0.few },
-      omega
-          (arith, c.tile_at-t.ensures.1, L.tiles_few _ _ _ c.requires.indexed.0.planned.0 c.requires.indexed.0.planned.1),
-    )
+ready-requires c = (
+  record { chained = c.requires.indexed.0.by_taker; marks = c.requires.plan_areas.status; few = c.requires.indexed.0.few },
+  omega
+      (arith, c.tile_at-t.ensures.1, L.tiles_few _ _ _ c.requires.indexed.0.planned.0 c.requires.indexed.0.planned.1),
+)
 
 pub returns-then-not-ready : goal.returns-then-not-ready
 returns-then-not-ready c =
@@ -67,12 +64,16 @@ slice_bounds-whole_tile-end c =
 
 pub whole_tile-requires : goal.whole_tile-requires
 whole_tile-requires c =
-    record { indexed = (c.requires.indexed.0, c.tile_at-t.ensures.1); source_len = (
-          c.requires.indexed.1.0,
-          parts.mid_length c.args.memories.now (c.args.b * c.args.sizes.cells) c.args.sizes.cells
-              (parts.room (processors c.args.nest) c.args.b c.args.sizes.cells (cells c.args.nest) _ c.requires.indexed.1.1
-              c.requires.indexed.0.planned.0.cells c.requires.plan_areas.memories) ∙ c.requires.indexed.0.planned.0.cells,
-        ); buffer_len = (c.requires.plan_areas.buffer, c.requires.plan_areas.status) }
+    record {
+      indexed = (c.requires.indexed.0, c.tile_at-t.ensures.1);
+      source_len = (
+        c.requires.indexed.1.0,
+        parts.mid_length c.args.memories.now (c.args.b * c.args.sizes.cells) c.args.sizes.cells
+            (parts.room (processors c.args.nest) c.args.b c.args.sizes.cells (cells c.args.nest) _ c.requires.indexed.1.1
+            c.requires.indexed.0.planned.0.cells c.requires.plan_areas.memories) ∙ c.requires.indexed.0.planned.0.cells,
+      );
+      buffer_len = (c.requires.plan_areas.buffer, c.requires.plan_areas.status);
+    }
 
 pub overflow_add-after : goal.overflow_add-after
 overflow_add-after c =

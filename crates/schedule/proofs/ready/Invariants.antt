@@ -1,9 +1,6 @@
 -- What is left to look at decides.
-use native.Mathlib.Omega.{arith}
 use Rattle.std.specs.Prelude.{◌-◌, length}
 use Rattle.plan.specs.Shaped.{plan_of}
-use Rattle.machine.specs.Plan.{count, taker_of}
-use Rattle.schedule.proofs.Chains as chains
 use Rattle.schedule.proofs.Laws as laws
 use Rattle.schedule.proofs.ready.Given as goal
 

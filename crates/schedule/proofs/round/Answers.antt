@@ -1,12 +1,10 @@
 -- The processors' tiles so far; then the mail.
 use native.Mathlib.Omega.{arith}
-use Rattle.std.specs.Prelude.{◌-◌}
 use mathlib.Core.Path.{◌∙◌}
 use Rattle.machine.specs.Machine.{state_of}
 use Rattle.plan.specs.Shaped.{plan_of}
 use Rattle.nest.specs.Nest.{processors}
 use Rattle.schedule.proofs.Laws as laws
-use borrow.Author.Rules.{rules}
 use Rattle.schedule.proofs.round.Goals as goal
 
 pub loop-b-init : goal.loop-b-init
@@ -16,10 +14,13 @@ loop-b-init c =
 
 pub next_tile-requires : goal.next_tile-requires
 next_tile-requires c =
-    let loop = c.loop-b in record { indexed = (c.requires.indexed.0, (c.requires.indexed.1, omega (arith, c.loop-b-test.true, c.requires.indexed.0.planned.0.processors))); plan_areas = laws.tiles_lent (plan_of c.args.sizes.route c.args.nest) c.args.source.now (state_of c.args.memories.now c.args.buffer.now
+    let loop = c.loop-b in record {
+      indexed = (c.requires.indexed.0, (c.requires.indexed.1, omega (arith, c.loop-b-test.true, c.requires.indexed.0.planned.0.processors)));
+      plan_areas = laws.tiles_lent (plan_of c.args.sizes.route c.args.nest) c.args.source.now (state_of c.args.memories.now c.args.buffer.now
           c.args.progress.now c.args.status.now) (state_of loop.memories loop.buffer loop.progress loop.status)
           c.args.sizes.processors
-          loop.b loop.invariant c.requires.plan_areas }
+          loop.b loop.invariant c.requires.plan_areas;
+    }
 
 pub overflow_add-b : goal.overflow_add-b
 overflow_add-b c =

@@ -1,12 +1,8 @@
 -- The processors' tiles so far; then the mail.
-use native.Mathlib.Omega.{arith}
 use Rattle.std.specs.Prelude.{◌-◌}
-use mathlib.Core.Path.{◌∙◌}
 use Rattle.machine.specs.Machine.{state_of}
 use Rattle.plan.specs.Shaped.{plan_of}
-use Rattle.nest.specs.Nest.{processors}
 use Rattle.schedule.proofs.Laws as laws
-use borrow.Author.Rules.{rules}
 use Rattle.schedule.proofs.round.Given as goal
 
 abbrev pub invariant-loop-b : goal.invariant-loop-b

@@ -1,8 +1,8 @@
 -- The latest round so far of the tiles that mail to it.
 use native.Mathlib.Omega.{arith}
 use mathlib.Core.Path.{ap, ◌∙◌}
-use Rattle.std.specs.Prelude.{ℕ, ◌-◌, get_or}
-use mathlib.Core.Logic.{⊎_elim, inl, inr}
+use Rattle.std.specs.Prelude.{ℕ, get_or}
+use mathlib.Core.Logic.{inl, inr}
 use Rattle.machine.specs.Plan.{count, sender_of, taker_of}
 use Rattle.plan.proofs.ShapedSound.{sound}
 use Rattle.plan.specs.Shaped.{plan_of}

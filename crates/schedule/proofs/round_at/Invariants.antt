@@ -1,14 +1,6 @@
 -- The latest round so far of the tiles that mail to it.
-use native.Mathlib.Omega.{arith}
-use mathlib.Core.Path.{ap, ◌∙◌}
-use Rattle.std.specs.Prelude.{ℕ, ◌-◌, get_or}
-use mathlib.Core.Logic.{⊎_elim, inl, inr}
-use Rattle.machine.specs.Plan.{count, sender_of, taker_of}
-use Rattle.plan.proofs.ShapedSound.{sound}
+use Rattle.std.specs.Prelude.{◌-◌}
 use Rattle.plan.specs.Shaped.{plan_of}
-use Rattle.schedule.proofs.Laws.{tiles_low}
-use Rattle.schedule.proofs.Listing as L
-use Rattle.schedule.proofs.Chains as chains
 use Rattle.schedule.proofs.Telling as telling
 use Rattle.schedule.proofs.round_at.Given as goal
 

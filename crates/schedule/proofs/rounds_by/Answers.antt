@@ -1,11 +1,9 @@
 -- The rounds so far; as many as the driver tells when no processor has tiles left.
 use native.Mathlib.Omega.{arith}
 use mathlib.Core.Path.{sym, ◌∙◌}
-use Rattle.std.specs.Prelude.{◌-◌}
 use Rattle.machine.specs.Machine.{state_of}
 use Rattle.plan.specs.Shaped.{plan_of}
 use Rattle.plan.proofs.ShapedSound.{sound}
-use Rattle.rounds.specs.Rounds.{rounds}
 use Rattle.schedule.proofs.Laws as laws
 use Rattle.schedule.proofs.rounds_by.Goals as goal
 
@@ -30,10 +28,13 @@ tiles_left-requires c =
 
 pub round-requires : goal.round-requires
 round-requires c =
-    let loop = c.loop-nest in record { indexed = c.requires.indexed; plan_areas = laws.rounds_lent (plan_of c.args.sizes.route c.args.nest)
+    let loop = c.loop-nest in record {
+      indexed = c.requires.indexed;
+      plan_areas = laws.rounds_lent (plan_of c.args.sizes.route c.args.nest)
           (sound c.args.sizes.route c.args.nest c.requires.indexed.0.planned.0.accepted) c.args.source.now
           (state_of c.args.memories.now c.args.buffer.now c.args.progress.now c.args.status.now)
-          (state_of loop.memories loop.buffer loop.progress loop.status) loop.done loop.invariant }
+          (state_of loop.memories loop.buffer loop.progress loop.status) loop.done loop.invariant;
+    }
 
 pub overflow_add-done : goal.overflow_add-done
 overflow_add-done c =

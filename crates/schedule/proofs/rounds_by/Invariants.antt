@@ -1,10 +1,7 @@
 -- The rounds so far; as many as the driver tells when no processor has tiles left.
-use native.Mathlib.Omega.{arith}
-use mathlib.Core.Path.{sym, ◌∙◌}
 use Rattle.std.specs.Prelude.{◌-◌}
 use Rattle.machine.specs.Machine.{state_of}
 use Rattle.plan.specs.Shaped.{plan_of}
-use Rattle.plan.proofs.ShapedSound.{sound}
 use Rattle.rounds.specs.Rounds.{rounds}
 use Rattle.schedule.proofs.Laws as laws
 use Rattle.schedule.proofs.rounds_by.Given as goal

@@ -3,7 +3,6 @@ use mathlib.Core.Path.{refl, sym, ◌∙◌}
 use Rattle.plan.specs.Shaped.{plan_of}
 use Rattle.recipe.proofs.Laws.{direct_lines}
 use Rattle.schedule.proofs.Telling as telling
-use borrow.Author.Rules.{rules}
 use Rattle.schedule.proofs.rounds_of.Goals as goal
 
 pub open-direct-requires : goal.open-direct-requires

@@ -2,12 +2,10 @@
 use mathlib.Core.Path.{refl, sym, ◌∙◌}
 use native.Mathlib.Omega.{arith}
 use Rattle.plan.specs.Shaped.{plan_of}
-use borrow.Author.Tests.{not-true, not-false}
 use Rattle.machine.specs.Machine.{state_of}
 use Rattle.plan.proofs.ShapedSound.{sound}
 use Rattle.engine.proofs.Lines as lines
 use Rattle.schedule.proofs.Called as called
-use borrow.Author.Rules.{rules}
 use Rattle.schedule.proofs.run.Goals as goal
 
 pub open-opening-requires : goal.open-opening-requires
@@ -47,19 +45,22 @@ all_rounds-rounds-requires c =
     let opens = c.open-opening in
     let s = state_of A.memories.now A.buffer.now A.progress.now A.status.now in
     let p = plan_of opens.result.sizes.route opens.result.nest in
-    let o = opens.ensures.opened c.if-number-ne0.false in record { planned = (
+    let o = opens.ensures.opened c.if-number-ne0.false in record {
+      planned = (
         opens.ensures.planned if1.false,
         (lines.areas_are p A.source.now s
             (sym (c.areas_fit.ensures.0 A.progress.now refl)
             ∙ c.if-not-areas_fit.false)).source,
-      ); status_value = called.fresh_now A.encoded.now
+      );
+      status_value = called.fresh_now A.encoded.now
           A.source.now s p o (state_of c.zero_words.new.words
           c.zero_words-2.new.words c.zero_words-3.new.words c.zero_bytes.new.bytes)
           (lines.fresh_done A.encoded.now 0 A.source.now s p o
           (sym (c.areas_fit.ensures.0 A.progress.now refl)
           ∙ c.if-not-areas_fit.false) _ _ _ _
           c.zero_words.ensures c.zero_words-2.ensures
-          c.zero_words-3.ensures c.zero_bytes.ensures) }
+          c.zero_words-3.ensures c.zero_bytes.ensures);
+    }
 
 pub returns : goal.returns
 returns c =

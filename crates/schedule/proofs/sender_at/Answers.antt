@@ -1,9 +1,5 @@
 -- By the slot, which is the sender's.
-use mathlib.Core.Path.{refl, sym, ap, ◌∙◌}
-use native.Mathlib.Omega.{arith}
-use Rattle.plan.specs.Shaped.{plan_of}
 use Rattle.schedule.proofs.Telling as telling
-use borrow.Author.Rules.{rules}
 use Rattle.schedule.proofs.sender_at.Goals as goal
 
 pub nonzero_div-result : goal.nonzero_div-result

@@ -1,6 +1,5 @@
 -- The tiles so far.
 use native.Mathlib.Omega.{arith}
-use Rattle.std.specs.Prelude.{◌-◌, length}
 use Rattle.plan.specs.Shaped.{plan_of}
 use Rattle.schedule.proofs.Laws.{tiles_low}
 use Rattle.schedule.proofs.Telling as telling
@@ -21,11 +20,14 @@ bounds-lasts-b c = omega (arith, c.processor_at-b.ensures.1, c.requires.0.planne
 pub round_at-round-requires : goal.round_at-round-requires
 round_at-round-requires c =
     let loop = c.loop-tile in
-    let processor-at = c.processor_at-b in record { dued = (c.requires.0, omega (arith, c.loop-tile-test.true, loop.invariant.tells.long)); tells_to = (
+    let processor-at = c.processor_at-b in record {
+      dued = (c.requires.0, omega (arith, c.loop-tile-test.true, loop.invariant.tells.long));
+      tells_to = (
         loop.invariant.tells,
         telling.last_is (plan_of c.args.sizes.route c.args.nest) loop.lasts loop.tile processor-at.result
             loop.invariant.last processor-at.ensures.0 processor-at.ensures.1,
-      ) }
+      );
+    }
 
 pub offset_bounds-rounds-tile : goal.offset_bounds-rounds-tile
 offset_bounds-rounds-tile c =

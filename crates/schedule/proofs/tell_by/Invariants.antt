@@ -1,8 +1,6 @@
 -- The tiles so far.
-use native.Mathlib.Omega.{arith}
 use Rattle.std.specs.Prelude.{◌-◌, length}
 use Rattle.plan.specs.Shaped.{plan_of}
-use Rattle.schedule.proofs.Laws.{tiles_low}
 use Rattle.schedule.proofs.Telling as telling
 use Rattle.schedule.proofs.tell_by.Given as goal
 

@@ -1,6 +1,5 @@
 -- The messages listed and chained, then the tiles.
 use mathlib.Core.Path.{refl}
-use borrow.Author.Rules.{rules}
 use Rattle.schedule.proofs.tell_rounds.Goals as goal
 
 pub list-messages-requires : goal.list-messages-requires

@@ -6,25 +6,32 @@ use Rattle.base.specs.Lists.{set_all, store_all}
 use Rattle.plan.specs.Shaped.{plan_of}
 use Rattle.machine.specs.Plan.{sends_of}
 use Rattle.schedule.proofs.Listing as L
-use borrow.Author.Rules.{rules}
 use Rattle.schedule.proofs.whole_tile.Goals as goal
 
 pub gather-requires : goal.gather-requires
 gather-requires c =
-    record { planned = (c.requires.indexed.0.planned, c.requires.indexed.0.listed); mailed = (
-          record { chained = c.requires.indexed.0.by_taker; marks = c.requires.buffer_len.1; few = c.requires.indexed.0.few },
-          omega (arith, c.requires.indexed.1, L.tiles_few _ _ _ c.requires.indexed.0.planned.0 c.requires.indexed.0.planned.1),
-        ); memory_len = (c.requires.source_len.1, c.requires.buffer_len.0) }
+    record {
+      planned = (c.requires.indexed.0.planned, c.requires.indexed.0.listed);
+      mailed = (
+        record { chained = c.requires.indexed.0.by_taker; marks = c.requires.buffer_len.1; few = c.requires.indexed.0.few },
+        omega (arith, c.requires.indexed.1, L.tiles_few _ _ _ c.requires.indexed.0.planned.0 c.requires.indexed.0.planned.1),
+      );
+      memory_len = (c.requires.source_len.1, c.requires.buffer_len.0);
+    }
 
 pub calculate-requires : goal.calculate-requires
 calculate-requires c = record { sized = (c.requires.indexed.0.planned.0, (c.requires.indexed.0.planned.1, c.requires.indexed.1)); source_len = (c.requires.source_len.0, c.gather.auto.memory ∙ c.requires.source_len.1) }
 
 pub send-requires : goal.send-requires
 send-requires c =
-    let gather = c.gather in record { planned = (c.requires.indexed.0.planned, c.requires.indexed.0.listed); mailed = (
-          record { chained = c.requires.indexed.0.by_sender; marks = gather.auto.status ∙ c.requires.buffer_len.1; few = c.requires.indexed.0.few },
-          omega (arith, c.requires.indexed.1, L.tiles_few _ _ _ c.requires.indexed.0.planned.0 c.requires.indexed.0.planned.1),
-        ); memory_len = (c.calculate.auto.memory ∙ (gather.auto.memory ∙ c.requires.source_len.1), c.requires.buffer_len.0) }
+    let gather = c.gather in record {
+      planned = (c.requires.indexed.0.planned, c.requires.indexed.0.listed);
+      mailed = (
+        record { chained = c.requires.indexed.0.by_sender; marks = gather.auto.status ∙ c.requires.buffer_len.1; few = c.requires.indexed.0.few },
+        omega (arith, c.requires.indexed.1, L.tiles_few _ _ _ c.requires.indexed.0.planned.0 c.requires.indexed.0.planned.1),
+      );
+      memory_len = (c.calculate.auto.memory ∙ (gather.auto.memory ∙ c.requires.source_len.1), c.requires.buffer_len.0);
+    }
 
 pub returns : goal.returns
 returns c =

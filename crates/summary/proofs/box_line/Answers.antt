@@ -2,7 +2,6 @@
 use native.Mathlib.Omega.{arith}
 use Rattle.tables.proofs.shaped_table.Laws.{box_few}
 use Rattle.summary.proofs.Answers as L
-use borrow.Author.Rules.{rules}
 use Rattle.summary.proofs.box_line.Goals as goal
 
 pub end_of-sender-requires : goal.end_of-sender-requires

@@ -1,6 +1,5 @@
 -- `summary::figures_of` meets its contract.
 use Rattle.summary.proofs.Answers as L
-use borrow.Author.Rules.{rules}
 use Rattle.summary.proofs.figures_of.Goals as goal
 
 pub returns : goal.returns

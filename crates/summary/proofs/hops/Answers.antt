@@ -2,7 +2,6 @@
 use mathlib.Core.Path.{◌∙◌}
 use native.Mathlib.Omega.{arith}
 use Rattle.summary.proofs.Answers as L
-use borrow.Author.Rules.{rules}
 use Rattle.summary.proofs.hops.Goals as goal
 
 pub returns-then-opening-ne0 : goal.returns-then-opening-ne0

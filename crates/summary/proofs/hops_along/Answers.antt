@@ -1,5 +1,4 @@
 -- `summary::hops_along` meets its contract.
-use borrow.Author.Rules.{rules}
 use Rattle.summary.proofs.Ones.{hops_masked}
 use Rattle.summary.proofs.hops_along.Goals as goal
 

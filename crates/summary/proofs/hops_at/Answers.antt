@@ -1,5 +1,4 @@
 -- `summary::hops_at` meets its contract.
-use borrow.Author.Rules.{rules}
 use native.Mathlib.Omega.{arith}
 use Rattle.layout.proofs.Steps.{ways_few, ways_some, way_low}
 use Rattle.summary.proofs.Answers.{slot_hops}

@@ -1,5 +1,4 @@
 -- `summary::line_at` meets its contract.
-use borrow.Author.Rules.{rules}
 use Rattle.summary.proofs.line_at.Goals as goal
 
 pub box_line-requires : goal.box_line-requires

@@ -3,7 +3,6 @@ use mathlib.Core.Path.{ap, ◌∙◌}
 use Rattle.summary.proofs.Answers as L
 use Rattle.plan.specs.Shaped.{plan_of}
 use Rattle.summary.specs.Summary.{line_of}
-use borrow.Author.Rules.{rules}
 use Rattle.summary.proofs.line_of.Goals as goal
 
 pub nth-place-requires : goal.nth-place-requires

@@ -1,6 +1,5 @@
 -- `summary::many_of` meets its contract: the mask of the dimensions before j.
-use Prim.Native.Nat.{◌-◌}
-use mathlib.Core.Logic.{⊎_elim, inl, inr}
+use mathlib.Core.Logic.{inl, inr}
 use native.Mathlib.Omega.{arith}
 use Rattle.summary.proofs.Ones as L
 use Rattle.summary.proofs.many_of.Goals as goal

@@ -4,7 +4,6 @@ use Prim.Native.Nat.{◌/◌}
 use native.Mathlib.Omega.{arith}
 use Rattle.tables.proofs.Laws.{some_ways, sender_low}
 use Rattle.summary.proofs.Answers as L
-use borrow.Author.Rules.{rules}
 use Rattle.summary.proofs.shape_line.Goals as goal
 
 pub nonzero_div-sender : goal.nonzero_div-sender

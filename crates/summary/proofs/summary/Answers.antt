@@ -1,7 +1,6 @@
 -- `summary::summary` meets its contract.
 use mathlib.Core.Path.{◌∙◌}
 use Rattle.summary.proofs.Answers as L
-use borrow.Author.Rules.{rules}
 use Rattle.summary.proofs.summary.Goals as goal
 
 pub returns-then-opening-ne0 : goal.returns-then-opening-ne0

@@ -1,7 +1,5 @@
 -- `tables::count_at` meets its contract.
-use native.Mathlib.Omega.{arith}
 use Rattle.tables.proofs.Laws as L
-use borrow.Author.Rules.{rules}
 use Rattle.tables.proofs.count_at.Goals as goal
 
 pub count_at-requires : goal.count_at-requires

@@ -1,7 +1,4 @@
 -- `tables::fill` meets its contract.
-use native.Mathlib.Omega.{arith}
-use Rattle.tables.proofs.Laws as L
-use borrow.Author.Rules.{rules}
 use Rattle.tables.proofs.fill.Goals as goal
 
 pub fill-requires : goal.fill-requires

@@ -1,9 +1,7 @@
 -- `tables::nth` meets its contract.
-use mathlib.Core.Path.{refl, sym, ap, ◌∙◌}
+use mathlib.Core.Path.{refl}
 use native.Mathlib.Omega.{arith}
-use Rattle.base.specs.Lists.{pack, unpack}
 use Rattle.tables.proofs.Laws as L
-use borrow.Author.Rules.{rules}
 use Rattle.tables.proofs.nth.Goals as goal
 
 pub nth-requires : goal.nth-requires

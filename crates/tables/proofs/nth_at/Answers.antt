@@ -1,7 +1,5 @@
 -- `tables::nth_at` meets its contract.
-use native.Mathlib.Omega.{arith}
 use Rattle.tables.proofs.Laws as L
-use borrow.Author.Rules.{rules}
 use Rattle.tables.proofs.nth_at.Goals as goal
 
 pub nth_at-requires : goal.nth_at-requires

@@ -1,9 +1,7 @@
 -- `tables::pack` meets its contract.
-use mathlib.Core.Path.{refl, sym, ap, ◌∙◌}
-use native.Mathlib.Omega.{arith}
-use Rattle.base.specs.Lists.{pack, unpack}
+use mathlib.Core.Path.{sym, ap, ◌∙◌}
+use Rattle.base.specs.Lists.{pack}
 use Rattle.tables.proofs.Laws as L
-use borrow.Author.Rules.{rules}
 use Rattle.tables.proofs.pack.Goals as goal
 
 pub pack-requires : goal.pack-requires

@@ -1,19 +1,17 @@
 -- Laws of the scans: numbers and offsets of messages, one slot more at a time; messages that have a tile at one end.
-use Prim.Native.Nat.{ℕ, zero, suc, ◌+◌, ◌*◌, ◌≤◌, ◌<◌}
-use mathlib.Core.Path.{◌≡◌, refl, sym, ap, ◌∙◌, subst}
+use Prim.Native.Nat.{ℕ, zero, suc, ◌+◌, ◌≤◌, ◌<◌}
+use mathlib.Core.Path.{◌≡◌, refl, sym, ap, ◌∙◌}
 use mathlib.Core.Logic.{◌⊎◌, inl, inr, ◌≢◌, ⊎_elim}
-use mathlib.Core.List.{List, [], ◌∷◌}
+use mathlib.Core.List.{[], ◌∷◌}
 use native.Mathlib.Nat.{eq-or-lt_of_le}
-use native.Mathlib.Numerals.{add-one}
 use native.Mathlib.Omega.{arith}
 use lib.ListN.{length, get_or, length-append}
 use Rattle.base.specs.Tests.{keep, those}
 use Rattle.base.proofs.Select.{those_more, those_none}
 use Rattle.machine.specs.Plan.{Message, offset, no_message}
 use Rattle.plan.specs.Messages.{messages_of}
-use Rattle.plan.proofs.Listed.{total, total_append, total_one, step_none, step_one, at_number, number_low, offset_is, room_is, few}
-use Rattle.tables.specs.declared.scans.MessageSlot.{MessageSlot}
-use Rattle.tables.specs.scans.Scans.{Lengths, Summing, Found}
+use Rattle.plan.proofs.Listed.{total, total_append, total_one, step_none, step_one, at_number, number_low, offset_is, room_is}
+use Rattle.tables.specs.scans.Scans.{Summing, Found}
 
 module _ (f : ℕ → Message) where
   number_none : (s : ℕ) → length (f s).cells ≡ 0 → length (messages_of f (s + 1)) ≡ length (messages_of f s)

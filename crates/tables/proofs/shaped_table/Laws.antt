@@ -13,7 +13,7 @@ use lib.ListN.{length, get_or, set, length-set}
 use lib.Seq.{get_or-set_same}
 use lib.Dec.{eqb, ltb, leb}
 use borrow.Author.Tests.{eq-eqb, ne_eqb, lt-ltb, le-ltb, leb-true}
-use Rattle.base.specs.Tests.{◌and◌, pick, one, some, keep, those}
+use Rattle.base.specs.Tests.{◌and◌, pick, some, keep, those}
 use Rattle.base.specs.Lists.{In}
 use Rattle.base.proofs.Tests.{pick_true, pick_false, never_both, some_at, some_same}
 use Rattle.base.proofs.Select.{keep_few, those_more, those_none, those_few, those_at}
@@ -27,7 +27,7 @@ use Rattle.nest.proofs.Shapes.{box_tiles_most}
 use Rattle.plan.specs.declared.Route.{Route}
 use Rattle.plan.specs.declared.Route.TheVariants.{Direct}
 use Rattle.plan.specs.Geometry.{processor_of}
-use Rattle.plan.specs.Messages.{ahead, directions, ways, slots, slot_tile, slot_direction, parcel, slot_cells, slot_taker, slot_parcel, messages_of}
+use Rattle.plan.specs.Messages.{ahead, directions, ways, slot_tile, slot_direction, parcel, slot_cells, slot_taker, slot_parcel, messages_of}
 use Rattle.plan.specs.Hops.{hops, alone}
 use Rattle.plan.specs.Shaped.{box_tile, shaped_parcel, slot_box, shaped_slot_taker, shaped_home, shaped_slot_parcel, shaped_message, shaped_slots, plan_of}
 use Rattle.plan.proofs.Listed as listed
@@ -35,7 +35,7 @@ use Rattle.plan.proofs.Slots.{full_in}
 use Rattle.plan.proofs.Homes.{slot_parcel_is}
 use Rattle.plan.proofs.Parcels.{ahead_low, slot_low, slot_tile_lem, slot_way}
 use Rattle.plan.proofs.Tiles.{quotient_low, box_tile_of_low, tile_place_low}
-use Rattle.plan.proofs.ShapedTiles.{box_tile_lt, number_low}
+use Rattle.plan.proofs.ShapedTiles.{box_tile_lt}
 use Rattle.plan.proofs.ShapedParcels.{parcel_crossed, shaped_taker_low}
 use Rattle.plan.proofs.ShapedTaker.{step_of, taker_step}
 use Rattle.plan.proofs.ShapedSlots.{in_box, slot_at_tile, slot_at_direction, shaped_tile_low}

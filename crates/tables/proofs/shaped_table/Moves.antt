@@ -1,10 +1,10 @@
 -- Laws of moves of tiles that every bound moves along with: a tile's parcels are as long as those of the tile a move before it.
-use Prim.Native.Nat.{ℕ, suc, ◌+◌, ◌*◌, ◌-◌, ◌/◌, ◌≤◌, ◌<◌}
+use Prim.Native.Nat.{ℕ, ◌+◌, ◌*◌, ◌-◌, ◌/◌, ◌≤◌, ◌<◌}
 use mathlib.Core.Path.{◌≡◌, refl, sym, ap, ◌∙◌}
 use mathlib.Core.Logic.{◌⊎◌, inl, inr}
-use mathlib.Core.Bool.{Bool, true, false}
-use mathlib.Core.List.{List, [], ◌++◌, map, append-nil}
-use native.Mathlib.Nat.{eq-or-lt_of_le, mul-add, mul-le-mul, mul-le-mul_right, suc-mul, add-mul, add-mul-div_right, div-add-mod', mod-lt}
+use mathlib.Core.Bool.{Bool, true}
+use mathlib.Core.List.{List, ◌++◌, map, append-nil}
+use native.Mathlib.Nat.{eq-or-lt_of_le, mul-add, mul-le-mul, mul-le-mul_right, add-mul, add-mul-div_right, div-add-mod', mod-lt}
 use native.Mathlib.Decide.{ℕ_discrete, dec_le}
 use native.Mathlib.Omega.{arith}
 use lib.ListN.{length, get_or, set, length-map, length-set, length-replicate}
@@ -17,18 +17,18 @@ use Rattle.base.proofs.Select.{keep_same}
 use Rattle.nest.specs.declared.Nest.{Nest}
 use Rattle.nest.specs.declared.Interval.{Interval}
 use Rattle.nest.specs.Accepted.{Accepted}
-use Rattle.nest.specs.Nest.{length_of, tile_length, tile_count, component, side, bounded, earlier, slope, bound_offset, cells, box_tiles}
+use Rattle.nest.specs.Nest.{length_of, tile_length, tile_count, component, bounded, earlier, slope, bound_offset, cells, box_tiles}
 use Rattle.nest.specs.Places.{rank, cell_at, cell_place, tile_at, tile_place, box_tile_of}
 use Rattle.nest.specs.Shape.{level, raised, meets, in_shape, tiles}
 use Rattle.nest.specs.Spans.{last}
 use Rattle.nest.proofs.Rank.{rank_same}
 use Rattle.plan.specs.Geometry.{inside}
-use Rattle.plan.specs.Messages.{ahead, directions, reaches}
+use Rattle.plan.specs.Messages.{ahead, reaches}
 use Rattle.plan.specs.Hops.{hops}
 use Rattle.plan.specs.Shaped.{box_tile, reaches_shape, shaped_parcel}
 use Rattle.plan.proofs.ShapedTiles.{box_tile_low}
 use Rattle.plan.proofs.Grid.{keep_add, keep_nothing}
-use Rattle.plan.proofs.Tiles.{cell_at_same, cell_place_low, cell_at_low, cell_place_cell_at, cell_at_cell_place, tile_place_low, tile_place_tile_at, tile_at_tile_place}
+use Rattle.plan.proofs.Tiles.{cell_place_low, cell_at_low, cell_place_cell_at, cell_at_cell_place, tile_place_low, tile_place_tile_at, tile_at_tile_place}
 use Rattle.plan.proofs.Tiles.{tile_place_box_tile_of, tile_count_pos}
 use Rattle.layout.specs.Places.{nth, Has, Ranked}
 use Rattle.layout.proofs.Cells.{four, zeros, count_most, tile_ranked, tile_rank}

@@ -1,7 +1,5 @@
 -- `tables::tile_at` meets its contract.
-use native.Mathlib.Omega.{arith}
 use Rattle.tables.proofs.Laws as L
-use borrow.Author.Rules.{rules}
 use Rattle.tables.proofs.tile_at.Goals as goal
 
 pub tile_at-requires : goal.tile_at-requires

@@ -1,7 +1,5 @@
 -- `tables::tile_count` meets its contract.
-use native.Mathlib.Omega.{arith}
 use Rattle.tables.proofs.Laws as L
-use borrow.Author.Rules.{rules}
 use Rattle.tables.proofs.tile_count.Goals as goal
 
 pub tile_count-requires : goal.tile_count-requires

@@ -1,9 +1,5 @@
 -- `tables::tiles_of` meets its contract.
-use mathlib.Core.Path.{refl, sym, ap, ◌∙◌}
-use native.Mathlib.Omega.{arith}
-use Rattle.base.specs.Lists.{pack, unpack}
 use Rattle.tables.proofs.Laws as L
-use borrow.Author.Rules.{rules}
 use Rattle.tables.proofs.tiles_of.Goals as goal
 
 pub returns-then-nest-eq0 : goal.returns-then-nest-eq0

@@ -1,7 +1,5 @@
 -- `tables::totals` meets its contract.
-use native.Mathlib.Omega.{arith}
 use Rattle.tables.proofs.Laws as L
-use borrow.Author.Rules.{rules}
 use Rattle.tables.proofs.totals.Goals as goal
 
 pub totals-requires : goal.totals-requires

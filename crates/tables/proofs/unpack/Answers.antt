@@ -1,9 +1,7 @@
 -- `tables::unpack` meets its contract.
-use mathlib.Core.Path.{refl, sym, ap, ◌∙◌}
-use native.Mathlib.Omega.{arith}
-use Rattle.base.specs.Lists.{pack, unpack}
+use mathlib.Core.Path.{sym, ap, ◌∙◌}
+use Rattle.base.specs.Lists.{unpack}
 use Rattle.tables.proofs.Laws as L
-use borrow.Author.Rules.{rules}
 use Rattle.tables.proofs.unpack.Goals as goal
 
 pub unpack-requires : goal.unpack-requires

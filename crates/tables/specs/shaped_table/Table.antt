@@ -1,18 +1,16 @@
 -- For contracts below the calls: no reader needs it.
 -- The table of a nest with bounds: message lengths by slot; behind them the tiles' numbers in the box, their processors, and how many tiles there are.
 -- No sentence of document 02.
-use Rattle.std.specs.Prelude.{ℕ, suc, zero, ◌+◌, ◌*◌, ◌-◌, ◌%◌, ◌≤◌, ◌<◌, ◌≡◌, ◌≢◌, List, length, get_or, ltb}
-use Rattle.base.specs.Tests.{keep, those}
+use Rattle.std.specs.Prelude.{ℕ, suc, zero, ◌+◌, ◌*◌, ◌≤◌, ◌<◌, ◌≡◌, ◌≢◌, List, length, get_or, ltb}
+use Rattle.base.specs.Tests.{those}
 use Rattle.machine.specs.Plan.{Plan, Message, count, sender_of, taker_of}
 use Rattle.nest.specs.declared.Nest.{Nest}
-use Rattle.nest.specs.Accepted.{Accepted}
 use Rattle.nest.specs.Nest.{box_tiles}
 use Rattle.nest.specs.Places.{tile_at}
 use Rattle.nest.specs.Shape.{exists, tiles}
 use Rattle.plan.specs.Geometry.{processor_of}
-use Rattle.plan.specs.Messages.{ahead, directions, slot_tile}
-use Rattle.plan.specs.Shaped.{box_tile, shaped_slot_taker, shaped_slot_parcel, shaped_message, shaped_slots, plan_of}
-use Rattle.tables.specs.scans.Scans.{Found}
+use Rattle.plan.specs.Messages.{ahead, directions}
+use Rattle.plan.specs.Shaped.{box_tile, shaped_slot_parcel, shaped_message, shaped_slots}
 
 -- `marks` says of each tile of the box whether it holds a cell of the shape
 pub record Marks (x : Nest) (marks : List ℕ) : Type 0 where

@@ -1,10 +1,7 @@
 -- `parcels::shaped::ahead_of` meets its contract: the first j components are moved.
 use Prim.Native.Nat.{◌+◌, ◌*◌, ◌-◌}
-use mathlib.Core.Path.{refl}
-use native.Mathlib.Omega.{arith}
 use lib.ListN.{get_or}
-use Rattle.layout.proofs.Loops.{Changed, changed_none, changed_more}
-use Rattle.parcels.proofs.shaped.Runs as R
+use Rattle.layout.proofs.Loops.{Changed}
 use Rattle.parcels.proofs.shaped.ahead_of.Given as goal
 
 abbrev pub invariant-loop-j : goal.invariant-loop-j

@@ -1,10 +1,6 @@
 -- `parcels::shaped::count_of` meets its contract: the cells of the first r rows are counted.
 use Prim.Native.Nat.{◌-◌}
-use mathlib.Core.Path.{refl}
-use native.Mathlib.Omega.{arith}
-use Rattle.parcels.proofs.Rows.{rows_few}
-use Rattle.parcels.proofs.shaped.Found.{Counting, counting_none, counting_row}
-use Rattle.parcels.proofs.shaped.Listing as L
+use Rattle.parcels.proofs.shaped.Found.{Counting}
 use Rattle.parcels.proofs.shaped.count_of.Given as goal
 
 abbrev pub invariant-loop-r : goal.invariant-loop-r

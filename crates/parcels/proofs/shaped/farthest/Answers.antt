@@ -1,9 +1,7 @@
 -- `parcels::shaped::farthest` meets its contract: the first i components go no farther.
-use Prim.Native.Nat.{◌-◌}
 use native.Mathlib.Omega.{arith}
 use Rattle.layout.proofs.Cells.{zeros}
 use Rattle.parcels.proofs.shaped.Rows as R
-use borrow.Author.Rules.{rules}
 use Rattle.parcels.proofs.shaped.farthest.Goals as goal
 
 pub overflow_mul-n : goal.overflow_mul-n

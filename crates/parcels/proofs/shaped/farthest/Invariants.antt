@@ -1,9 +1,6 @@
 -- `parcels::shaped::farthest` meets its contract: the first i components go no farther.
 use Prim.Native.Nat.{◌-◌}
-use native.Mathlib.Omega.{arith}
-use Rattle.layout.proofs.Cells.{zeros}
 use Rattle.parcels.proofs.shaped.Rows as R
-use borrow.Author.Rules.{rules}
 use Rattle.parcels.proofs.shaped.farthest.Given as goal
 
 abbrev pub invariant-loop-i : goal.invariant-loop-i

@@ -1,9 +1,7 @@
 -- `parcels::shaped::near` meets its contract: the box in the first j dimensions.
 use Prim.Native.Nat.{◌-◌}
-use native.Mathlib.Omega.{arith}
-use Rattle.layout.proofs.Loops.{Filled, filled_none, filled_more}
+use Rattle.layout.proofs.Loops.{Filled}
 use Rattle.parcels.proofs.shaped.Rows as R
-use borrow.Author.Rules.{rules}
 use Rattle.parcels.proofs.shaped.near.Given as goal
 
 abbrev pub invariant-loop-j : goal.invariant-loop-j

@@ -1,10 +1,6 @@
 -- `parcels::shaped::pack` meets its contract: the words of the first r rows are packed.
 use Prim.Native.Nat.{◌-◌}
-use mathlib.Core.Path.{refl, sym, ◌∙◌}
-use native.Mathlib.Omega.{arith}
-use Rattle.parcels.proofs.Rows.{rows_few, row_ranked, row_number}
-use Rattle.parcels.proofs.shaped.Found.{Packing, packing_none, packing_row}
-use Rattle.parcels.proofs.shaped.Listing as L
+use Rattle.parcels.proofs.shaped.Found.{Packing}
 use Rattle.parcels.proofs.shaped.pack.Given as goal
 
 abbrev pub invariant-loop-r : goal.invariant-loop-r

@@ -7,7 +7,6 @@ use Rattle.nest.specs.Nest.{component}
 use Rattle.nest.proofs.Shapes.{framed}
 use Rattle.layout.specs.Places.{nth}
 use Rattle.parcels.proofs.shaped.Runs as R
-use borrow.Author.Rules.{rules}
 use Rattle.parcels.proofs.shaped.reach_of.Goals as goal
 
 pub returns-then-limit-eq0 : goal.returns-then-limit-eq0

@@ -1,11 +1,8 @@
 -- `parcels::shaped::runs_of` meets its contract: the runs of the first e distances.
-use Prim.Native.Nat.{◌-◌, ◌≤◌}
 use mathlib.Core.Path.{refl}
-use mathlib.Core.Logic.{⊎_elim, inl, inr}
+use mathlib.Core.Logic.{inl, inr}
 use native.Mathlib.Omega.{arith}
-use Rattle.layout.specs.Places.{nth}
 use Rattle.parcels.specs.Windows.{window_of}
-use Rattle.parcels.specs.shaped.Runs.{reaches_place}
 use Rattle.parcels.proofs.shaped.Runs as R
 use Rattle.parcels.proofs.shaped.runs_of.Goals as goal
 use Rattle.parcels.proofs.shaped.runs_of.Goals.{then-run, else-run}

@@ -1,9 +1,8 @@
 -- `parcels::shaped::unpack` meets its contract: the words of the first r rows are at their cells.
-use Prim.Native.Nat.{◌-◌}
 use mathlib.Core.Path.{refl, ◌∙◌}
 use native.Mathlib.Omega.{arith}
 use Rattle.parcels.proofs.Rows.{rows_few, row_ranked, row_number}
-use Rattle.parcels.proofs.shaped.Found.{Unpacking, unpacking_none, unpacking_long, unpacking_row, counting_upto}
+use Rattle.parcels.proofs.shaped.Found.{unpacking_none, unpacking_long, unpacking_row, counting_upto}
 use Rattle.parcels.proofs.shaped.Listing as L
 use Rattle.parcels.proofs.shaped.unpack.Goals as goal
 

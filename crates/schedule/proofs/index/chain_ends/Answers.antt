@@ -1,7 +1,7 @@
 -- From the last message on.
 use native.Mathlib.Omega.{arith}
 use mathlib.Core.Path.{ap, ◌∙◌, subst}
-use Rattle.std.specs.Prelude.{ℕ, ◌≤◌}
+use Rattle.std.specs.Prelude.{ℕ}
 use Rattle.plan.specs.Shaped.{plan_of}
 use Rattle.machine.specs.Plan.{count}
 use Rattle.tables.specs.boxes.Table.{end_of}

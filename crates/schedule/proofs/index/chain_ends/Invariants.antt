@@ -1,13 +1,9 @@
 -- From the last message on.
-use native.Mathlib.Omega.{arith}
-use mathlib.Core.Path.{ap, ◌∙◌, subst}
-use Rattle.std.specs.Prelude.{ℕ, ◌≤◌}
+use Rattle.std.specs.Prelude.{◌≤◌}
 use Rattle.plan.specs.Shaped.{plan_of}
 use Rattle.machine.specs.Plan.{count}
 use Rattle.tables.specs.boxes.Table.{end_of}
 use Rattle.schedule.specs.Index.{ChainedFrom}
-use Rattle.schedule.proofs.Chains as chains
-use Rattle.schedule.proofs.Telling as telling
 use Rattle.schedule.proofs.index.chain_ends.Given as goal
 
 abbrev pub invariant-loop-m : goal.invariant-loop-m

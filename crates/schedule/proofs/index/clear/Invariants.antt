@@ -1,5 +1,4 @@
 -- The tiles so far.
-use native.Mathlib.Omega.{arith}
 use Rattle.std.specs.Prelude.{◌-◌}
 use Rattle.schedule.proofs.Chains as chains
 use Rattle.schedule.proofs.index.clear.Given as goal

@@ -1,7 +1,6 @@
 -- By the chain.
 use native.Mathlib.Omega.{arith}
 use Rattle.schedule.proofs.Chains as chains
-use borrow.Author.Rules.{rules}
 use Rattle.schedule.proofs.index.first.Goals as goal
 
 pub overflow_add-tile : goal.overflow_add-tile

@@ -1,10 +1,6 @@
 -- The slots so far: each message of theirs is found by the list.
-use native.Mathlib.Omega.{arith}
-use mathlib.Core.Path.{refl}
 use Rattle.std.specs.Prelude.{◌-◌}
-use mathlib.Core.Logic.{⊎_elim, inl, inr}
 use Rattle.schedule.proofs.Listing as L
-use borrow.Author.Rules.{rules}
 use Rattle.schedule.proofs.index.list_spots.Given as goal
 
 abbrev pub invariant-loop-slot : goal.invariant-loop-slot

@@ -1,7 +1,6 @@
 -- By the chain.
 use native.Mathlib.Omega.{arith}
 use Rattle.schedule.proofs.Chains as chains
-use borrow.Author.Rules.{rules}
 use Rattle.schedule.proofs.index.next.Goals as goal
 
 pub offset_bounds-chain-m : goal.offset_bounds-chain-m

@@ -1,6 +1,5 @@
 -- Its slot and its offset are in the list.
 use native.Mathlib.Omega.{arith}
-use borrow.Author.Rules.{rules}
 use Rattle.schedule.proofs.index.spot.Goals as goal
 
 pub offset_bounds-spots-m : goal.offset_bounds-spots-m

@@ -1,6 +1,6 @@
 -- `tables::boxes::copy_run` meets its contract: the lengths of the slots before are in the table too.
 use native.Mathlib.Omega.{arith}
-use Prim.Native.Nat.{ℕ, ◌-◌, ◌*◌, ◌≤◌}
+use Prim.Native.Nat.{ℕ}
 use native.Mathlib.Nat.{add-mul}
 use mathlib.Core.Path.{subst}
 use Rattle.tables.specs.boxes.Table.{Filling}

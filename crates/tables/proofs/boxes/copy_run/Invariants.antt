@@ -1,12 +1,6 @@
 -- `tables::boxes::copy_run` meets its contract: the lengths of the slots before are in the table too.
-use native.Mathlib.Omega.{arith}
-use Prim.Native.Nat.{ℕ, ◌-◌, ◌*◌, ◌≤◌}
-use native.Mathlib.Nat.{add-mul}
-use mathlib.Core.Path.{subst}
+use Prim.Native.Nat.{◌-◌, ◌*◌, ◌≤◌}
 use Rattle.tables.specs.boxes.Table.{Filling}
-use Rattle.layout.proofs.Cells.{box_few}
-use Rattle.tables.proofs.boxes.Scans as L
-use Rattle.tables.proofs.boxes.Runs as R
 use Rattle.tables.proofs.boxes.copy_run.Given as goal
 
 abbrev pub invariant-loop-slot : goal.invariant-loop-slot

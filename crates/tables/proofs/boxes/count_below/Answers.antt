@@ -1,6 +1,5 @@
 -- `tables::boxes::count_below` meets its contract: among the first ways.
-use Prim.Native.Nat.{◌-◌}
-use mathlib.Core.Logic.{⊎_elim, inl, inr}
+use mathlib.Core.Logic.{inl, inr}
 use native.Mathlib.Omega.{arith}
 use Rattle.tables.proofs.boxes.Ends as E
 use Rattle.tables.proofs.boxes.count_below.Goals as goal

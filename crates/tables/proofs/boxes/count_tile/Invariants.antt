@@ -1,11 +1,6 @@
 -- `tables::boxes::count_tile` meets its contract: the lengths of the first slots of the tile are in the table too.
-use native.Mathlib.Omega.{arith}
-use Prim.Native.Nat.{◌+◌, ◌-◌, ◌*◌, ◌≤◌}
-use native.Mathlib.Nat.{add-zero, add_assoc}
+use Prim.Native.Nat.{◌+◌, ◌-◌, ◌≤◌}
 use Rattle.tables.specs.boxes.Table.{Filling}
-use Rattle.layout.proofs.Steps.{ways_few}
-use Rattle.layout.proofs.Steps.{ways_few}
-use Rattle.tables.proofs.boxes.Scans as L
 use Rattle.tables.proofs.boxes.count_tile.Given as goal
 
 abbrev pub invariant-loop-way : goal.invariant-loop-way

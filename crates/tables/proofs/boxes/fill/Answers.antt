@@ -1,8 +1,6 @@
 -- `tables::boxes::fill` meets its contract: the lengths of the first tiles' parcels are in the table.
 use native.Mathlib.Omega.{arith}
-use Prim.Native.Nat.{◌-◌, ◌*◌}
 use native.Mathlib.Nat.{zero-mul, mul-le-mul_right}
-use Rattle.tables.specs.boxes.Table.{Filling}
 use Rattle.tables.proofs.boxes.Scans as L
 use Rattle.tables.proofs.boxes.fill.Goals as goal
 

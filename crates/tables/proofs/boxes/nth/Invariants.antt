@@ -1,7 +1,5 @@
 -- `tables::boxes::nth` meets its contract.
 use Prim.Native.Nat.{◌-◌}
-use mathlib.Core.Logic.{⊎_elim, inl, inr}
-use native.Mathlib.Omega.{arith}
 use Rattle.tables.proofs.boxes.Scans as L
 use Rattle.tables.proofs.boxes.nth.Given as goal
 

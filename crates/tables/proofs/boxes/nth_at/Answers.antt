@@ -1,7 +1,5 @@
 -- `tables::boxes::nth_at` meets its contract: not among the first ways.
-use Prim.Native.Nat.{◌-◌}
 use mathlib.Core.Path.{refl, sym, ◌∙◌}
-use mathlib.Core.Logic.{⊎_elim}
 use native.Mathlib.Omega.{arith}
 use Rattle.layout.proofs.Steps.{ways_few}
 use Rattle.layout.proofs.Steps.{ways_few}

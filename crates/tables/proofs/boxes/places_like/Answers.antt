@@ -1,7 +1,6 @@
 -- `tables::boxes::places_like` meets its contract.
 use native.Mathlib.Omega.{arith}
 use Rattle.tables.proofs.boxes.Runs as R
-use borrow.Author.Rules.{rules}
 use Rattle.tables.proofs.boxes.places_like.Goals as goal
 
 pub returns-then-at-one : goal.returns-then-at-one

@@ -4,7 +4,6 @@ use Prim.Native.Nat.{◌-◌}
 use native.Mathlib.Nat.{mod-lt}
 use lib.ListN.{get_or}
 use Rattle.plan.proofs.Tiles.{tile_count_pos}
-use Rattle.layout.specs.Places.{nth}
 use Rattle.layout.proofs.Cells.{count_most, box_few}
 use Rattle.tables.proofs.boxes.Runs as R
 use Rattle.tables.proofs.boxes.run_from.Goals as goal

@@ -1,11 +1,5 @@
 -- `tables::boxes::run_from` meets its contract: the dimensions from `left` on allow no tile back.
-use native.Mathlib.Omega.{arith}
-use Prim.Native.Nat.{◌-◌}
-use native.Mathlib.Nat.{mod-lt}
-use lib.ListN.{get_or}
-use Rattle.plan.proofs.Tiles.{tile_count_pos}
 use Rattle.layout.specs.Places.{nth}
-use Rattle.layout.proofs.Cells.{count_most, box_few}
 use Rattle.tables.proofs.boxes.Runs as R
 use Rattle.tables.proofs.boxes.run_from.Given as goal
 

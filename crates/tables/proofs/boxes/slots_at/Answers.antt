@@ -1,5 +1,4 @@
 -- `tables::boxes::slots_at` meets its contract: those of the first ways.
-use Prim.Native.Nat.{◌-◌}
 use native.Mathlib.Omega.{arith}
 use Rattle.layout.proofs.Steps.{ways_few}
 use Rattle.layout.proofs.Steps.{ways_few}

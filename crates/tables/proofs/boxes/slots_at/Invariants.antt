@@ -1,8 +1,5 @@
 -- `tables::boxes::slots_at` meets its contract: those of the first ways.
 use Prim.Native.Nat.{◌-◌}
-use native.Mathlib.Omega.{arith}
-use Rattle.layout.proofs.Steps.{ways_few}
-use Rattle.layout.proofs.Steps.{ways_few}
 use Rattle.tables.proofs.boxes.Ends as E
 use Rattle.tables.proofs.boxes.slots_at.Given as goal
 

@@ -1,8 +1,6 @@
 -- `tables::boxes::sums_to` meets its contract: the slots before s.
-use Prim.Native.Nat.{◌-◌, ◌≤◌}
-use mathlib.Core.Logic.{⊎_elim, inl, inr}
+use mathlib.Core.Logic.{inl, inr}
 use native.Mathlib.Omega.{arith}
-use Rattle.tables.specs.boxes.Table.{Summing}
 use Rattle.tables.proofs.boxes.Scans as L
 use Rattle.tables.proofs.boxes.sums_to.Goals as goal
 use Rattle.tables.proofs.boxes.sums_to.Goals.{then-length-ne0, else-length-ne0}

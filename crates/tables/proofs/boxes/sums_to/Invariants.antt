@@ -1,9 +1,6 @@
 -- `tables::boxes::sums_to` meets its contract: the slots before s.
 use Prim.Native.Nat.{◌-◌, ◌≤◌}
-use mathlib.Core.Logic.{⊎_elim, inl, inr}
-use native.Mathlib.Omega.{arith}
 use Rattle.tables.specs.boxes.Table.{Summing}
-use Rattle.tables.proofs.boxes.Scans as L
 use Rattle.tables.proofs.boxes.sums_to.Given as goal
 
 abbrev pub invariant-loop-s : goal.invariant-loop-s

@@ -4,7 +4,6 @@ use Rattle.base.specs.Lists.{pack}
 use Rattle.tables.proofs.Laws as L
 use Rattle.runs.specs.listed.Numbers.{numbers}
 use Rattle.tables.proofs.message_cells.Laws.{held_listed}
-use borrow.Author.Rules.{rules}
 use Rattle.tables.proofs.message_cells.cells_of.Goals as goal
 
 pub list_box-requires : goal.list_box-requires

@@ -1,9 +1,7 @@
 -- `tables::message_cells::list_row` meets its contract: the pieces before `at` are listed.
 use Prim.Native.Nat.{◌-◌}
-use native.Mathlib.Omega.{arith}
 use Rattle.runs.proofs.Laws as runs
 use Rattle.runs.specs.listed.Numbers.{numbers}
-use Rattle.runs.proofs.listed.Numbers.{numbers_long}
 use Rattle.tables.proofs.message_cells.list_row.Given as goal
 
 abbrev pub invariant-loop-at : goal.invariant-loop-at

@@ -1,12 +1,7 @@
 -- `tables::message_cells::list_shaped` meets its contract: the cells of the first r rows are listed.
 use Prim.Native.Nat.{◌-◌}
-use mathlib.Core.Path.{refl, sym, ◌∙◌}
-use native.Mathlib.Omega.{arith}
-use Rattle.parcels.proofs.Rows.{rows_few, row_ranked, row_number}
-use Rattle.parcels.proofs.shaped.Found.{Packing, packing_none, packing_row}
-use Rattle.parcels.proofs.shaped.Listing as L
+use Rattle.parcels.proofs.shaped.Found.{Packing}
 use Rattle.runs.specs.listed.Numbers.{numbers}
-use Rattle.tables.proofs.message_cells.Laws.{room_numbers}
 use Rattle.tables.proofs.message_cells.list_shaped.Given as goal
 
 abbrev pub invariant-loop-r : goal.invariant-loop-r

@@ -1,11 +1,7 @@
 -- `tables::scans::nth` meets its contract: the message is not among the slots before.
-use Prim.Native.Nat.{ℕ, ◌-◌, ◌*◌, ◌≤◌}
-use mathlib.Core.Path.{sym, ◌∙◌}
-use mathlib.Core.Logic.{⊎_elim, inl, inr}
+use mathlib.Core.Path.{◌∙◌}
+use mathlib.Core.Logic.{inl, inr}
 use native.Mathlib.Omega.{arith}
-use borrow.Author.Rules.{rules}
-use Rattle.machine.specs.Plan.{Message}
-use Rattle.tables.specs.scans.Scans.{Lengths, Summing, Found}
 use Rattle.tables.proofs.scans.Laws as L
 use Rattle.tables.proofs.scans.nth.Goals as goal
 use Rattle.tables.proofs.scans.nth.Goals.{then-w-ne0+else-number-m, else-w-ne0}

@@ -1,12 +1,7 @@
 -- `tables::scans::nth` meets its contract: the message is not among the slots before.
 use Prim.Native.Nat.{ℕ, ◌-◌, ◌*◌, ◌≤◌}
-use mathlib.Core.Path.{sym, ◌∙◌}
-use mathlib.Core.Logic.{⊎_elim, inl, inr}
-use native.Mathlib.Omega.{arith}
-use borrow.Author.Rules.{rules}
 use Rattle.machine.specs.Plan.{Message}
-use Rattle.tables.specs.scans.Scans.{Lengths, Summing, Found}
-use Rattle.tables.proofs.scans.Laws as L
+use Rattle.tables.specs.scans.Scans.{Lengths, Summing}
 use Rattle.tables.proofs.scans.nth.Given as goal
 
 abbrev pub invariant-loop-slot : goal.invariant-loop-slot

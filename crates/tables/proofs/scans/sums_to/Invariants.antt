@@ -1,12 +1,7 @@
 -- `tables::scans::sums_to` meets its contract: the slots before s.
 use Prim.Native.Nat.{ℕ, ◌-◌, ◌*◌, ◌≤◌}
-use mathlib.Core.Path.{sym, ◌∙◌}
-use mathlib.Core.Logic.{⊎_elim, inl, inr}
-use native.Mathlib.Omega.{arith}
-use borrow.Author.Rules.{rules}
 use Rattle.machine.specs.Plan.{Message}
 use Rattle.tables.specs.scans.Scans.{Lengths, Summing}
-use Rattle.tables.proofs.scans.Laws as L
 use Rattle.tables.proofs.scans.sums_to.Given as goal
 
 abbrev pub invariant-loop-s : goal.invariant-loop-s

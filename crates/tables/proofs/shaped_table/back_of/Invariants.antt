@@ -1,7 +1,5 @@
 -- `tables::shaped_table::back_of` meets its contract.
 use Prim.Native.Nat.{◌-◌, ◌≤◌}
-use native.Mathlib.Omega.{arith}
-use Rattle.tables.proofs.shaped_table.Laws as L
 use Rattle.tables.proofs.shaped_table.back_of.Given as goal
 
 abbrev pub invariant-loop-p : goal.invariant-loop-p

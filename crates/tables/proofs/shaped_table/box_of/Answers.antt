@@ -2,8 +2,6 @@
 use Rattle.nest.proofs.Shapes.{box_tiles_most}
 use Rattle.plan.proofs.ShapedTiles.{box_tile_low}
 use native.Mathlib.Omega.{arith}
-use Rattle.tables.proofs.shaped_table.Laws as L
-use borrow.Author.Rules.{rules}
 use Rattle.tables.proofs.shaped_table.box_of.Goals as goal
 
 pub overflow_add-result : goal.overflow_add-result

@@ -1,13 +1,9 @@
 -- `tables::shaped_table::count_at` meets its contract: of the slots before s.
 use Prim.Native.Nat.{◌-◌, ◌≤◌}
-use mathlib.Core.Path.{◌≡◌, sym, ◌∙◌}
-use mathlib.Core.Logic.{⊎_elim, inl, inr}
-use native.Mathlib.Omega.{arith}
+use mathlib.Core.Path.{◌≡◌}
 use Rattle.plan.specs.Shaped.{shaped_message, shaped_slots}
 use Rattle.tables.specs.shaped_table.Table.{end_of}
 use Rattle.tables.proofs.scans.Laws.{seen}
-use Rattle.tables.proofs.shaped_table.Laws as L
-use borrow.Author.Rules.{rules}
 use Rattle.tables.proofs.shaped_table.count_at.Given as goal
 
 abbrev pub invariant-loop-s : goal.invariant-loop-s

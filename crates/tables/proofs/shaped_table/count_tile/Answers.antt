@@ -1,12 +1,10 @@
 -- `tables::shaped_table::count_tile` meets its contract: the lengths of the first parcels of the tile.
-use Prim.Native.Nat.{◌+◌, ◌*◌, ◌-◌, ◌≤◌}
-use mathlib.Core.Path.{sym, refl}
+use Prim.Native.Nat.{◌*◌}
+use mathlib.Core.Path.{sym}
 use native.Mathlib.Nat.{add-zero}
 use native.Mathlib.Omega.{arith}
 use Rattle.plan.specs.Messages.{directions}
-use Rattle.tables.specs.shaped_table.Table.{Filling}
 use Rattle.tables.proofs.shaped_table.Laws as L
-use borrow.Author.Rules.{rules}
 use Rattle.tables.proofs.shaped_table.count_tile.Goals as goal
 
 pub box_of-number-requires : goal.box_of-number-requires

@@ -1,13 +1,8 @@
 -- `tables::shaped_table::fill` meets its contract: the lengths of the first tiles' parcels, and what is known of their row.
 use Prim.Native.Nat.{◌-◌, ◌*◌, ◌≤◌}
-use mathlib.Core.Path.{refl, sym}
-use native.Mathlib.Nat.{mul-le-mul_right}
-use native.Mathlib.Omega.{arith}
 use Rattle.plan.specs.Messages.{directions}
 use Rattle.tables.specs.shaped_table.Table.{Filling}
 use Rattle.tables.specs.shaped_table.Lines.{Lined}
-use Rattle.tables.proofs.shaped_table.Laws as L
-use Rattle.tables.proofs.shaped_table.Lines as R
 use Rattle.tables.proofs.shaped_table.fill.Given as goal
 
 abbrev pub invariant-loop-tile : goal.invariant-loop-tile

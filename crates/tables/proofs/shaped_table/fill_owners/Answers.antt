@@ -1,12 +1,7 @@
 -- `tables::shaped_table::fill_owners` meets its contract: the processors of the first t tiles, and that of those next in the row.
-use Prim.Native.Nat.{ℕ, ◌-◌, ◌≤◌, ◌<◌}
 use mathlib.Core.Path.{ap, ◌∙◌}
 use native.Mathlib.Omega.{arith}
-use Rattle.nest.specs.Shape.{tiles}
 use Rattle.plan.specs.Geometry.{processor_of}
-use Rattle.plan.specs.Shaped.{box_tile}
-use Rattle.tables.specs.shaped_table.Table.{Owned}
-use Rattle.tables.specs.shaped_table.Lines.{OneProcessor}
 use Rattle.tables.proofs.shaped_table.Laws as L
 use Rattle.tables.proofs.shaped_table.Lines as R
 use Rattle.tables.proofs.shaped_table.fill_owners.Goals as goal

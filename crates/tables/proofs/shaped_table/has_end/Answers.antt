@@ -1,9 +1,7 @@
 -- `tables::shaped_table::has_end` meets its contract.
-use Prim.Native.Nat.{◌-◌}
-use mathlib.Core.Path.{refl, sym, ◌∙◌}
+use mathlib.Core.Path.{refl}
 use native.Mathlib.Omega.{arith}
 use Rattle.tables.proofs.shaped_table.Laws as L
-use borrow.Author.Rules.{rules}
 use Rattle.tables.proofs.shaped_table.has_end.Goals as goal
 
 pub nonzero_div-sender : goal.nonzero_div-sender

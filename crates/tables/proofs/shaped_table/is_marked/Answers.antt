@@ -1,6 +1,4 @@
 -- `tables::shaped_table::is_marked` meets its contract.
-use borrow.Author.Rules.{rules}
-use Rattle.tables.proofs.shaped_table.Laws as L
 use native.Mathlib.Omega.{arith}
 use Rattle.nest.proofs.Shapes.{box_tiles_most}
 use Rattle.tables.proofs.shaped_table.is_marked.Goals as goal

@@ -1,10 +1,8 @@
 -- `tables::shaped_table::list_tiles` meets its contract: the tiles among the first u that are marked are listed.
-use Prim.Native.Nat.{◌-◌, ◌+◌}
 use mathlib.Core.Path.{sym, ◌∙◌}
-use mathlib.Core.Logic.{⊎_elim, inl, inr}
+use mathlib.Core.Logic.{inl, inr}
 use Rattle.nest.proofs.Shapes.{box_tiles_most}
 use native.Mathlib.Omega.{arith}
-use borrow.Author.Rules.{rules}
 use Rattle.tables.proofs.shaped_table.Laws as L
 use Rattle.tables.proofs.shaped_table.list_tiles.Goals as goal
 use Rattle.tables.proofs.shaped_table.list_tiles.Goals.{then-is_marked, else-is_marked}

@@ -1,11 +1,7 @@
 -- `tables::shaped_table::mark_tiles` meets its contract: the marks tell the tiles that hold a cell of the rows so far.
-use Prim.Native.Nat.{◌-◌, ◌≤◌}
-use mathlib.Core.Path.{sym, ap, ◌∙◌}
-use lib.ListN.{length}
 use Rattle.nest.proofs.Shapes as S
 use Rattle.nest.proofs.Shapes.{framed, box_tiles_most}
 use native.Mathlib.Omega.{arith}
-use borrow.Author.Rules.{rules}
 use Rattle.tables.proofs.shaped_table.Laws as L
 use Rattle.tables.proofs.shaped_table.mark_tiles.Goals as goal
 

@@ -1,14 +1,10 @@
 -- `tables::shaped_table::nth_at` meets its contract: not among the slots before s.
-use Prim.Native.Nat.{◌-◌, ◌≤◌}
-use mathlib.Core.Path.{◌≡◌, sym, ◌∙◌}
-use mathlib.Core.Logic.{⊎_elim, inl, inr}
+use mathlib.Core.Path.{◌∙◌}
+use mathlib.Core.Logic.{inl, inr}
 use native.Mathlib.Omega.{arith}
-use Rattle.plan.specs.Shaped.{shaped_message, shaped_slots}
-use Rattle.tables.specs.shaped_table.Table.{end_of}
-use Rattle.tables.proofs.scans.Laws as scan
+use Rattle.plan.specs.Shaped.{shaped_message}
 use Rattle.tables.proofs.scans.Laws.{not_yet}
 use Rattle.tables.proofs.shaped_table.Laws as L
-use borrow.Author.Rules.{rules}
 use Rattle.tables.proofs.shaped_table.nth_at.Goals as goal
 use Rattle.tables.proofs.shaped_table.nth_at.Goals.{then-sends_at+else-seen-j, else-sends_at}
 

@@ -2,8 +2,6 @@
 use Rattle.plan.specs.Shaped.{box_tile}
 use Rattle.plan.proofs.Tiles.{processor_of_low}
 use native.Mathlib.Omega.{arith}
-use Rattle.tables.proofs.shaped_table.Laws as L
-use borrow.Author.Rules.{rules}
 use Rattle.tables.proofs.shaped_table.owner_of.Goals as goal
 
 pub overflow_add-result : goal.overflow_add-result

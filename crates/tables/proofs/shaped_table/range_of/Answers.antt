@@ -2,7 +2,6 @@
 use mathlib.Core.Path.{refl}
 use native.Mathlib.Omega.{arith}
 use Rattle.tables.proofs.shaped_table.Laws as L
-use borrow.Author.Rules.{rules}
 use Rattle.tables.proofs.shaped_table.range_of.Goals as goal
 
 pub overflow_mul-first : goal.overflow_mul-first

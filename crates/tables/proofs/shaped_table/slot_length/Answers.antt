@@ -1,10 +1,8 @@
 -- `tables::shaped_table::slot_length` meets its contract.
 use mathlib.Core.Path.{sym, ap, ◌∙◌}
 use lib.ListN.{length}
-use borrow.Author.Tests.{not-true, not-false}
 use native.Mathlib.Omega.{arith}
 use Rattle.tables.proofs.shaped_table.Laws as L
-use borrow.Author.Rules.{rules}
 use Rattle.tables.proofs.shaped_table.slot_length.Goals as goal
 
 pub along_of-ahead-requires : goal.along_of-ahead-requires

@@ -1,7 +1,5 @@
 -- `tables::shaped_table::steps_of` meets its contract.
-use native.Mathlib.Omega.{arith}
 use Rattle.tables.proofs.shaped_table.Laws as L
-use borrow.Author.Rules.{rules}
 use Rattle.tables.proofs.shaped_table.steps_of.Goals as goal
 
 pub steps_of-requires : goal.steps_of-requires

@@ -1,10 +1,6 @@
 -- `tables::shaped_table::taker_of` meets its contract: none of the first t tiles.
 use Prim.Native.Nat.{ℕ, ◌-◌, ◌≤◌, ◌<◌}
-use mathlib.Core.Path.{refl, sym, ◌∙◌}
 use Rattle.plan.specs.Shaped.{box_tile}
-use native.Mathlib.Omega.{arith}
-use borrow.Author.Rules.{rules}
-use Rattle.tables.proofs.shaped_table.Laws as L
 use Rattle.tables.proofs.shaped_table.taker_of.Given as goal
 
 abbrev pub invariant-loop-t : goal.invariant-loop-t

@@ -1,14 +1,8 @@
 -- `tables::shaped_table::tile_at` meets its contract: not among the first t tiles.
-use Prim.Native.Nat.{◌-◌, ◌≤◌}
-use mathlib.Core.Path.{◌≡◌, sym, ◌∙◌}
-use mathlib.Core.Logic.{⊎_elim, inl, inr}
-use lib.ListN.{length}
-use Rattle.base.specs.Tests.{those}
-use Rattle.plan.specs.Geometry.{processor_of}
-use Rattle.plan.specs.Shaped.{box_tile}
+use mathlib.Core.Path.{sym, ◌∙◌}
+use mathlib.Core.Logic.{inl, inr}
 use Rattle.tables.proofs.scans.Laws.{not_yet}
 use native.Mathlib.Omega.{arith}
-use borrow.Author.Rules.{rules}
 use Rattle.tables.proofs.shaped_table.Laws as L
 use Rattle.tables.proofs.shaped_table.tile_at.Goals as goal
 use Rattle.tables.proofs.shaped_table.tile_at.Goals.{then-owner-processor+else-count-finished, else-owner-processor}

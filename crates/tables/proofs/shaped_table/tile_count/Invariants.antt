@@ -1,15 +1,10 @@
 -- `tables::shaped_table::tile_count` meets its contract: how many of the first t tiles.
 use Prim.Native.Nat.{◌-◌, ◌≤◌}
 use mathlib.Core.Path.{◌≡◌}
-use mathlib.Core.Logic.{⊎_elim, inl, inr}
 use lib.ListN.{length}
 use Rattle.base.specs.Tests.{those}
-use Rattle.base.proofs.Select.{those_few}
 use Rattle.plan.specs.Geometry.{processor_of}
 use Rattle.plan.specs.Shaped.{box_tile}
-use native.Mathlib.Omega.{arith}
-use borrow.Author.Rules.{rules}
-use Rattle.tables.proofs.shaped_table.Laws as L
 use Rattle.tables.proofs.shaped_table.tile_count.Given as goal
 
 abbrev pub invariant-loop-t : goal.invariant-loop-t

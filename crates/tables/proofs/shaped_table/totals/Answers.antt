@@ -2,7 +2,6 @@
 use Rattle.plan.specs.Shaped.{shaped_message}
 use native.Mathlib.Omega.{arith}
 use Rattle.tables.proofs.shaped_table.Laws as L
-use borrow.Author.Rules.{rules}
 use Rattle.tables.proofs.shaped_table.totals.Goals as goal
 
 pub tiles_of-n-requires : goal.tiles_of-n-requires

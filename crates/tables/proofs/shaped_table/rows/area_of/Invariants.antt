@@ -1,10 +1,7 @@
 -- `tables::shaped_table::rows::area_of` meets its contract: the first j dimensions.
 use Prim.Native.Nat.{◌+◌, ◌*◌, ◌-◌}
-use mathlib.Core.Path.{refl}
-use native.Mathlib.Omega.{arith}
 use lib.ListN.{get_or}
-use Rattle.layout.proofs.Loops.{Filled, filled_none, filled_more}
-use Rattle.tables.proofs.shaped_table.Lines as L
+use Rattle.layout.proofs.Loops.{Filled}
 use Rattle.tables.proofs.shaped_table.rows.area_of.Given as goal
 
 abbrev pub invariant-loop-j : goal.invariant-loop-j

@@ -1,6 +1,5 @@
 -- `tables::shaped_table::rows::goes_along` meets its contract.
 use native.Mathlib.Omega.{arith}
-use borrow.Author.Rules.{rules}
 use borrow.Author.Tests.{eqb-true}
 use Rattle.tables.proofs.shaped_table.Moves as M
 use Rattle.tables.proofs.shaped_table.rows.goes_along.Goals as goal

@@ -1,7 +1,5 @@
 -- `tables::shaped_table::rows::inner_of` meets its contract: what the first k bounds leave.
-use Prim.Native.Nat.{◌-◌, ◌≤◌}
 use native.Mathlib.Omega.{arith}
-use Rattle.tables.specs.shaped_table.Lines.{Inner}
 use Rattle.tables.proofs.shaped_table.Lines as L
 use Rattle.tables.proofs.shaped_table.rows.inner_of.Goals as goal
 

@@ -1,11 +1,6 @@
 -- `tables::shaped_table::rows::keeps` meets its contract: the first k bounds move along.
 use Prim.Native.Nat.{ℕ, ◌-◌, ◌≤◌, ◌<◌}
-use mathlib.Core.Path.{refl}
-use native.Mathlib.Omega.{arith}
-use borrow.Author.Tests.{not-false}
-use Rattle.base.proofs.Tests.{never_both}
 use Rattle.tables.specs.shaped_table.Moves.{KeptBy}
-use Rattle.tables.proofs.shaped_table.Moves as M
 use Rattle.tables.proofs.shaped_table.rows.keeps.Given as goal
 
 abbrev pub invariant-loop-k : goal.invariant-loop-k

@@ -1,6 +1,5 @@
 -- `tables::shaped_table::rows::line_by` meets its contract.
 use native.Mathlib.Omega.{arith}
-use borrow.Author.Rules.{rules}
 use Rattle.tables.proofs.shaped_table.Lines as L
 use Rattle.tables.proofs.shaped_table.rows.line_by.Goals as goal
 

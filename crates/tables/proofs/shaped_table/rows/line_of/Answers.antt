@@ -1,6 +1,5 @@
 -- `tables::shaped_table::rows::line_of` meets its contract.
 use mathlib.Core.Path.{refl}
-use native.Mathlib.Omega.{arith}
 use Rattle.tables.proofs.shaped_table.Lines as L
 use Rattle.tables.proofs.shaped_table.Moves as M
 use Rattle.tables.proofs.shaped_table.rows.line_of.Goals as goal

@@ -1,7 +1,6 @@
 -- `tables::shaped_table::rows::lower_cut` meets its contract.
 use native.Mathlib.Omega.{arith}
 use Rattle.tables.proofs.shaped_table.Lines as L
-use borrow.Author.Rules.{rules}
 use Rattle.tables.proofs.shaped_table.rows.lower_cut.Goals as goal
 
 pub offset_bounds-low-e : goal.offset_bounds-low-e

@@ -1,6 +1,4 @@
 -- `tables::shaped_table::rows::move_by` meets its contract.
-use Prim.Native.Nat.{◌-◌, ◌≤◌}
-use mathlib.Core.Path.{refl}
 use native.Mathlib.Omega.{arith}
 use Rattle.tables.proofs.shaped_table.Moves as M
 use Rattle.tables.proofs.shaped_table.rows.move_by.Goals as goal

@@ -1,8 +1,5 @@
 -- `tables::shaped_table::rows::move_by` meets its contract.
 use Prim.Native.Nat.{◌-◌, ◌≤◌}
-use mathlib.Core.Path.{refl}
-use native.Mathlib.Omega.{arith}
-use Rattle.tables.proofs.shaped_table.Moves as M
 use Rattle.tables.proofs.shaped_table.rows.move_by.Given as goal
 
 abbrev pub invariant-loop-j : goal.invariant-loop-j

@@ -1,12 +1,7 @@
 -- `tables::shaped_table::rows::moved_in` meets its contract: in the first j dimensions the tiles of the row have one a move before them.
 use Prim.Native.Nat.{ℕ, ◌-◌, ◌≤◌, ◌<◌}
-use mathlib.Core.Path.{refl}
-use native.Mathlib.Omega.{arith}
 use lib.ListN.{get_or}
-use borrow.Author.Tests.{not-false}
 use Rattle.tables.specs.shaped_table.Moves.{Behind}
-use Rattle.tables.proofs.shaped_table.Lines as L
-use Rattle.tables.proofs.shaped_table.Moves as M
 use Rattle.tables.proofs.shaped_table.rows.moved_in.Given as goal
 
 abbrev pub invariant-loop-j : goal.invariant-loop-j

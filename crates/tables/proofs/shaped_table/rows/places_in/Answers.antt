@@ -1,7 +1,6 @@
 -- `tables::shaped_table::rows::places_in` meets its contract.
 use native.Mathlib.Omega.{arith}
 use Rattle.tables.proofs.shaped_table.Lines as L
-use borrow.Author.Rules.{rules}
 use Rattle.tables.proofs.shaped_table.rows.places_in.Goals as goal
 
 pub returns-then-whole-eq0 : goal.returns-then-whole-eq0

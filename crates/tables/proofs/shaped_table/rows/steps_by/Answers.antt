@@ -1,6 +1,4 @@
 -- `tables::shaped_table::rows::steps_by` meets its contract.
-use native.Mathlib.Omega.{arith}
-use borrow.Author.Rules.{rules}
 use Rattle.tables.proofs.shaped_table.Moves as M
 use Rattle.tables.proofs.shaped_table.rows.steps_by.Goals as goal
 
