@@ -56,8 +56,11 @@ step-requires c =
     let opened = lines.away_none p A.source.now (moment_of A.hours.now A.minute) (state_of A.memories.now A.buffer.now own A.status.now)
     A.processor
     c.refusal_of_turn-n.result (c.refusal_of_turn-n.ensures.0 own (reading.part_carries A.progress c.requires few))
-    c.if-n-ne0.false in record { sized = planned; may_turn = plain.passed p A.source.now (state_of A.memories.now A.buffer.now own A.status.now) A.processor 0 opened.unfit refl
-          opened.hours.low }
+    c.if-n-ne0.false in record {
+      sized = planned;
+      may_turn = plain.passed p A.source.now (state_of A.memories.now A.buffer.now own A.status.now) A.processor 0 opened.unfit refl
+          opened.hours.low;
+    }
 
 pub returns : goal.returns
 returns c =

@@ -86,14 +86,18 @@ fit_sharing-requires c =
     let h = reading.part_carries A.progress c.requires.words_len.0 few in
     let k = reading.part_carries A.theirs c.requires.words_len.1 few2 in
     let lengths = areas.areas_are p A.source.now (state_of A.memories.now A.buffer.now own A.status.now)
-    (sym (areas_fit.ensures.0 own h.counted) ∙ if1.false) in record { sized = c.requires.sized; progress_len = (lengths.progress, lengths.status); engaged_len = (
-          if2.false ∙ c.requires.sized.0.processors,
-          (
-            sym k.counted ∙ if3.false ∙ areas.records_are A.nest
-                A.sizes c.requires.sized.0,
-            omega (arith, if4.false),
-          ),
-        ) }
+    (sym (areas_fit.ensures.0 own h.counted) ∙ if1.false) in record {
+      sized = c.requires.sized;
+      progress_len = (lengths.progress, lengths.status);
+      engaged_len = (
+        if2.false ∙ c.requires.sized.0.processors,
+        (
+          sym k.counted ∙ if3.false ∙ areas.records_are A.nest
+              A.sizes c.requires.sized.0,
+          omega (arith, if4.false),
+        ),
+      );
+    }
 
 pub returns-then-not-fit_sharing : goal.returns-then-not-fit_sharing
 returns-then-not-fit_sharing c =

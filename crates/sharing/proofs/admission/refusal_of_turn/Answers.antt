@@ -54,10 +54,14 @@ held_by_other-requires c =
     (reading.part_carries A.progress c.requires.words_len.0 few)
     (reading.part_carries A.theirs c.requires.words_len.1 few2)) c.if-n-ne0.false in
     let lengths = lines.lengths_are p A.source.now (tenant_areas (state_of A.memories.now A.buffer.now own A.status.now) A.engaged.now)
-    other none.0 in record { sized = c.requires.sized; progress_len = (lengths.own.progress, lengths.engaged); b_bound = (
-          omega (arith, c.requires.sized.0.processors, c.if-b-sizes.false),
-          leb-true _ _ none.1.tenant,
-        ) }
+    other none.0 in record {
+      sized = c.requires.sized;
+      progress_len = (lengths.own.progress, lengths.engaged);
+      b_bound = (
+        omega (arith, c.requires.sized.0.processors, c.if-b-sizes.false),
+        leb-true _ _ none.1.tenant,
+      );
+    }
 
 pub returns-then-held_by_other : goal.returns-then-held_by_other
 returns-then-held_by_other c =

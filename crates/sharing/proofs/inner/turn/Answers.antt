@@ -56,11 +56,15 @@ step_for-requires c =
     A.engaged.now)
     other A.processor c.refusal_of_turn-n.result (c.refusal_of_turn-n.ensures.0 own other
     (reading.part_carries A.progress c.requires.0 few)
-    (reading.part_carries A.theirs c.requires.1 few2)) c.if-n-ne0.false in record { sized = planned; may_turn = record {
-          areas = free.lengths.own;
-          fit = own_fits p A.tenant (tenant_areas (state_of A.memories.now A.buffer.now own A.status.now) A.engaged.now) other free.fits;
-          processor = free.low;
-        }; b_in_bounds = omega (arith, free.lengths.engaged, free.low) }
+    (reading.part_carries A.theirs c.requires.1 few2)) c.if-n-ne0.false in record {
+      sized = planned;
+      may_turn = record {
+        areas = free.lengths.own;
+        fit = own_fits p A.tenant (tenant_areas (state_of A.memories.now A.buffer.now own A.status.now) A.engaged.now) other free.fits;
+        processor = free.low;
+      };
+      b_in_bounds = omega (arith, free.lengths.engaged, free.low);
+    }
 
 pub returns : goal.returns
 returns c =
