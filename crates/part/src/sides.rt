@@ -11,6 +11,7 @@ pub fn is_taker(side: u8) -> bool
 }
 
 // A message arrives: it is delivered, where it did not come before.
+#[tactic(auto, unfolding(base::specs::Tests::pick))]
 pub fn arrived(marks: &mut [u8], at: usize) -> bool
     requires { at < length marks.old }
     ensures { (result ≡ eqb (get_or marks.old at 0) 0) × (marks.new ≡ pick result (set marks.old at 2) marks.old) }

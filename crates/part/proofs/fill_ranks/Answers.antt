@@ -15,30 +15,42 @@ tiles_of-requires c = c.requires.sized.0
 
 pub overflow_mul-slots : goal.overflow_mul-slots
 overflow_mul-slots c =
-    omega (arith, ((let S = c in
-    rows.slotted S.args.nest S.args.sizes S.requires.sized.0.0 S.args.lens.now S.requires.sized.0.1 c.tiles_of.result c.tiles_of.ensures.0)).sheet.few)
+    omega (
+      arith,
+      ((let S = c in
+          rows.slotted S.args.nest S.args.sizes S.requires.sized.0.0 S.args.lens.now S.requires.sized.0.1 c.tiles_of.result c.tiles_of.ensures.0)).sheet.few,
+    )
 
 pub loop-slot-init : goal.loop-slot-init
-loop-slot-init c =
-    (
-      pass.past_start c.args.lens.now (c.tiles_of.result * c.args.sizes.ways),
-      handling.rank_start (plan_of c.args.sizes.route c.args.nest) c.args.b c.args.ordinals.now c.args.starts.now c.requires.ordinals_len.0
-          c.requires.ordinals_len.1,
-    )
+loop-slot-init c = (
+  pass.past_start c.args.lens.now (c.tiles_of.result * c.args.sizes.ways),
+  handling.rank_start (plan_of c.args.sizes.route c.args.nest) c.args.b c.args.ordinals.now c.args.starts.now c.requires.ordinals_len.0
+      c.requires.ordinals_len.1,
+)
 
 pub offset_bounds-lens-slot : goal.offset_bounds-lens-slot
 offset_bounds-lens-slot c =
     let test = c.loop-slot-test.true in
-    omega (arith, test, ((let S = c in
-    rows.slotted S.args.nest S.args.sizes S.requires.sized.0.0 S.args.lens.now S.requires.sized.0.1 c.tiles_of.result c.tiles_of.ensures.0)).sheet.few, ((let S = c in
-    rows.slotted S.args.nest S.args.sizes S.requires.sized.0.0 S.args.lens.now S.requires.sized.0.1 c.tiles_of.result c.tiles_of.ensures.0)).sheet.long)
+    omega (
+      arith,
+      test,
+      ((let S = c in
+          rows.slotted S.args.nest S.args.sizes S.requires.sized.0.0 S.args.lens.now S.requires.sized.0.1 c.tiles_of.result c.tiles_of.ensures.0)).sheet.few,
+      ((let S = c in
+          rows.slotted S.args.nest S.args.sizes S.requires.sized.0.0 S.args.lens.now S.requires.sized.0.1 c.tiles_of.result c.tiles_of.ensures.0)).sheet.long,
+    )
 
 pub bounds-lens-slot : goal.bounds-lens-slot
 bounds-lens-slot c =
     let test = c.loop-slot-test.true in
-    omega (arith, test, ((let S = c in
-    rows.slotted S.args.nest S.args.sizes S.requires.sized.0.0 S.args.lens.now S.requires.sized.0.1 c.tiles_of.result c.tiles_of.ensures.0)).sheet.few, ((let S = c in
-    rows.slotted S.args.nest S.args.sizes S.requires.sized.0.0 S.args.lens.now S.requires.sized.0.1 c.tiles_of.result c.tiles_of.ensures.0)).sheet.long)
+    omega (
+      arith,
+      test,
+      ((let S = c in
+          rows.slotted S.args.nest S.args.sizes S.requires.sized.0.0 S.args.lens.now S.requires.sized.0.1 c.tiles_of.result c.tiles_of.ensures.0)).sheet.few,
+      ((let S = c in
+          rows.slotted S.args.nest S.args.sizes S.requires.sized.0.0 S.args.lens.now S.requires.sized.0.1 c.tiles_of.result c.tiles_of.ensures.0)).sheet.long,
+    )
 
 pub half_index-words-requires : goal.half_index-words-requires
 half_index-words-requires c = tt
@@ -47,36 +59,61 @@ pub offset_bounds-ordinals-number : goal.offset_bounds-ordinals-number
 offset_bounds-ordinals-number c =
     let loop = c.loop-slot in
     let test = c.loop-slot-test.true in
-    omega (arith, test, loop.invariant.0.few, ((let S = c in
-    rows.slotted S.args.nest S.args.sizes S.requires.sized.0.0 S.args.lens.now S.requires.sized.0.1 c.tiles_of.result c.tiles_of.ensures.0)).sheet.few)
+    omega (
+      arith,
+      test,
+      loop.invariant.0.few,
+      ((let S = c in
+          rows.slotted S.args.nest S.args.sizes S.requires.sized.0.0 S.args.lens.now S.requires.sized.0.1 c.tiles_of.result c.tiles_of.ensures.0)).sheet.few,
+    )
 
 pub bounds-ordinals-number : goal.bounds-ordinals-number
 bounds-ordinals-number c =
     let loop = c.loop-slot in
     let test = c.loop-slot-test.true in
-    omega (arith, test, loop.invariant.0.few, ((let S = c in
-    rows.slotted S.args.nest S.args.sizes S.requires.sized.0.0 S.args.lens.now S.requires.sized.0.1 c.tiles_of.result c.tiles_of.ensures.0)).sheet.few)
+    omega (
+      arith,
+      test,
+      loop.invariant.0.few,
+      ((let S = c in
+          rows.slotted S.args.nest S.args.sizes S.requires.sized.0.0 S.args.lens.now S.requires.sized.0.1 c.tiles_of.result c.tiles_of.ensures.0)).sheet.few,
+    )
 
 pub offset_bounds-starts-number : goal.offset_bounds-starts-number
 offset_bounds-starts-number c =
     let loop = c.loop-slot in
     let test = c.loop-slot-test.true in
-    omega (arith, test, loop.invariant.0.few, ((let S = c in
-    rows.slotted S.args.nest S.args.sizes S.requires.sized.0.0 S.args.lens.now S.requires.sized.0.1 c.tiles_of.result c.tiles_of.ensures.0)).sheet.few)
+    omega (
+      arith,
+      test,
+      loop.invariant.0.few,
+      ((let S = c in
+          rows.slotted S.args.nest S.args.sizes S.requires.sized.0.0 S.args.lens.now S.requires.sized.0.1 c.tiles_of.result c.tiles_of.ensures.0)).sheet.few,
+    )
 
 pub bounds-starts-number : goal.bounds-starts-number
 bounds-starts-number c =
     let loop = c.loop-slot in
     let test = c.loop-slot-test.true in
-    omega (arith, test, loop.invariant.0.few, ((let S = c in
-    rows.slotted S.args.nest S.args.sizes S.requires.sized.0.0 S.args.lens.now S.requires.sized.0.1 c.tiles_of.result c.tiles_of.ensures.0)).sheet.few)
+    omega (
+      arith,
+      test,
+      loop.invariant.0.few,
+      ((let S = c in
+          rows.slotted S.args.nest S.args.sizes S.requires.sized.0.0 S.args.lens.now S.requires.sized.0.1 c.tiles_of.result c.tiles_of.ensures.0)).sheet.few,
+    )
 
 pub bounds-sides-slot : goal.bounds-sides-slot
 bounds-sides-slot c =
     let S = c in
     let test = c.loop-slot-test.true in
-    omega (arith, test, ((let S = c in
-    rows.slotted S.args.nest S.args.sizes S.requires.sized.0.0 S.args.lens.now S.requires.sized.0.1 c.tiles_of.result c.tiles_of.ensures.0)).sheet.few, S.requires.sized.1.0)
+    omega (
+      arith,
+      test,
+      ((let S = c in
+          rows.slotted S.args.nest S.args.sizes S.requires.sized.0.0 S.args.lens.now S.requires.sized.0.1 c.tiles_of.result c.tiles_of.ensures.0)).sheet.few,
+      S.requires.sized.1.0,
+    )
 
 pub handled_one-own-requires : goal.handled_one-own-requires
 handled_one-own-requires c =
@@ -92,8 +129,13 @@ pub overflow_add-number : goal.overflow_add-number
 overflow_add-number c =
     let loop = c.loop-slot in
     let test = c.loop-slot-test.true in
-    omega (arith, test, loop.invariant.0.few, ((let S = c in
-    rows.slotted S.args.nest S.args.sizes S.requires.sized.0.0 S.args.lens.now S.requires.sized.0.1 c.tiles_of.result c.tiles_of.ensures.0)).sheet.few)
+    omega (
+      arith,
+      test,
+      loop.invariant.0.few,
+      ((let S = c in
+          rows.slotted S.args.nest S.args.sizes S.requires.sized.0.0 S.args.lens.now S.requires.sized.0.1 c.tiles_of.result c.tiles_of.ensures.0)).sheet.few,
+    )
 
 pub overflow_add-rank : goal.overflow_add-rank
 overflow_add-rank c =
@@ -105,7 +147,7 @@ overflow_add-rank c =
       test,
       loop.invariant.0.few,
       ((let S = c in
-    rows.slotted S.args.nest S.args.sizes S.requires.sized.0.0 S.args.lens.now S.requires.sized.0.1 c.tiles_of.result c.tiles_of.ensures.0)).sheet.few,
+          rows.slotted S.args.nest S.args.sizes S.requires.sized.0.0 S.args.lens.now S.requires.sized.0.1 c.tiles_of.result c.tiles_of.ensures.0)).sheet.few,
       handling.few (plan_of S.args.sizes.route S.args.nest) S.args.b loop.ordinals loop.starts loop.number loop.offset
           loop.rank loop.at loop.invariant.1,
       handling.at_most _ c.handled_one-own.result c.handled_one-own.ensures,
@@ -144,8 +186,16 @@ overflow_add-at c =
     rows.slotted S.args.nest S.args.sizes S.requires.sized.0.0 S.args.lens.now S.requires.sized.0.1 c.tiles_of.result c.tiles_of.ensures.0))
     test half-index.result half-index.ensures in
     let own = handling.at_most_words _ c.handled_one-own.result half-index.result c.handled_one-own.ensures in
-    omega (arith, short, own, loop.invariant.1.small, loop.invariant.0.small, test, ((let S = c in
-    rows.slotted S.args.nest S.args.sizes S.requires.sized.0.0 S.args.lens.now S.requires.sized.0.1 c.tiles_of.result c.tiles_of.ensures.0)).sheet.few)
+    omega (
+      arith,
+      short,
+      own,
+      loop.invariant.1.small,
+      loop.invariant.0.small,
+      test,
+      ((let S = c in
+          rows.slotted S.args.nest S.args.sizes S.requires.sized.0.0 S.args.lens.now S.requires.sized.0.1 c.tiles_of.result c.tiles_of.ensures.0)).sheet.few,
+    )
 
 pub overflow_add-offset : goal.overflow_add-offset
 overflow_add-offset c =
@@ -156,14 +206,24 @@ overflow_add-offset c =
     let short = pass.short S.args.sizes.route S.args.nest S.args.lens.now _ loop.slot loop.number loop.offset loop.invariant.0 ((let S = c in
     rows.slotted S.args.nest S.args.sizes S.requires.sized.0.0 S.args.lens.now S.requires.sized.0.1 c.tiles_of.result c.tiles_of.ensures.0))
     test half-index.result half-index.ensures in
-    omega (arith, short, loop.invariant.0.small, test, ((let S = c in
-    rows.slotted S.args.nest S.args.sizes S.requires.sized.0.0 S.args.lens.now S.requires.sized.0.1 c.tiles_of.result c.tiles_of.ensures.0)).sheet.few)
+    omega (
+      arith,
+      short,
+      loop.invariant.0.small,
+      test,
+      ((let S = c in
+          rows.slotted S.args.nest S.args.sizes S.requires.sized.0.0 S.args.lens.now S.requires.sized.0.1 c.tiles_of.result c.tiles_of.ensures.0)).sheet.few,
+    )
 
 pub overflow_add-slot : goal.overflow_add-slot
 overflow_add-slot c =
     let test = c.loop-slot-test.true in
-    omega (arith, test, ((let S = c in
-    rows.slotted S.args.nest S.args.sizes S.requires.sized.0.0 S.args.lens.now S.requires.sized.0.1 c.tiles_of.result c.tiles_of.ensures.0)).sheet.few)
+    omega (
+      arith,
+      test,
+      ((let S = c in
+          rows.slotted S.args.nest S.args.sizes S.requires.sized.0.0 S.args.lens.now S.requires.sized.0.1 c.tiles_of.result c.tiles_of.ensures.0)).sheet.few,
+    )
 
 pub loop-slot-smaller : goal.loop-slot-smaller
 loop-slot-smaller c = omega (arith, c.loop-slot-test.true)
@@ -176,42 +236,66 @@ loop-slot-preserved c =
     let half-index = c.half_index-words in
     let here = pass.here S.args.sizes.route S.args.nest S.args.lens.now _ loop.slot loop.number loop.offset loop.invariant.0 ((let S = c in
     rows.slotted S.args.nest S.args.sizes S.requires.sized.0.0 S.args.lens.now S.requires.sized.0.1 c.tiles_of.result c.tiles_of.ensures.0))
-    test half-index.result half-index.ensures in
-    (
+    test half-index.result half-index.ensures in (
       pass.past_next S.args.sizes.route S.args.nest S.args.lens.now _ loop.slot loop.number loop.offset loop.invariant.0 ((let S = c in
-    rows.slotted S.args.nest S.args.sizes S.requires.sized.0.0 S.args.lens.now S.requires.sized.0.1 c.tiles_of.result c.tiles_of.ensures.0))
+          rows.slotted S.args.nest S.args.sizes S.requires.sized.0.0 S.args.lens.now S.requires.sized.0.1 c.tiles_of.result c.tiles_of.ensures.0))
           test half-index.result half-index.ensures c.if-words-ne0.number
           (elim c.if-words-ne0.branch [ then-words-ne0 w ↦ inl (w.if-words-ne0.true, w.number-is) | else-words-ne0 w ↦ inr (w.if-words-ne0.false, w.number-is) ]),
       handling.rank_turn (plan_of S.args.sizes.route S.args.nest) S.args.b loop.ordinals loop.starts loop.number loop.offset
           loop.rank loop.at loop.invariant.1
-          half-index.result c.if-words-ne0.number c.if-words-ne0.rank c.if-words-ne0.at (omega (arith, test, loop.invariant.0.few, ((let S = c in
-    rows.slotted S.args.nest S.args.sizes S.requires.sized.0.0 S.args.lens.now S.requires.sized.0.1 c.tiles_of.result c.tiles_of.ensures.0)).sheet.few))
+          half-index.result c.if-words-ne0.number c.if-words-ne0.rank c.if-words-ne0.at (omega (
+            arith,
+            test,
+            loop.invariant.0.few,
+            ((let S = c in
+                rows.slotted S.args.nest S.args.sizes S.requires.sized.0.0 S.args.lens.now S.requires.sized.0.1 c.tiles_of.result c.tiles_of.ensures.0)).sheet.few,
+          ))
           (elim c.if-words-ne0.branch [ then-words-ne0 w ↦ inl (w.handled_one-own.result, w.handled_one-own.ensures, (here w.if-words-ne0.true).words, w.number-is, w.rank-is, w.at-is) | else-words-ne0 w ↦ inr (w.number-is, w.rank-is, w.at-is) ]),
     )
 
 pub offset_bounds-ordinals-number-2 : goal.offset_bounds-ordinals-number-2
 offset_bounds-ordinals-number-2 c =
     let loop = c.loop-slot in
-    omega (arith, loop.invariant.0.few, loop.invariant.0.low, ((let S = c in
-    rows.slotted S.args.nest S.args.sizes S.requires.sized.0.0 S.args.lens.now S.requires.sized.0.1 c.tiles_of.result c.tiles_of.ensures.0)).sheet.few)
+    omega (
+      arith,
+      loop.invariant.0.few,
+      loop.invariant.0.low,
+      ((let S = c in
+          rows.slotted S.args.nest S.args.sizes S.requires.sized.0.0 S.args.lens.now S.requires.sized.0.1 c.tiles_of.result c.tiles_of.ensures.0)).sheet.few,
+    )
 
 pub bounds-ordinals-number-2 : goal.bounds-ordinals-number-2
 bounds-ordinals-number-2 c =
     let loop = c.loop-slot in
-    omega (arith, loop.invariant.0.few, loop.invariant.0.low, ((let S = c in
-    rows.slotted S.args.nest S.args.sizes S.requires.sized.0.0 S.args.lens.now S.requires.sized.0.1 c.tiles_of.result c.tiles_of.ensures.0)).sheet.few)
+    omega (
+      arith,
+      loop.invariant.0.few,
+      loop.invariant.0.low,
+      ((let S = c in
+          rows.slotted S.args.nest S.args.sizes S.requires.sized.0.0 S.args.lens.now S.requires.sized.0.1 c.tiles_of.result c.tiles_of.ensures.0)).sheet.few,
+    )
 
 pub offset_bounds-starts-number-2 : goal.offset_bounds-starts-number-2
 offset_bounds-starts-number-2 c =
     let loop = c.loop-slot in
-    omega (arith, loop.invariant.0.few, loop.invariant.0.low, ((let S = c in
-    rows.slotted S.args.nest S.args.sizes S.requires.sized.0.0 S.args.lens.now S.requires.sized.0.1 c.tiles_of.result c.tiles_of.ensures.0)).sheet.few)
+    omega (
+      arith,
+      loop.invariant.0.few,
+      loop.invariant.0.low,
+      ((let S = c in
+          rows.slotted S.args.nest S.args.sizes S.requires.sized.0.0 S.args.lens.now S.requires.sized.0.1 c.tiles_of.result c.tiles_of.ensures.0)).sheet.few,
+    )
 
 pub bounds-starts-number-2 : goal.bounds-starts-number-2
 bounds-starts-number-2 c =
     let loop = c.loop-slot in
-    omega (arith, loop.invariant.0.few, loop.invariant.0.low, ((let S = c in
-    rows.slotted S.args.nest S.args.sizes S.requires.sized.0.0 S.args.lens.now S.requires.sized.0.1 c.tiles_of.result c.tiles_of.ensures.0)).sheet.few)
+    omega (
+      arith,
+      loop.invariant.0.few,
+      loop.invariant.0.low,
+      ((let S = c in
+          rows.slotted S.args.nest S.args.sizes S.requires.sized.0.0 S.args.lens.now S.requires.sized.0.1 c.tiles_of.result c.tiles_of.ensures.0)).sheet.few,
+    )
 
 pub returns : goal.returns
 returns c =
@@ -222,5 +306,10 @@ returns c =
     c.loop-slot-test.false in
     λ m h. handling.told (plan_of S.args.sizes.route S.args.nest) S.args.b loop.ordinals loop.starts loop.number loop.offset
     loop.rank loop.at loop.invariant.1
-    (omega (arith, loop.invariant.0.few, loop.invariant.0.low, ((let S = c in
-    rows.slotted S.args.nest S.args.sizes S.requires.sized.0.0 S.args.lens.now S.requires.sized.0.1 c.tiles_of.result c.tiles_of.ensures.0)).sheet.few)) m (omega (arith, h, all))
+    (omega (
+      arith,
+      loop.invariant.0.few,
+      loop.invariant.0.low,
+      ((let S = c in
+          rows.slotted S.args.nest S.args.sizes S.requires.sized.0.0 S.args.lens.now S.requires.sized.0.1 c.tiles_of.result c.tiles_of.ensures.0)).sheet.few,
+    )) m (omega (arith, h, all))

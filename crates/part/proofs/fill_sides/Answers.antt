@@ -100,13 +100,16 @@ loop-tile-preserved c =
     let is : chain ≡ box_tile x loop.tile / tile_count x (last x) = chains.chain_is z.route x z S.requires.0.0 loop.tile box_tile_lem.result
     box_tile_lem.ensures.0 in (
       omega (arith, c.loop-tile-test.true),
-      elim c.if-chain-known.branch [ then-chain-known w ↦ 
-          subst (λ l. chains.SidesTo z.route x S.args.b l (loop.tile + 1) chain) (sym w.sides-is)
-          (chains.sides_copied z.route x S.args.b S.requires.0.0.accepted loop.sides loop.tile loop.known g chain is z.ways
-          S.requires.0.0.ways (room c.args.nest c.args.sizes c.requires.0.0 c.args.lens.now c.requires.0.1 _ c.tiles_of-tiles.ensures.0 _ c.loop-tile-test.true) _ w.if-chain-known.true (omega (arith, box_tile_lem.ensures.0, box_tile_lem.ensures.1)) w.copy_sides.ensures) | else-chain-known w ↦ 
-          subst (λ l. chains.SidesTo z.route x S.args.b l (loop.tile + 1) chain) (sym w.sides-is)
-          (chains.sides_put z.route x S.args.b S.requires.0.0.accepted loop.sides loop.tile loop.known g chain is z.ways
-          S.requires.0.0.ways (room c.args.nest c.args.sizes c.requires.0.0 c.args.lens.now c.requires.0.1 _ c.tiles_of-tiles.ensures.0 _ c.loop-tile-test.true) w.put_sides.new.row box_tile_lem.result box_tile_lem.ensures.0 w.put_sides.auto.row w.put_sides.ensures) ],
+      elim c.if-chain-known.branch [
+        | then-chain-known w ↦
+            subst (λ l. chains.SidesTo z.route x S.args.b l (loop.tile + 1) chain) (sym w.sides-is)
+            (chains.sides_copied z.route x S.args.b S.requires.0.0.accepted loop.sides loop.tile loop.known g chain is z.ways
+            S.requires.0.0.ways (room c.args.nest c.args.sizes c.requires.0.0 c.args.lens.now c.requires.0.1 _ c.tiles_of-tiles.ensures.0 _ c.loop-tile-test.true) _ w.if-chain-known.true (omega (arith, box_tile_lem.ensures.0, box_tile_lem.ensures.1)) w.copy_sides.ensures)
+        | else-chain-known w ↦
+            subst (λ l. chains.SidesTo z.route x S.args.b l (loop.tile + 1) chain) (sym w.sides-is)
+            (chains.sides_put z.route x S.args.b S.requires.0.0.accepted loop.sides loop.tile loop.known g chain is z.ways
+            S.requires.0.0.ways (room c.args.nest c.args.sizes c.requires.0.0 c.args.lens.now c.requires.0.1 _ c.tiles_of-tiles.ensures.0 _ c.loop-tile-test.true) w.put_sides.new.row box_tile_lem.result box_tile_lem.ensures.0 w.put_sides.auto.row w.put_sides.ensures)
+      ],
     )
 
 pub shape_of-sides : goal.shape_of-sides

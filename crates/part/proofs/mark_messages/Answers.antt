@@ -19,32 +19,44 @@ tiles_of-requires c = c.requires.sized.0
 
 pub overflow_mul-slots : goal.overflow_mul-slots
 overflow_mul-slots c =
-    omega (arith, ((let S = c in
-    rows.slotted S.args.nest S.args.sizes S.requires.sized.0.0 S.args.lens.now S.requires.sized.0.1 c.tiles_of.result c.tiles_of.ensures.0)).sheet.few)
+    omega (
+      arith,
+      ((let S = c in
+          rows.slotted S.args.nest S.args.sizes S.requires.sized.0.0 S.args.lens.now S.requires.sized.0.1 c.tiles_of.result c.tiles_of.ensures.0)).sheet.few,
+    )
 
 pub loop-slot-init : goal.loop-slot-init
-loop-slot-init c =
-    (
-      (
-        pass.past_start c.args.lens.now (c.tiles_of.result * c.args.sizes.ways),
-        brings.keep_start (plan_of c.args.sizes.route c.args.nest) c.args.b c.args.marks.now c.requires.marks_value,
-      ),
-      c.requires.sized.1,
-    )
+loop-slot-init c = (
+  (
+    pass.past_start c.args.lens.now (c.tiles_of.result * c.args.sizes.ways),
+    brings.keep_start (plan_of c.args.sizes.route c.args.nest) c.args.b c.args.marks.now c.requires.marks_value,
+  ),
+  c.requires.sized.1,
+)
 
 pub offset_bounds-lens-slot : goal.offset_bounds-lens-slot
 offset_bounds-lens-slot c =
     let test = c.loop-slot-test.true in
-    omega (arith, test, ((let S = c in
-    rows.slotted S.args.nest S.args.sizes S.requires.sized.0.0 S.args.lens.now S.requires.sized.0.1 c.tiles_of.result c.tiles_of.ensures.0)).sheet.few, ((let S = c in
-    rows.slotted S.args.nest S.args.sizes S.requires.sized.0.0 S.args.lens.now S.requires.sized.0.1 c.tiles_of.result c.tiles_of.ensures.0)).sheet.long)
+    omega (
+      arith,
+      test,
+      ((let S = c in
+          rows.slotted S.args.nest S.args.sizes S.requires.sized.0.0 S.args.lens.now S.requires.sized.0.1 c.tiles_of.result c.tiles_of.ensures.0)).sheet.few,
+      ((let S = c in
+          rows.slotted S.args.nest S.args.sizes S.requires.sized.0.0 S.args.lens.now S.requires.sized.0.1 c.tiles_of.result c.tiles_of.ensures.0)).sheet.long,
+    )
 
 pub bounds-lens-slot : goal.bounds-lens-slot
 bounds-lens-slot c =
     let test = c.loop-slot-test.true in
-    omega (arith, test, ((let S = c in
-    rows.slotted S.args.nest S.args.sizes S.requires.sized.0.0 S.args.lens.now S.requires.sized.0.1 c.tiles_of.result c.tiles_of.ensures.0)).sheet.few, ((let S = c in
-    rows.slotted S.args.nest S.args.sizes S.requires.sized.0.0 S.args.lens.now S.requires.sized.0.1 c.tiles_of.result c.tiles_of.ensures.0)).sheet.long)
+    omega (
+      arith,
+      test,
+      ((let S = c in
+          rows.slotted S.args.nest S.args.sizes S.requires.sized.0.0 S.args.lens.now S.requires.sized.0.1 c.tiles_of.result c.tiles_of.ensures.0)).sheet.few,
+      ((let S = c in
+          rows.slotted S.args.nest S.args.sizes S.requires.sized.0.0 S.args.lens.now S.requires.sized.0.1 c.tiles_of.result c.tiles_of.ensures.0)).sheet.long,
+    )
 
 pub half_index-words-requires : goal.half_index-words-requires
 half_index-words-requires c = tt
@@ -53,8 +65,13 @@ pub bounds-sides-slot : goal.bounds-sides-slot
 bounds-sides-slot c =
     let S = c in
     let test = c.loop-slot-test.true in
-    omega (arith, test, ((let S = c in
-    rows.slotted S.args.nest S.args.sizes S.requires.sized.0.0 S.args.lens.now S.requires.sized.0.1 c.tiles_of.result c.tiles_of.ensures.0)).sheet.few, S.requires.sides_len.0)
+    omega (
+      arith,
+      test,
+      ((let S = c in
+          rows.slotted S.args.nest S.args.sizes S.requires.sized.0.0 S.args.lens.now S.requires.sized.0.1 c.tiles_of.result c.tiles_of.ensures.0)).sheet.few,
+      S.requires.sides_len.0,
+    )
 
 pub mark_brought-requires : goal.mark_brought-requires
 mark_brought-requires c =
@@ -73,8 +90,13 @@ pub overflow_add-number : goal.overflow_add-number
 overflow_add-number c =
     let loop = c.loop-slot in
     let test = c.loop-slot-test.true in
-    omega (arith, test, loop.invariant.0.0.few, ((let S = c in
-    rows.slotted S.args.nest S.args.sizes S.requires.sized.0.0 S.args.lens.now S.requires.sized.0.1 c.tiles_of.result c.tiles_of.ensures.0)).sheet.few)
+    omega (
+      arith,
+      test,
+      loop.invariant.0.0.few,
+      ((let S = c in
+          rows.slotted S.args.nest S.args.sizes S.requires.sized.0.0 S.args.lens.now S.requires.sized.0.1 c.tiles_of.result c.tiles_of.ensures.0)).sheet.few,
+    )
 
 pub overflow_add-offset : goal.overflow_add-offset
 overflow_add-offset c =
@@ -85,14 +107,24 @@ overflow_add-offset c =
     let short = pass.short S.args.sizes.route S.args.nest S.args.lens.now _ loop.slot loop.number loop.offset loop.invariant.0.0 ((let S = c in
     rows.slotted S.args.nest S.args.sizes S.requires.sized.0.0 S.args.lens.now S.requires.sized.0.1 c.tiles_of.result c.tiles_of.ensures.0))
     test half-index.result half-index.ensures in
-    omega (arith, short, loop.invariant.0.0.small, test, ((let S = c in
-    rows.slotted S.args.nest S.args.sizes S.requires.sized.0.0 S.args.lens.now S.requires.sized.0.1 c.tiles_of.result c.tiles_of.ensures.0)).sheet.few)
+    omega (
+      arith,
+      short,
+      loop.invariant.0.0.small,
+      test,
+      ((let S = c in
+          rows.slotted S.args.nest S.args.sizes S.requires.sized.0.0 S.args.lens.now S.requires.sized.0.1 c.tiles_of.result c.tiles_of.ensures.0)).sheet.few,
+    )
 
 pub overflow_add-slot : goal.overflow_add-slot
 overflow_add-slot c =
     let test = c.loop-slot-test.true in
-    omega (arith, test, ((let S = c in
-    rows.slotted S.args.nest S.args.sizes S.requires.sized.0.0 S.args.lens.now S.requires.sized.0.1 c.tiles_of.result c.tiles_of.ensures.0)).sheet.few)
+    omega (
+      arith,
+      test,
+      ((let S = c in
+          rows.slotted S.args.nest S.args.sizes S.requires.sized.0.0 S.args.lens.now S.requires.sized.0.1 c.tiles_of.result c.tiles_of.ensures.0)).sheet.few,
+    )
 
 pub loop-slot-smaller : goal.loop-slot-smaller
 loop-slot-smaller c = omega (arith, c.loop-slot-test.true)
@@ -105,11 +137,10 @@ loop-slot-preserved c =
     let half-index = c.half_index-words in
     let here = pass.here S.args.sizes.route S.args.nest S.args.lens.now _ loop.slot loop.number loop.offset loop.invariant.0.0 ((let S = c in
     rows.slotted S.args.nest S.args.sizes S.requires.sized.0.0 S.args.lens.now S.requires.sized.0.1 c.tiles_of.result c.tiles_of.ensures.0))
-    test half-index.result half-index.ensures in
-    (
+    test half-index.result half-index.ensures in (
       (
         pass.past_next S.args.sizes.route S.args.nest S.args.lens.now _ loop.slot loop.number loop.offset loop.invariant.0.0 ((let S = c in
-    rows.slotted S.args.nest S.args.sizes S.requires.sized.0.0 S.args.lens.now S.requires.sized.0.1 c.tiles_of.result c.tiles_of.ensures.0))
+            rows.slotted S.args.nest S.args.sizes S.requires.sized.0.0 S.args.lens.now S.requires.sized.0.1 c.tiles_of.result c.tiles_of.ensures.0))
             test half-index.result half-index.ensures c.if-words-ne0.number
             (elim c.if-words-ne0.branch [ then-words-ne0 w ↦ inl (w.if-words-ne0.true, w.number-is) | else-words-ne0 w ↦ inr (w.if-words-ne0.false, w.number-is) ]),
         brings.keep_turn (plan_of S.args.sizes.route S.args.nest) S.args.b

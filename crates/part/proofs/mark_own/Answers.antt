@@ -29,12 +29,11 @@ pub row_count-rows-requires : goal.row_count-rows-requires
 row_count-rows-requires c = framed _ c.requires.0.accepted
 
 pub loop-q-init : goal.loop-q-init
-loop-q-init c =
-    (
-      omega arith,
-      owned.own_start (plan_of c.args.sizes.route c.args.nest) c.args.b _ _ c.requires.1.1.1 c.zero_bytes.ensures
-          (row_cells c.args.nest),
-    )
+loop-q-init c = (
+  omega arith,
+  owned.own_start (plan_of c.args.sizes.route c.args.nest) c.args.b _ _ c.requires.1.1.1 c.zero_bytes.ensures
+      (row_cells c.args.nest),
+)
 
 pub overflow_sub-rows : goal.overflow_sub-rows
 overflow_sub-rows c = omega (arith, c.loop-q-test.true)

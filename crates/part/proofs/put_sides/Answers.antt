@@ -44,10 +44,10 @@ overflow_mul-row c = omega (arith, handling.at_most _ c.same_as.result c.same_as
 pub overflow_add-row : goal.overflow_add-row
 overflow_add-row c =
     omega (
-  arith,
-  handling.at_most _ c.same_as.result c.same_as.ensures,
-  handling.at_most _ c.same_as-from.result c.same_as-from.ensures,
-)
+      arith,
+      handling.at_most _ c.same_as.result c.same_as.ensures,
+      handling.at_most _ c.same_as-from.result c.same_as-from.ensures,
+    )
 
 pub bounds-row-w : goal.bounds-row-w
 bounds-row-w c =
