@@ -71,7 +71,8 @@ put_own-requires c =
     let if1 = c.if-n-ne0 in
     let p = plan_of A.sizes.route A.nest in
     let is = front.back_is A.nest A.sizes A.b c.requires.0 (replicate {A = ℕ} 16384 0) keep-cells.new.kept
-    (length-replicate {A = ℕ} 16384 0) keep-cells.auto.kept in record { sized = (
+    (length-replicate {A = ℕ} 16384 0) keep-cells.auto.kept in record {
+      sized = (
         c.requires.0,
         (
           c.requires.1.0,
@@ -81,7 +82,9 @@ put_own-requires c =
                 keep-cells.ensures.0,
           ),
         ),
-      ); memory_len = uncollected.ensures.1 if1.false }
+      );
+      memory_len = uncollected.ensures.1 if1.false;
+    }
 
 pub returns-else-n-ne0 : goal.returns-else-n-ne0
 returns-else-n-ne0 c =

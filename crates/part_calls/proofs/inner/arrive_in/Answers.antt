@@ -39,12 +39,15 @@ receive-requires c =
     let if2 = c.if-n-ne0 in
     let as_long_lem = c.as_long in
     let if1 = c.if-not-as_long in
-    let p = plan_of A.sizes.route A.nest in record { known = c.requires.0; messages_value = (
+    let p = plan_of A.sizes.route A.nest in record {
+      known = c.requires.0;
+      messages_value = (
         c.requires.1.0.messages,
         answers.may_arrive p A.b A.memory.now A.mail.now A.marks.now A.progress c.requires.1.1 refusal-of-areas.result
             refusal-of-areas.ensures
             if2.false A.m A.words.now (sym (as_long_lem.ensures A.words.now refl) ∙ if1.false),
-      ) }
+      );
+    }
 
 pub returns-else-n-ne0 : goal.returns-else-n-ne0
 returns-else-n-ne0 c =

@@ -51,8 +51,11 @@ put_rows-requires c =
     let prepare = c.prepare-messages in
     let if1 = c.if-out-word_index in
     let word-index = c.word_index in
-    let A = c.args in record { known = (prepare.ensures.0, prepare.ensures.1); out_len = if1.false ∙ ap (λ (n : ℕ). 7 * n) (word-index.ensures ∙ front.all_handled A.nest A.sizes A.b _ _ _ prepare.ensures.0 prepare.result
-          prepare.ensures.1) }
+    let A = c.args in record {
+      known = (prepare.ensures.0, prepare.ensures.1);
+      out_len = if1.false ∙ ap (λ (n : ℕ). 7 * n) (word-index.ensures ∙ front.all_handled A.nest A.sizes A.b _ _ _ prepare.ensures.0 prepare.result
+          prepare.ensures.1);
+    }
 
 pub returns-else-out-word_index : goal.returns-else-out-word_index
 returns-else-out-word_index c =

@@ -41,22 +41,25 @@ overflow_mul-r c =
     )
 
 pub cell_in-cell-requires : goal.cell_in-cell-requires
-cell_in-cell-requires c =
-    (
-      c.requires.0.accepted,
-      (
-        c.bounds_of-bounds.ensures.0,
-        (let b = box_in _ c.requires.0.accepted _ c.bounds_of-bounds.ensures.0 c.loop-r.r _ _ c.product-rows.ensures refl
-            c.loop-r-test.true in omega (arith, b.0, b.1)),
-      ),
-    )
+cell_in-cell-requires c = (
+  c.requires.0.accepted,
+  (
+    c.bounds_of-bounds.ensures.0,
+    (let b = box_in _ c.requires.0.accepted _ c.bounds_of-bounds.ensures.0 c.loop-r.r _ _ c.product-rows.ensures refl
+        c.loop-r-test.true in omega (arith, b.0, b.1)),
+  ),
+)
 
 pub row_in-row-requires : goal.row_in-row-requires
 row_in-row-requires c =
     let a = c.requires.0.accepted in
     let g = c.requires.1 in
-    let is = c.bounds_of-bounds.ensures in record { accepted = (a, (c.backs_of-back.ensures, (g.kept_marks, g.own_marks))); located = (relocated _ _ _ c.cell_in-cell.ensures, row_fits _ a _ is.0 c.loop-r.r _ c.cell_in-cell.ensures); by_index = row_worked _ a _ is.0 _ is.1 _ _ _ _ _ _ g c.loop-r.r _ _ _ c.product-rows.ensures refl
-            c.loop-r-test.true c.cell_in-cell.ensures }
+    let is = c.bounds_of-bounds.ensures in record {
+      accepted = (a, (c.backs_of-back.ensures, (g.kept_marks, g.own_marks)));
+      located = (relocated _ _ _ c.cell_in-cell.ensures, row_fits _ a _ is.0 c.loop-r.r _ c.cell_in-cell.ensures);
+      by_index = row_worked _ a _ is.0 _ is.1 _ _ _ _ _ _ g c.loop-r.r _ _ _ c.product-rows.ensures refl
+          c.loop-r-test.true c.cell_in-cell.ensures;
+    }
 
 pub store-requires : goal.store-requires
 store-requires c =

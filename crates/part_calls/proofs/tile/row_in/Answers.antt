@@ -42,8 +42,11 @@ rank-from-requires c =
 pub row_at-requires : goal.row_at-requires
 row_at-requires c =
     let m = c.requires.accepted.1.1 in
-    let l = c.requires.located in record { accepted = (c.requires.accepted.0, (place_narrow _ c.requires.accepted.0 _ l.0, (c.requires.accepted.1.0, m.0))); worked_row = worked_row _ c.requires.accepted.0 _ _ _ _ _ m.0 m.1 c.requires.accepted.1.0 _ l.0 _ l.1 _ _ c.span-own.ensures c.overlap-cut.ensures
-          c.requires.by_index }
+    let l = c.requires.located in record {
+      accepted = (c.requires.accepted.0, (place_narrow _ c.requires.accepted.0 _ l.0, (c.requires.accepted.1.0, m.0)));
+      worked_row = worked_row _ c.requires.accepted.0 _ _ _ _ _ m.0 m.1 c.requires.accepted.1.0 _ l.0 _ l.1 _ _ c.span-own.ensures c.overlap-cut.ensures
+          c.requires.by_index;
+    }
 
 pub returns : goal.returns
 returns c =

@@ -13,8 +13,11 @@ use Rattle.part_calls.proofs.turn.first_stage.Goals as goal
 pub ready-requires : goal.ready-requires
 ready-requires c =
     let A = c.args in
-    let p = plan_of A.sizes.route A.nest in record { planned = (c.requires.tables.known.planned, c.requires.part_lengths.1.low); ranked = stage.ranked A.nest A.sizes A.b A.lens.now A.kept.now A.counts.now A.ordinals.now A.starts.now
-          c.requires.tables A.tile (stage.stands_own p A.progress.now A.b A.tile c.requires.part_lengths.1) A.marks.now c.requires.part_lengths.0.marks }
+    let p = plan_of A.sizes.route A.nest in record {
+      planned = (c.requires.tables.known.planned, c.requires.part_lengths.1.low);
+      ranked = stage.ranked A.nest A.sizes A.b A.lens.now A.kept.now A.counts.now A.ordinals.now A.starts.now
+          c.requires.tables A.tile (stage.stands_own p A.progress.now A.b A.tile c.requires.part_lengths.1) A.marks.now c.requires.part_lengths.0.marks;
+    }
 
 pub returns-then-not-ready : goal.returns-then-not-ready
 returns-then-not-ready c =

@@ -11,14 +11,18 @@ use Rattle.part_calls.proofs.turn.later_stage.Goals as goal
 
 pub calculate_stage-calculated-requires : goal.calculate_stage-calculated-requires
 calculate_stage-calculated-requires c =
-    let A = c.args in record { tables = (c.requires.tables, c.requires.may_step.0.lengths.memory); tile_bound = (
-          c.requires.may_step.1.0.low,
-          (
-            stage.stands_own (plan_of A.sizes.route A.nest) A.progress.now A.b
-                A.tile c.requires.may_step.1.0,
-            c.requires.may_step.1.0.few,
-          ),
-        ); source_len = c.requires.may_step.0.own }
+    let A = c.args in record {
+      tables = (c.requires.tables, c.requires.may_step.0.lengths.memory);
+      tile_bound = (
+        c.requires.may_step.1.0.low,
+        (
+          stage.stands_own (plan_of A.sizes.route A.nest) A.progress.now A.b
+              A.tile c.requires.may_step.1.0,
+          c.requires.may_step.1.0.few,
+        ),
+      );
+      source_len = c.requires.may_step.0.own;
+    }
 
 pub returns-then-progress-eq1 : goal.returns-then-progress-eq1
 returns-then-progress-eq1 c =
@@ -40,12 +44,16 @@ send_stage-left-requires c =
     let word-index = c.word_index-sent in
     let if1 = c.if-progress-eq1 in
     let p = plan_of A.sizes.route A.nest in
-    let s = state_of A.memory.now A.mail.now A.progress.now A.marks.now in record { tables = (c.requires.tables, record { memory = c.requires.may_step.0.lengths.memory; mail = c.requires.may_step.0.lengths.mail; marks = c.requires.may_step.0.lengths.marks }); tile_bound = (c.requires.may_step.1.0.low, stage.stands_own p A.progress.now A.b A.tile c.requires.may_step.1.0); finished_bound = (
-          c.requires.may_step.1.0.few,
-          turned.sends_left p A.b A.source.now s c.requires.may_step.0 (get_or A.progress.now 0 0) (length (tiles_of p A.b)) refl refl
-              A.tile (get_or A.progress.now 1 0) c.requires.may_step.1.0.left c.requires.may_step.1.0.tile refl word-index.result word-index.ensures
-              c.requires.may_step.1.1 if1.false,
-        ) }
+    let s = state_of A.memory.now A.mail.now A.progress.now A.marks.now in record {
+      tables = (c.requires.tables, record { memory = c.requires.may_step.0.lengths.memory; mail = c.requires.may_step.0.lengths.mail; marks = c.requires.may_step.0.lengths.marks });
+      tile_bound = (c.requires.may_step.1.0.low, stage.stands_own p A.progress.now A.b A.tile c.requires.may_step.1.0);
+      finished_bound = (
+        c.requires.may_step.1.0.few,
+        turned.sends_left p A.b A.source.now s c.requires.may_step.0 (get_or A.progress.now 0 0) (length (tiles_of p A.b)) refl refl
+            A.tile (get_or A.progress.now 1 0) c.requires.may_step.1.0.left c.requires.may_step.1.0.tile refl word-index.result word-index.ensures
+            c.requires.may_step.1.1 if1.false,
+      );
+    }
 
 pub returns-else-progress-eq1 : goal.returns-else-progress-eq1
 returns-else-progress-eq1 c =

@@ -35,11 +35,14 @@ first_stage-requires c =
     let word-index = c.word_index-finished in
     let tile-count = c.tile_count in
     let if1 = c.if-finished-tile_count in
-    let p = plan_of A.sizes.route A.nest in record { tables = c.requires.tables; part_lengths = (
+    let p = plan_of A.sizes.route A.nest in record {
+      tables = c.requires.tables;
+      part_lengths = (
         c.requires.may_step.lengths,
         stage.stands p A.progress.now A.b tile-at.result word-index.result tile-count.result
             word-index.ensures tile-count.ensures if1.false tile-at.ensures.0 tile-at.ensures.1,
-      ) }
+      );
+    }
 
 pub returns-then-progress-eq0 : goal.returns-then-progress-eq0
 returns-then-progress-eq0 c =
@@ -57,11 +60,14 @@ later_stage-requires c =
     let tile-count = c.tile_count in
     let if1 = c.if-finished-tile_count in
     let if2 = c.if-progress-eq0 in
-    let p = plan_of A.sizes.route A.nest in record { tables = c.requires.tables; may_step = (
+    let p = plan_of A.sizes.route A.nest in record {
+      tables = c.requires.tables;
+      may_step = (
         c.requires.may_step,
         (
           stage.stands p A.progress.now A.b tile-at.result word-index.result tile-count.result word-index.ensures
               tile-count.ensures if1.false tile-at.ensures.0 tile-at.ensures.1,
           if2.false,
         ),
-      ) }
+      );
+    }

@@ -75,10 +75,13 @@ turn_in-requires c =
     c.own_count in
     let p = plan_of A.sizes.route A.nest in
     let is = front.back_is A.nest A.sizes A.b S.requires.sized.0 (replicate {A = ℕ} 16384 0) keep-cells.new.kept (length-replicate {A =
-    ℕ} 16384 0) keep-cells.auto.kept in record { tables = (
+    ℕ} 16384 0) keep-cells.auto.kept in record {
+      tables = (
         record {
           known = prepare.ensures.0;
           cells = subst (λ (k : List ℕ). Cells A.nest (keeps p A.b) k keep-cells.new.counts) (sym is) keep-cells.ensures.0;
         },
         (record { messages = prepare.ensures.1; kept = keep-cells.ensures.1 }, S.requires.words_len),
-      ); source_len = if1.false ∙ own-count.ensures.0 }
+      );
+      source_len = if1.false ∙ own-count.ensures.0;
+    }

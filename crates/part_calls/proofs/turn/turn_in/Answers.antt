@@ -39,9 +39,12 @@ step-requires c =
     let refusal-of-areas = c.refusal_of_areas-n in
     let if1 = c.if-n-ne0 in
     let p = plan_of A.sizes.route A.nest in
-    let s : List ℕ → State = λ l. state_of A.memory.now A.mail.now l A.marks.now in record { tables = c.requires.tables.0; may_step = turned.may_step p A.b A.source.now (s (take 3 A.progress.words)) c.requires.source_len refusal-of-areas.result
+    let s : List ℕ → State = λ l. state_of A.memory.now A.mail.now l A.marks.now in record {
+      tables = c.requires.tables.0;
+      may_step = turned.may_step p A.b A.source.now (s (take 3 A.progress.words)) c.requires.source_len refusal-of-areas.result
           (refusal-of-areas.ensures.0 _ (turned.three_carried A.progress c.requires.tables.1.1 (refusal-of-areas.ensures.1 if1.false))) if1.false
-          c.requires.tables.0.known.low }
+          c.requires.tables.0.known.low;
+    }
 
 pub returns-else-n-ne0 : goal.returns-else-n-ne0
 returns-else-n-ne0 c =

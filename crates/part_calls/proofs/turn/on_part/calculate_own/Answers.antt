@@ -18,11 +18,14 @@ slice_bounds-own_cells-end c =
 
 pub own_cells-requires : goal.own_cells-requires
 own_cells-requires c =
-    let A = c.args in record { sized = (c.requires.planned.0.0, (c.requires.planned.0.1.routed, c.requires.planned.1.0)); owned_len = (
+    let A = c.args in record {
+      sized = (c.requires.planned.0.0, (c.requires.planned.0.1.routed, c.requires.planned.1.0));
+      owned_len = (
         front.lent_long A.nest A.sizes A.b c.requires.planned.0.0 (replicate {A = ℕ}
             16384 0) (length-replicate {A = ℕ} 16384 0),
         refl,
-      ) }
+      );
+    }
 
 pub slice_bounds-owned-end-2 : goal.slice_bounds-owned-end-2
 slice_bounds-owned-end-2 c =

@@ -59,18 +59,22 @@ take_from-requires c =
     let nth-at = c.nth_at-place in
     let loop = c.loop-j in
     let loop-test = c.loop-j-test in
-    let word-index = c.word_index-at in record { planned = (c.requires.tables.0.known.planned, parts.placed_self A.sizes.route A.nest _ nth-at.result nth-at.ensures); cells = (
-          c.requires.tables.0.cells,
-          stage.due_cells A.nest A.sizes A.b A.lens.now A.kept.now A.counts.now A.ordinals.now A.starts.now
-              c.requires.tables.0 A.tile c.requires.tile_bound.1 loop.j nth-at.result (omega (arith, loop.invariant.1.all, loop-test.true)) nth-at.ensures,
-        ); memory_len = (
-          loop.invariant.0 ∙ c.requires.tables.1.memory,
-          working.place_low A.sizes.route A.nest A.tile loop.j nth-at.result (omega (arith, loop.invariant.1.all, loop-test.true))
-              nth-at.ensures A.starts.now _ word-index.result
-              (stage.placed A.nest A.sizes A.b A.lens.now A.kept.now A.counts.now A.ordinals.now A.starts.now c.requires.tables.0
-              A.tile
-              c.requires.tile_bound.1 A.mail.now c.requires.tables.1.mail) word-index.ensures,
-        ) }
+    let word-index = c.word_index-at in record {
+      planned = (c.requires.tables.0.known.planned, parts.placed_self A.sizes.route A.nest _ nth-at.result nth-at.ensures);
+      cells = (
+        c.requires.tables.0.cells,
+        stage.due_cells A.nest A.sizes A.b A.lens.now A.kept.now A.counts.now A.ordinals.now A.starts.now
+            c.requires.tables.0 A.tile c.requires.tile_bound.1 loop.j nth-at.result (omega (arith, loop.invariant.1.all, loop-test.true)) nth-at.ensures,
+      );
+      memory_len = (
+        loop.invariant.0 ∙ c.requires.tables.1.memory,
+        working.place_low A.sizes.route A.nest A.tile loop.j nth-at.result (omega (arith, loop.invariant.1.all, loop-test.true))
+            nth-at.ensures A.starts.now _ word-index.result
+            (stage.placed A.nest A.sizes A.b A.lens.now A.kept.now A.counts.now A.ordinals.now A.starts.now c.requires.tables.0
+            A.tile
+            c.requires.tile_bound.1 A.mail.now c.requires.tables.1.mail) word-index.ensures,
+      );
+    }
 
 pub offset_bounds-ordinals-number : goal.offset_bounds-ordinals-number
 offset_bounds-ordinals-number c =

@@ -28,16 +28,20 @@ pub put_in-requires : goal.put_in-requires
 put_in-requires c =
     let A = c.args in
     let nth-at = c.nth_at-place in
-    let word-index = c.word_index-at in record { planned = (c.requires.tables.0.known.planned, parts.placed_self A.sizes.route A.nest _ nth-at.result nth-at.ensures); cells = (
-          c.requires.tables.0.cells,
-          stage.sent_cells A.nest A.sizes A.b A.lens.now A.kept.now A.counts.now A.ordinals.now A.starts.now
-              c.requires.tables.0 A.tile c.requires.tile_bound.1 A.sent nth-at.result c.requires.finished_bound.1 nth-at.ensures,
-        ); memory_len = (
-          c.requires.tables.1.memory,
-          stage.sent_room A.nest A.sizes A.b A.lens.now A.kept.now A.counts.now A.ordinals.now A.starts.now
-              c.requires.tables.0 A.tile c.requires.tile_bound.1 A.sent nth-at.result c.requires.finished_bound.1 nth-at.ensures A.mail.now word-index.result
-              c.requires.tables.1.mail word-index.ensures,
-        ) }
+    let word-index = c.word_index-at in record {
+      planned = (c.requires.tables.0.known.planned, parts.placed_self A.sizes.route A.nest _ nth-at.result nth-at.ensures);
+      cells = (
+        c.requires.tables.0.cells,
+        stage.sent_cells A.nest A.sizes A.b A.lens.now A.kept.now A.counts.now A.ordinals.now A.starts.now
+            c.requires.tables.0 A.tile c.requires.tile_bound.1 A.sent nth-at.result c.requires.finished_bound.1 nth-at.ensures,
+      );
+      memory_len = (
+        c.requires.tables.1.memory,
+        stage.sent_room A.nest A.sizes A.b A.lens.now A.kept.now A.counts.now A.ordinals.now A.starts.now
+            c.requires.tables.0 A.tile c.requires.tile_bound.1 A.sent nth-at.result c.requires.finished_bound.1 nth-at.ensures A.mail.now word-index.result
+            c.requires.tables.1.mail word-index.ensures,
+      );
+    }
 
 pub offset_bounds-ordinals-number : goal.offset_bounds-ordinals-number
 offset_bounds-ordinals-number c =

@@ -24,8 +24,11 @@ slice_bounds-cells_of-end c =
 
 pub cells_of-requires : goal.cells_of-requires
 cells_of-requires c =
-    let A = c.args in record { sized = (c.requires.planned.0.0, (c.requires.planned.0.1, c.requires.planned.1)); cells_len = kept.list_lent A.place.words (kept.words_few A.nest A.sizes c.requires.planned.0.0
-          A.place.number A.place c.requires.planned.1) }
+    let A = c.args in record {
+      sized = (c.requires.planned.0.0, (c.requires.planned.0.1, c.requires.planned.1));
+      cells_len = kept.list_lent A.place.words (kept.words_few A.nest A.sizes c.requires.planned.0.0
+          A.place.number A.place c.requires.planned.1);
+    }
 
 pub slice_bounds-cells-end-2 : goal.slice_bounds-cells-end-2
 slice_bounds-cells-end-2 c =
