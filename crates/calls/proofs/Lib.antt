@@ -1,13 +1,6 @@
-pub mod Shared
-pub mod Walking
-pub mod Lending
-pub mod Orders
-pub mod Entering
-pub mod Params
 pub mod Tells
 pub mod View
 pub mod Opens
 pub mod Demand211
 pub mod DriverWords
-pub mod Storing
 pub mod PartTurn

@@ -1,5 +1,5 @@
 -- Laws of the calls for one processor that is lent its own part alone: a turn that gives 0 was lent its record.
-use Rattle.core.specs.Prelude.{◌≡◌, ℕ, ◌<◌, true, eqb, ltb, List, [], ◌∷◌, ◌++◌, length}
+use Rattle.std.specs.Prelude.{◌≡◌, ℕ, ◌<◌, true, eqb, ltb, List, [], ◌∷◌, ◌++◌, length}
 use mathlib.Core.Path.{sym, ap, ◌∙◌}
 use native.Mathlib.Omega.{arith}
 use Rattle.base.specs.Tests.{◌and◌, not}

@@ -1,5 +1,5 @@
 -- A struct that is made of the first true line's number tells by it.
-use Rattle.core.specs.Prelude.{◌≡◌, ℕ, zero, suc, ◌≢◌, List}
+use Rattle.std.specs.Prelude.{◌≡◌, ℕ, zero, suc, ◌≢◌, List}
 use mathlib.Core.Path.{refl, sym, ap, ◌∙◌}
 use Rattle.base.specs.Numbers.{Line, first_of}
 use Rattle.calls.specs.Tells.{Tells}

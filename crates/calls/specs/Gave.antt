@@ -3,7 +3,7 @@
 -- of src/ that has C linkage is its relation; all claims about the exported calls, in the files beside this one, speak of these very relations.
 -- Renders document 01, "The machine" and "Numbers a call gives", and the requests that ask for a call. TenantAreas `a`, the call gave n and left `b`;
 -- what is lent for reading alone is left as it was. Board records are structs.
-use Rattle.core.specs.Prelude.{◌≡◌, ℕ, List, [], ℤ}
+use Rattle.std.specs.Prelude.{◌≡◌, ℕ, List, [], ℤ}
 use Rattle.machine.specs.Machine.{State, state_of}
 use Rattle.machine.specs.Runs.{Event, turn_of, delivery_of}
 use Rattle.tenants.specs.Tenants.{TenantAreas, tenant_areas, Sharing, sharing_of, Sources}

@@ -1,7 +1,7 @@
 -- Read this.
 -- What is told of when a processor next opens: 1 and in how many minutes, or 0 and 0 where it never does; 0 and 0 at a refusal.
 -- Renders request W-212, where the sharing tells of opening; the lines are those of `crates/timed/specs/Calls`.
-use Rattle.core.specs.Prelude.{ℕ, zero, suc, List}
+use Rattle.std.specs.Prelude.{ℕ, zero, suc, List}
 use Rattle.base.specs.Numbers.{first_of}
 use Rattle.calendar.specs.declared.Opening.{Opening}
 use Rattle.calendar.specs.declared.Opening.TheVariants.{OpensIn, Never}

@@ -1,7 +1,7 @@
 -- Read this.
 -- What a call tells by value, a struct with its number: the first true line's number; what the call is asked for where that is 0; nothing else where
 -- it is not. Renders document 01, "Numbers a call gives", and document 02, W-211: at a refusal all that is told beside the number is 0.
-use Rattle.core.specs.Prelude.{◌≡◌, ℕ, ◌≢◌, List}
+use Rattle.std.specs.Prelude.{◌≡◌, ℕ, ◌≢◌, List}
 use Rattle.base.specs.Numbers.{Line, first_of}
 
 -- number_of r is the number told; none n is the struct with number n and 0 in every other place

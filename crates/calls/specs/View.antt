@@ -1,7 +1,7 @@
 -- Read this.
 -- What the view of a processor's memory tells: where its part begins in the named tenant's memories, and how many words it has; both 0 at a refusal.
 -- Renders request W-208, where a user looks at a processor's memory; the lines are those of `crates/sharing/specs/Calls`.
-use Rattle.core.specs.Prelude.{ℕ, zero, suc, ◌*◌, List}
+use Rattle.std.specs.Prelude.{ℕ, zero, suc, ◌*◌, List}
 use Rattle.machine.specs.Plan.{Plan}
 use Rattle.engine.specs.Calls.{recipe}
 use Rattle.sharing.specs.Calls.{view_number}

@@ -43,7 +43,7 @@ pub extern "C" fn rolwyddac_part_fresh(
         result (areas_of memory.new mail.new progress.new marks.new) }
 {
     let words = 3 * progress.len();
-    let number = part_calls::core::fresh(encoded, route, memory, mail, words, marks, processor);
+    let number = part_calls::inner::fresh(encoded, route, memory, mail, words, marks, processor);
     records::clear(progress, number);
     number
 }
@@ -89,7 +89,7 @@ pub extern "C" fn rolwyddac_part_post(
         result (areas_of memory.now mail.now progress.now marks.new) }
 {
     let flat = records::flatten(progress);
-    part_calls::core::post(
+    part_calls::inner::post(
         encoded, route, memory, mail, flat, marks, processor, message,
     )
 }
@@ -112,7 +112,7 @@ pub extern "C" fn rolwyddac_part_arrive(
         result (areas_of memory.now mail.new progress.now marks.new) }
 {
     let flat = records::flatten(progress);
-    part_calls::core::arrive(
+    part_calls::inner::arrive(
         encoded, route, memory, mail, flat, marks, processor, message, words,
     )
 }
@@ -131,5 +131,5 @@ pub extern "C" fn rolwyddac_part_collect(
         grid.old result grid.new }
 {
     let flat = records::flatten(progress);
-    part_calls::core::collect(encoded, route, memory, flat, processor, grid)
+    part_calls::inner::collect(encoded, route, memory, flat, processor, grid)
 }

@@ -1,6 +1,6 @@
 // The calls with hours with C linkage: a turn at a minute of the week, for one tenant and for one of two, over progress records as structs;
 // and the minutes until a processor next opens. `hours` is the table, 14 pairs of words a processor.
-ghost use Rattle.core.specs.Prelude.{◌≡◌};
+ghost use Rattle.std.specs.Prelude.{◌≡◌};
 ghost use Rattle.calendar.specs.Windows.{moment_of, turn_at};
 ghost use Rattle.calls.specs.Gave.{areas_of, lent_areas_of, TimedGave, TenantTimedGave, OpensGave};
 ghost use Rattle.calls.specs.Opens.{tells, opening_told};

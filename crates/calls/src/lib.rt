@@ -39,7 +39,7 @@ pub extern "C" fn rolwyddac_turn(
         result (areas_of memories.new buffer.new progress.new status.new) }
 {
     let flat = records::flatten(progress);
-    let after = engine::core::turn(
+    let after = engine::inner::turn(
         encoded, route, source, memories, buffer, flat, status, processor,
     );
     records::put(progress, after.number, processor, after.progress);
@@ -62,7 +62,7 @@ pub extern "C" fn rolwyddac_fresh(
         result (areas_of memories.new buffer.new progress.new status.new) }
 {
     let words = 3 * progress.len();
-    let number = engine::core::fresh(encoded, route, source, memories, buffer, words, status);
+    let number = engine::inner::fresh(encoded, route, source, memories, buffer, words, status);
     records::clear(progress, number);
     number
 }
@@ -84,7 +84,7 @@ pub extern "C" fn rolwyddac_deliver(
         result (areas_of memories.now buffer.now progress.now status.new) }
 {
     let flat = records::flatten(progress);
-    engine::core::deliver(
+    engine::inner::deliver(
         encoded, route, source, memories, buffer, flat, status, message,
     )
 }
@@ -105,7 +105,7 @@ pub extern "C" fn rolwyddac_collect(
         (areas_of memories.now buffer.now progress.now status.now) grid.old result grid.new }
 {
     let flat = records::flatten(progress);
-    engine::core::collect(encoded, route, source, memories, buffer, flat, status, grid)
+    engine::inner::collect(encoded, route, source, memories, buffer, flat, status, grid)
 }
 
 // The sequential sweep of the whole grid.

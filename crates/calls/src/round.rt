@@ -1,6 +1,6 @@
 // The calls by rounds with C linkage, for the foreman's screen: over progress records as structs the driver, which tells its rounds; and each tile's
 // round, one word a tile. Both are on the direct route.
-ghost use Rattle.core.specs.Prelude.{◌≡◌, ℕ, ◌≤◌, List, length};
+ghost use Rattle.std.specs.Prelude.{◌≡◌, ℕ, ◌≤◌, List, length};
 ghost use Rattle.machine.specs.Machine.{state_of};
 ghost use Rattle.rounds.specs.Rounds.{told};
 ghost use Rattle.engine.specs.Calls.{answer};

@@ -1,7 +1,7 @@
 // The calls for a tenant (the paper: an office), with C linkage, over progress records as structs: a fresh start of both tenants together; a turn, a delivery
 // and collecting for one of them, to which the other's records are lent only to read; and the view of a processor's
 // memory.
-ghost use Rattle.core.specs.Prelude.{◌≡◌};
+ghost use Rattle.std.specs.Prelude.{◌≡◌};
 ghost use Rattle.machine.specs.Runs.{turn_of, delivery_of};
 ghost use Rattle.tenants.specs.Tenants.{sources_of};
 ghost use Rattle.calls.specs.Gave.{areas_of, lent_areas_of, sharing_areas_of, TenantGave, TenantCollectGave, FreshBothGave, ViewGave};

@@ -1,0 +1,9 @@
+-- The call's own, with the corners as the machine reads them back.
+use borrow.Author.Rules.{rules}
+use Rattle.calls.proofs.Demand211 as L
+use Rattle.calls.proofs.chart_text.rolwyddac_chart_length.Goals as goal
+
+pub returns : goal.returns
+returns c =
+    L.length_back c.args.encoded.now c.args.grid.now c.args.x c.args.y c.args.cell_size c.ranges.x
+    c.ranges.y c.length_of.result c.length_of.ensures

@@ -1,0 +1,6 @@
+-- `rolwyddac_receive` meets its contract: what the call over words gave, at the words of the records.
+use Rattle.records.specs.Records.{flat_words}
+use Rattle.calls.proofs.mail.rolwyddac_receive.Goals as goal
+
+pub returns : goal.returns
+returns c = c.receive.ensures (flat_words c.args.progress.now) c.flatten-flat.ensures
