@@ -37,7 +37,9 @@ class Words(InFolder):
             if name == 'boards' and not HAS_BOARDS:
                 continue
             done = self.run_line(module.EXAMPLE)
-            self.assertEqual((done.returncode, done.stderr), (0, b''), module.EXAMPLE)
+            # where libsodium is missing the boards' build says so
+            told = [line for line in done.stderr.splitlines() if not line.startswith(b'bindings/boards/build: no libsodium')]
+            self.assertEqual((done.returncode, told), (0, []), module.EXAMPLE)
             for out in re.findall(r'(?:-o|--out|--svg) (\S+)', module.EXAMPLE):
                 self.assertGreater(os.path.getsize(self.path(out)), 0)
 
