@@ -76,7 +76,7 @@ module _ {X : Type 0} (event : X → Event) where
       → numbers_in (whole event) xs (answers_to acts s xs) ≡ answers_to acts s xs
   unfolding numbers_in answers_to pick
   whole_numbers acts s [] = refl
-  whole_numbers acts s (x ∷ xs) = ap (λ (l : List ℕ). (acts s x).number ∷ l) (whole_numbers acts _ xs)
+  whole_numbers acts s (x ∷ xs) = ap (λ (l : List ℕ). (acts s x).number ∷ l) (whole_numbers acts (acts s x).after xs)
 
 -- ---- over records
 

@@ -276,7 +276,10 @@ module _ (bytes : List ℕ) (route : ℕ) (source : List ℕ) where
         all = joined g (Gave.next t k)
 
         stays : mail_at (recipe bytes route) (in_words d) m q ≡ word_at (recipe bytes route) (in_words b) p (cell_of (recipe bytes route) m q)
-        stays = rw (words_are all, words_are g) ((posted before p m (did c p (send m) g t n)).stays then q h)
+        stays =
+            ap (λ (s : State). mail_at (recipe bytes route) s m q) (words_are all)
+            ∙ (posted before p m (did c p (send m) g t n)).stays then q h
+            ∙ ap (λ (s : State). word_at (recipe bytes route) s p (cell_of (recipe bytes route) m q)) (sym (words_are g))
 
         arrives : (e : Areas) (r : ℕ) → EventGave bytes route source d (turn_of r) 0 e
             → named_next bytes route r (before ++ (turn_of p ∷ then)) (ns ++ (0 ∷ ks)) ≡ gather (taker_of (recipe bytes route) m)
@@ -293,7 +296,9 @@ module _ (bytes : List ℕ) (route : ℕ) (source : List ℕ) where
         record {
           plan = over;
           turned = turned;
-          unpacked = λ a b p t h n m q i l. rw (after_of h) (over.unpacked source (in_words a) p t (sym (number_of h)) n m q i l);
+          unpacked =
+              λ a b p t h n m q i l. ap (λ (s : State). word_at (recipe bytes route) s p (cell_of (recipe bytes route) m q)) (after_of h)
+              ∙ over.unpacked source (in_words a) p t (sym (number_of h)) n m q i l;
           stays = λ a start b c d before then ns ks p m q f g t n k h. stays a start f b c d before then ns ks p m q g t n k h;
           arrives =
               λ a start b c d e before then ns ks p r m q f g t n k h u o. arrives a start f b c d before then ns ks p m q g t n k h e r u o;
