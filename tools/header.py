@@ -1,8 +1,8 @@
-"""Holds bindings/c/rolwyddac.h and the crate in bindings/rust to the functions that crates/calls exports.
+"""Holds bindings/c/rolwyddac.h and the crate in bindings/rust to the functions that crates/calls_c exports.
 
     python3 tools/header.py [ARCHIVE [SHARED]]
 
-Every function marked `#[no_mangle] pub extern "C"` is declared in both, and listed in the Python package, with the same parameters in the same order and
+Every function marked `#[unsafe(no_mangle)] pub extern "C"` is declared in both, and listed in the Python package, with the same parameters in the same order and
 the same result, and nothing else is declared. The progress record and each struct that a function returns have the same fields in the same order, of the same
 types; the routes are the same words. Header and crate have the same numbers, with the same terms and reasons, and name the same ones at each call. With an
 ARCHIVE its symbols are held to the functions as well, and those of the SHARED object to these and to what the headers beside rolwyddac.h declare.
@@ -103,7 +103,7 @@ def signed(name, kind):
 def exported(sources):
     """The functions that the library exports: name to parameters and result."""
     words = tokens(sources)
-    mark = ['#', '[', 'no_mangle', ']', 'pub', 'extern', '"C"', 'fn']
+    mark = ['#', '[', 'unsafe', '(', 'no_mangle', ')', ']', 'pub', 'extern', '"C"', 'fn']
     found = {}
     for at in places(words, mark):
         name, start = words[at + len(mark)], at + len(mark) + 1
@@ -426,7 +426,7 @@ FAULTS = [
      'rolwyddac_part_collect as part_collect(\n        encoded: &[u8], route: Route, memory: &mut [u32]'),
     ('package', 'marks: &mut [u8], processor: u32', 'processor: u32, marks: &mut [u8]'),
     ('sources', 'message: u32', 'message: u16'),
-    ('sources', '#[no_mangle]\npub extern "C" fn rolwyddac_sweep', 'pub extern "C" fn rolwyddac_sweep'),
+    ('sources', '#[unsafe(no_mangle)]\npub extern "C" fn rolwyddac_sweep', 'pub extern "C" fn rolwyddac_sweep'),
 ]
 
 
@@ -451,9 +451,9 @@ def text_of(*names):
 
 
 def sources_of(root):
-    """The files of crates/calls, and those below it that have a struct laid out as in C."""
+    """The files of crates/calls_c, and those below it that have a struct laid out as in C."""
     files = sorted(glob.glob(os.path.join(root, 'crates', '*', 'src', '**', '*.rt'), recursive=True))
-    calls = [name for name in files if os.path.relpath(name, root).startswith(os.path.join('crates', 'calls', ''))]
+    calls = [name for name in files if os.path.relpath(name, root).startswith(os.path.join('crates', 'calls_c', ''))]
     return text_of(*calls), text_of(*(name for name in files if name not in calls and '#[repr(C)]' in text_of(name)))
 
 

@@ -20,7 +20,7 @@ PAGES = (MAP, 'docs/BENCHMARKS.md', 'docs/landings/README.md', 'docs/landings/SP
 
 def crates():
     lines = re.sub(r'#.*', '', readme_words.page('crates.txt')).splitlines()
-    return [line.split(':')[0].strip() for line in lines if line.strip()]
+    return [line.split(':')[0].split()[0] for line in lines if line.strip()]
 
 
 def exported():

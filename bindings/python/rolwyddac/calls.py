@@ -29,7 +29,7 @@ VERSION = '1.0.0'
 # bytes of the longest packet, and its words
 LONGEST_PACKET, PACKET_WORDS = 1200, 285
 
-# As crates/calls exports them; tools/header.py holds this list to the sources.
+# As crates/calls_c exports them; tools/header.py holds this list to the sources.
 CALLS = '''
 rolwyddac_fresh(encoded: &[u8], route: u32, source: &[u32], memories: &mut [u32], buffer: &mut [u32], progress: &mut [Progress],
     status: &mut [u8])
