@@ -66,12 +66,15 @@ tell_awaited-requires c =
     let opens = c.open-opening in
     let planned = opens.ensures.planned if1.false in
     let unasked = c.unasked-n in
-    let if2 = c.if-n-ne0 in record { planned = planned; may_ask = waiting.may_ask (plan_of opens.result.sizes.route opens.result.nest)
+    let if2 = c.if-n-ne0 in record {
+      planned = planned;
+      may_ask = waiting.may_ask (plan_of opens.result.sizes.route opens.result.nest)
           (state_of [] [] (take (A.progress.count - 0) (drop 0 A.progress.words)) A.status.now)
           A.marks.now unasked.result
           (unasked.ensures.0 (take (A.progress.count - 0) (drop 0 A.progress.words)) A.marks.now
           (reading.part_carries A.progress c.requires (reading.few_words _ _ planned.0 A.progress.count
-          (unasked.ensures.1 if2.false))) refl) if2.false A.processor (omega (arith, planned.0.processors, c.if-b-sizes.false)) }
+          (unasked.ensures.1 if2.false))) refl) if2.false A.processor (omega (arith, planned.0.processors, c.if-b-sizes.false));
+    }
 
 pub returns : goal.returns
 returns c =

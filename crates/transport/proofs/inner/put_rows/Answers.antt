@@ -47,12 +47,14 @@ pub put_row-requires : goal.put_row-requires
 put_row-requires c =
     let loop = c.loop-slot in
     let tiles-of = c.tiles_of in
-    let half-index = c.half_index-words in record { planned = (
+    let half-index = c.half_index-words in record {
+      planned = (
         c.requires.0,
         rows.here c.args.sizes.route c.args.nest c.args.lens.now _ c.args.out.now loop.out loop.slot loop.number
             loop.offset loop.invariant (rows.slotted c.args.nest c.args.sizes c.requires.0.0 c.args.lens.now c.requires.0.1 tiles-of.result
             tiles-of.ensures.0) c.loop-slot-test.true half-index.result half-index.ensures c.if-words-ne0.true,
-      ); out_len = (
+      );
+      out_len = (
         loop.invariant.told.long ∙ c.requires.1,
         (
           omega (
@@ -70,7 +72,8 @@ put_row-requires c =
                 tiles-of.ensures.0).sheet.few,
           ),
         ),
-      ) }
+      );
+    }
 
 pub overflow_add-number : goal.overflow_add-number
 overflow_add-number c =

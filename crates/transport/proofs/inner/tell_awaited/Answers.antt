@@ -64,8 +64,11 @@ returns c =
     c.args.marks.now tile-at.result c.if-stage-eq0.marks
     (omega (arith, c.if-i-n.false, c.tile_count-n.ensures.0, word-index.ensures))
     (tile-at.ensures.0 ∙ ap (λ (i : ℕ). get_or (tiles_of (plan_of c.args.sizes.route c.args.nest) c.args.b) i 0) word-index.ensures)
-    (elim c.if-stage-eq0.branch [ then-stage-eq0 w ↦ inl (w.if-stage-eq0.true, w.marks-is ∙ w.mark_undelivered.ensures) | else-stage-eq0 w ↦ inr (
-      w.if-stage-eq0.false,
-      w.marks-is ∙ c.zero_bytes.ensures ∙ ap (λ (n : ℕ). replicate n 0)
-          c.requires.may_ask.long,
-    ) ])
+    (elim c.if-stage-eq0.branch [
+      | then-stage-eq0 w ↦ inl (w.if-stage-eq0.true, w.marks-is ∙ w.mark_undelivered.ensures)
+      | else-stage-eq0 w ↦ inr (
+        w.if-stage-eq0.false,
+        w.marks-is ∙ c.zero_bytes.ensures ∙ ap (λ (n : ℕ). replicate n 0)
+            c.requires.may_ask.long,
+      )
+    ])

@@ -16,28 +16,25 @@ pub overflow_mul-sizes : goal.overflow_mul-sizes
 overflow_mul-sizes c = omega (arith, c.requires.0.0.processors, c.requires.0.0.accepted.processors_most)
 
 pub returns-then-count-sizes : goal.returns-then-count-sizes
-returns-then-count-sizes c =
-    (
-      λ l ms h a. waiting.no_records (plan_of c.args.sizes.route c.args.nest) (state_of [] [] l c.args.status.now) ms
-          (λ q. c.if-count-sizes.true (h.counted ∙ q ∙ sym (lines.records_are c.args.nest c.args.sizes c.requires.0.0))),
-      λ q. absurd (omega arith),
-    )
+returns-then-count-sizes c = (
+  λ l ms h a. waiting.no_records (plan_of c.args.sizes.route c.args.nest) (state_of [] [] l c.args.status.now) ms
+      (λ q. c.if-count-sizes.true (h.counted ∙ q ∙ sym (lines.records_are c.args.nest c.args.sizes c.requires.0.0))),
+  λ q. absurd (omega arith),
+)
 
 pub returns-then-status-t : goal.returns-then-status-t
-returns-then-status-t c =
-    (
-      λ l ms h a. waiting.no_status (plan_of c.args.sizes.route c.args.nest) (state_of [] [] l c.args.status.now) ms
-          (λ q. c.if-status-t.true (q ∙ sym c.totals-t.ensures.0)),
-      λ q. absurd (omega arith),
-    )
+returns-then-status-t c = (
+  λ l ms h a. waiting.no_status (plan_of c.args.sizes.route c.args.nest) (state_of [] [] l c.args.status.now) ms
+      (λ q. c.if-status-t.true (q ∙ sym c.totals-t.ensures.0)),
+  λ q. absurd (omega arith),
+)
 
 pub returns-then-marks-t : goal.returns-then-marks-t
-returns-then-marks-t c =
-    (
-      λ l ms h a. waiting.no_marks (plan_of c.args.sizes.route c.args.nest) (state_of [] [] l c.args.status.now) ms
-          (λ q. c.if-marks-t.true (a ∙ q ∙ sym c.totals-t.ensures.0)),
-      λ q. absurd (omega arith),
-    )
+returns-then-marks-t c = (
+  λ l ms h a. waiting.no_marks (plan_of c.args.sizes.route c.args.nest) (state_of [] [] l c.args.status.now) ms
+      (λ q. c.if-marks-t.true (a ∙ q ∙ sym c.totals-t.ensures.0)),
+  λ q. absurd (omega arith),
+)
 
 pub slice_bounds-fit_records-end : goal.slice_bounds-fit_records-end
 slice_bounds-fit_records-end c =
