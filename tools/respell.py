@@ -8,7 +8,7 @@ usage: respell.py [--check]        at the top of the repository, after port.py, 
 A name is the repository's own if a file of specs/ or proofs/ declares it. One that a library declares too, and that is imported here from there,
 keeps its spelling, and so do functions of src/, exported names, strings, inputs and outputs. Where two names would fall together in one module,
 the later one gets `_lem`, as a lemma that would have its function's name does in the libraries.
-With --check nothing is written, and what would fall together is listed.
+With --check nothing is written, and what would fall together is listed. A tree whose proofs answer today's goals is refused: it has the new names.
 """
 
 import collections
@@ -24,7 +24,6 @@ DECLARED = (
 )
 USE = re.compile(r"(?m)^(?:pub )?use ([^\s{]+?)(?:\.\{([^}]*)\}| as (\S+))?\s*$", re.S)
 GHOST_USE = re.compile(r"ghost use ([^\s{;]+?)(?:\.\{([^}]*)\})?(?: as (\S+))?;", re.S)
-OF_SOURCE = re.compile(r"\b(?:fn|struct|enum|const|mod) (\w+)")
 # lemmas that would get the name of a definition that their files speak of too
 BESIDE = {
     "as_long": "as_long_lem",
@@ -119,6 +118,8 @@ def renamed(root):
 
 def main():
     root = "."
+    if any(re.search(r"(?m)^use \S+\.Goals as goal$", read(path)) for path in texts(root, (".antt",))):
+        sys.exit("respell.py: these proofs answer today's goals, so the names are respelled already")
     table, by_module, theirs = renamed(root)
     falls = collections.defaultdict(set)
     for path, names in by_module.items():
