@@ -22,7 +22,7 @@ fn word_at(
     if component < first {
         return boundary;
     }
-    memory[cell - back] as u64
+    u64::from(memory[cell - back])
 }
 
 // The word of a cell at which some taps may read the boundary's.
@@ -92,13 +92,7 @@ fn edge(
 fn before(from: usize, component: usize, width: usize) -> usize
     ensures { (result ≤ width) × (result < width → from ≤ component + result) }
 {
-    if from <= component {
-        return 0;
-    }
-    if width < from - component {
-        return width;
-    }
-    from - component
+    from.saturating_sub(component).min(width)
 }
 
 // A row whose taps all read from component `from` on.
@@ -129,10 +123,7 @@ pub fn edge_row(
     if few == width {
         return;
     }
-    let rule = Rule {
-        outside: 0,
-        shift: shift,
-    };
+    let rule = Rule { outside: 0, shift };
     row(
         source,
         memory,
@@ -176,7 +167,7 @@ fn rest_of(
         left_weights[k] = weights[k];
     }
     Rest {
-        outside: outside,
+        outside,
         backs: left_backs,
         weights: left_weights,
     }
@@ -211,19 +202,17 @@ pub fn short_row(
         return;
     }
     let rest = rest_of(boundary, n, firsts, backs, weights);
-    let left_backs = rest.backs;
-    let left_weights = rest.weights;
     let rule = Rule {
         outside: rest.outside,
-        shift: shift,
+        shift,
     };
     row(
         source,
         memory,
         rule,
         n,
-        &left_backs,
-        &left_weights,
+        &rest.backs,
+        &rest.weights,
         cell + few,
         width - few,
     );

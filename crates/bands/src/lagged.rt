@@ -80,10 +80,7 @@ pub fn band(
         component,
         from - 3,
     );
-    let rule = Rule {
-        outside: 0,
-        shift: shift,
-    };
+    let rule = Rule { outside: 0, shift };
     let lag = b - a - 1;
     let rest = width - from;
     wave(source, memory, shift, n, back, weights, a + from, lag, rest);

@@ -1,10 +1,11 @@
 -- Laws of words copied side by side: to the places of a row of cells, from one list's part to another's.
-use Prim.Native.Nat.{ℕ, zero, suc, ◌+◌, ◌≤◌, ◌<◌}
+use Prim.Native.Nat.{ℕ, zero, suc, ◌+◌, ◌-◌, ◌≤◌, ◌<◌}
 use mathlib.Core.Path.{◌≡◌, refl, sym, ap, ◌∙◌}
 use mathlib.Core.List.{List, [], ◌∷◌, ◌++◌, append_assoc}
 use native.Mathlib.Nat.{add-zero}
 use native.Mathlib.Numerals.{add-one}
 use native.Mathlib.Omega.{arith}
+use borrow.Rule.Slice.PartMut.{put_mid}
 use lib.ListN.{length, get_or, take, drop, set, length-append, length-take, length-drop}
 use lib.Seq.{take-suc, take_at, get_or-drop, drop-cons, drop-drop, set_at, sets, sets-eq}
 use Rattle.base.specs.Tests.{tabulate}
@@ -113,3 +114,17 @@ module _ (to₀ from : List ℕ) (at first n : ℕ) where
 
     pub copies_end : n ≤ y → to ≡ put to₀ at (sublist from first n)
     copies_end h = let e : y ≡ n = omega (arith, p.low) in rw e at p.is
+
+-- ---- a part of one list over a part of another
+
+mid_put : (l ys : List ℕ) (a k : ℕ) → length ys ≡ k → put_mid a (a + k - a) l ys ≡ put l a ys
+unfolding put
+mid_put l ys a k e = let z : a + k - a ≡ length ys = omega arith in rw z
+
+pub part_back : (l s ys : List ℕ) (a i n : ℕ) → i + n ≤ length s → ys ≡ take (i + n - i) (drop i s)
+    → put_mid a (a + n - a) l ys ≡ put l a (sublist s i n)
+unfolding sublist
+part_back l s ys a i n k e =
+    let z : i + n - i ≡ n = omega arith in
+    let y : ys ≡ sublist s i n = e ∙ ap (λ (m : ℕ). take m (drop i s)) z in
+    mid_put l ys a n (ap length y ∙ part_length s i n k) ∙ ap (put l a) y

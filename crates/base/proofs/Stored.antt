@@ -5,7 +5,7 @@ use mathlib.Core.Logic.{◌⊎◌, inl, inr}
 use mathlib.Core.List.{List}
 use native.Mathlib.Nat.{eq-or-lt_of_le, le_of_suc-le-suc}
 use native.Mathlib.Omega.{arith}
-use lib.ListN.{length, get_or, set, replicate, length-set, length-replicate, get_or-replicate}
+use lib.ListN.{length, get_or, set, length-set}
 use lib.Seq.{get_or-set_same, get_or-set_other, ext_get_or}
 use Rattle.base.specs.Tests.{tabulate}
 use Rattle.base.proofs.Tests.{length_tabulate, tabulate_at}
@@ -31,15 +31,7 @@ module _ (f : ℕ → ℕ) (old : List ℕ) where
       go j (inl k) = ap (λ (n : ℕ). get_or (set new i v) n 0) k ∙ get_or-set_same new i v 0 (omega (arith, g.long)) ∙ e ∙ ap f (sym k)
       go j (inr k) = get_or-set_other new i j v 0 (λ q. omega arith) ∙ g.each j k
 
-  pub stored_one : (new : List ℕ) (i v : ℕ) → Stored f old new i → length new ≤ i → ((j : ℕ) → f j ≡ v) → new ≡ replicate (length old) v
-  stored_one new i v g h z =
-      ext_get_or 0 new (replicate (length old) v) (g.long ∙ sym (length-replicate (length old) v))
-      (λ j l. g.each j (omega arith) ∙ z j ∙ sym (get_or-replicate (length old) j v 0 (omega (arith, g.long))))
-
   pub stored_all : (new : List ℕ) (i n : ℕ) → Stored f old new i → length old ≡ n → n ≤ i → new ≡ tabulate f n
   stored_all new i n g e h =
       ext_get_or 0 new (tabulate f n) (g.long ∙ e ∙ sym (length_tabulate f n))
       (λ j l. g.each j (omega (arith, g.long)) ∙ sym (tabulate_at f n j (omega (arith, g.long))))
-
-pub stored_list : (old words new : List ℕ) (i : ℕ) → Stored (λ j. get_or words j 0) old new i → length old ≡ length words → length new ≤ i → new ≡ words
-stored_list old words new i g e h = ext_get_or 0 new words (g.long ∙ e) (λ j l. g.each j (omega arith))

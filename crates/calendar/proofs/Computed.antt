@@ -1,4 +1,5 @@
 -- The definitions computed: windows and faults, minutes until opening, every number of a turn with hours in its order, and a run that closes mid-tile.
+use Rattle.std.specs.Prelude.{Some}
 use Prim.Native.Nat.{ℕ, zero, suc, ◌+◌, ◌*◌, ◌/◌}
 use mathlib.Core.Path.{◌≡◌, refl}
 use mathlib.Core.Bool.{true, false}
@@ -12,7 +13,6 @@ use Rattle.machine.specs.Machine.{State, state_of, set_progress, tiles_left, fit
 use Rattle.machine.specs.Runs.{answers_to}
 use Rattle.tenants.specs.Tenants.{stage_agrees, fit_word, fit_for, held_by_other, freed_after, engaged_after, carry_out_for, deliver_for, of_tenant, Sharing}
 use Rattle.tenants.specs.Tenants.{Sources, returned, fresh_sharing}
-use Rattle.calendar.specs.declared.Opening.TheVariants.{OpensIn}
 use Rattle.calendar.specs.Windows.{is_window, is_faulty, faulty_board, faulty_table, faulty_window, faulty_minute, covers, open_at, Moment}
 use Rattle.calendar.specs.Windows.{moment_of, faulty_for, closed, timed_turn, timed_turn_for, turn_at, mail_of, act_at, act_at_for, act_at_on}
 use Rattle.calendar.specs.Windows.{first_from, until_open, ask_opening}
@@ -67,13 +67,13 @@ unfolding small hours table_of faulty_table faulty_board is_faulty faulty_minute
 faults = (refl, refl, refl, refl, refl, refl, refl, refl, refl)
 
 -- 0 while open, minutes on, past the end of the week, never; the call's own numbers
-openings : (until_open (hours 0).calendar 5 0 ≡ OpensIn 0) × (until_open (hours 0).calendar 9 0 ≡ OpensIn 0) × (until_open (hours 0).calendar 0 0 ≡ OpensIn 5)
-    × (until_open (hours 0).calendar 10070 0 ≡ OpensIn 15) × (until_open (table_of 0 1 0 0) 10079 0 ≡ OpensIn 1)
+openings : (until_open (hours 0).calendar 5 0 ≡ Some 0) × (until_open (hours 0).calendar 9 0 ≡ Some 0) × (until_open (hours 0).calendar 0 0 ≡ Some 5)
+    × (until_open (hours 0).calendar 10070 0 ≡ Some 15) × (until_open (table_of 0 1 0 0) 10079 0 ≡ Some 1)
 unfolding hours table_of until_open first_from open_at covers is_window some ◌and◌ ◌or◌ not pick
 openings = (refl, refl, refl, refl, refl)
 
-asked : ((ask_opening small (hours 0) 0).after ≡ OpensIn 5) × ((ask_opening small (hours 0) 0).number ≡ 0) × ((ask_opening small (hours 10080) 0).number ≡ 25)
-    × ((ask_opening small (hours 10080) 0).after ≡ OpensIn 0) × ((ask_opening small (hours 0) 2).number ≡ 11) ×
+asked : ((ask_opening small (hours 0) 0).after ≡ Some 5) × ((ask_opening small (hours 0) 0).number ≡ 0) × ((ask_opening small (hours 10080) 0).number ≡ 25)
+    × ((ask_opening small (hours 10080) 0).after ≡ Some 0) × ((ask_opening small (hours 0) 2).number ≡ 11) ×
     ((ask_opening small (moment_of (table_of 0 0 7 7) 0) 2).number ≡ 25)
 unfolding small hours table_of ask_opening until_open first_from open_at covers faulty_for faulty_table faulty_board is_faulty faulty_minute is_window some ◌and◌ ◌or◌
     not pick first_of

@@ -1,4 +1,5 @@
 -- The claims say something, and the premise of progress is needed: a plan and a table that meet it, and a table of zeros, by which nothing ever goes.
+use Rattle.std.specs.Prelude.{None}
 use Prim.Native.Nat.{ℕ, zero, suc, ◌+◌, ◌*◌, ◌<◌}
 use mathlib.Core.Path.{◌≡◌, refl}
 use mathlib.Core.Logic.{◌≢◌}
@@ -18,7 +19,6 @@ use Rattle.machine.proofs.Fresh.{inv_fresh}
 use Rattle.machine.proofs.ComputedRun.{rows}
 use Rattle.machine.proofs.Example.{sound}
 use Rattle.tenants.specs.Tenants.{Sources, fresh_sharing, collect_on}
-use Rattle.calendar.specs.declared.Opening.TheVariants.{Never}
 use Rattle.calendar.specs.Windows.{closes_at, is_window, is_faulty, faulty_board, faulty_table, covers, open_at, closed, moment_of}
 use Rattle.calendar.specs.Windows.{Timed, turn_at, mail_of, act_at, TimedCall, act_at_on, until_open}
 use Rattle.calendar.specs.Waits.{Fair}
@@ -72,7 +72,7 @@ unfolding open_at covers
 zeros_shut n b minute =
     some_none _ 14 (λ w h. and_no _ _ (and_no _ _ (le-ltb minute (closes_at (replicate n 0) b w) (omega (arith, get_d_zeros n (28 * b + 2 * w + 1))))))
 
-zeros_never : (n b minute : ℕ) → until_open (replicate n 0) minute b ≡ Never
+zeros_never : (n b minute : ℕ) → until_open (replicate n 0) minute b ≡ None
 zeros_never n b minute = (tells (replicate n 0) minute b).if_never (λ i h. zeros_shut n b i)
 
 -- after a fresh start nothing gives 0, whatever the plan and the minute

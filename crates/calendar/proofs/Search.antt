@@ -1,4 +1,5 @@
 -- Laws of the search: where it stops, and the least of the windows' waits.
+use Rattle.std.specs.Prelude.{None, Some}
 use Prim.Native.Nat.{ℕ, zero, suc, ◌+◌, ◌%◌, ◌≤◌, ◌<◌, min}
 use mathlib.Core.Path.{◌≡◌, refl, sym, ap, ◌∙◌}
 use mathlib.Core.Logic.{◌⊎◌, inl, inr, ◌≢◌}
@@ -8,23 +9,22 @@ use native.Mathlib.Omega.{arith, min_cases}
 use native.Mathlib.Decide.{ℕ_discrete}
 use Rattle.base.specs.Tests.{pick, some}
 use Rattle.base.proofs.Tests.{pick_true, pick_false, some_one, some_none}
-use Rattle.calendar.specs.declared.Opening.TheVariants.{OpensIn, Never}
 use Rattle.calendar.specs.Windows.{week, in_window, open_at, first_from, until_open}
 use Rattle.calendar.specs.Waits.{First}
 
 module _ (f : ℕ → Bool) where
-  pub first_none : (k s : ℕ) → ((i : ℕ) → i < s + k → f i ≡ false) → first_from f s k ≡ Never
+  pub first_none : (k s : ℕ) → ((i : ℕ) → i < s + k → f i ≡ false) → first_from f s k ≡ None
   unfolding first_from
   first_none zero s h = refl
   first_none (suc k) s h = pick_false (f s) _ _ (h s (omega arith)) ∙ first_none k (suc s) (λ i l. h i (omega arith))
 
-  pub first_at : (k s n : ℕ) → s ≤ n → n < s + k → f n ≡ true → ((i : ℕ) → i < n → f i ≡ false) → first_from f s k ≡ OpensIn n
+  pub first_at : (k s n : ℕ) → s ≤ n → n < s + k → f n ≡ true → ((i : ℕ) → i < n → f i ≡ false) → first_from f s k ≡ Some n
   unfolding first_from
   first_at zero s n a b e h = absurd (omega arith)
   first_at (suc k) s n a b e h = go (λ l. first_at k (suc s) n l (omega arith) e h) (ℕ_discrete s n)
     where
-      go : (suc s ≤ n → first_from f (suc s) k ≡ OpensIn n) → Dec (s ≡ n) → pick (f s) (OpensIn s) (first_from f (suc s) k) ≡ OpensIn n
-      go ih (yes q) = pick_true (f s) _ _ (ap f q ∙ e) ∙ ap OpensIn q
+      go : (suc s ≤ n → first_from f (suc s) k ≡ Some n) → Dec (s ≡ n) → pick (f s) (Some s) (first_from f (suc s) k) ≡ Some n
+      go ih (yes q) = pick_true (f s) _ _ (ap f q ∙ e) ∙ ap Some q
       go ih (no q) = pick_false (f s) _ _ (h s (omega arith)) ∙ ih (omega arith)
 
 -- after the first i windows
@@ -58,12 +58,12 @@ module _ (calendar : List ℕ) (b minute : ℕ) where
   abbrev pub open_in : ℕ → ℕ → Bool
   open_in n w = in_window calendar b ((minute + n) % week) w
 
-  pub told_never : (i v : ℕ) → Soonest open_in i v → i ≤ 14 → 14 ≤ i → v ≡ week → Never ≡ until_open calendar minute b
+  pub told_never : (i v : ℕ) → Soonest open_in i v → i ≤ 14 → 14 ≤ i → v ≡ week → None ≡ until_open calendar minute b
   unfolding until_open open_at
   told_never i v s le ge e = sym (first_none (λ n. some (open_in n) 14) week 0
       (λ n l. some_none (open_in n) 14 (λ w k. s.before n (omega arith) w (omega arith))))
 
-  pub told_in : (i v : ℕ) → Soonest open_in i v → i ≤ 14 → 14 ≤ i → v ≢ week → OpensIn v ≡ until_open calendar minute b
+  pub told_in : (i v : ℕ) → Soonest open_in i v → i ≤ 14 → 14 ≤ i → v ≢ week → Some v ≡ until_open calendar minute b
   unfolding until_open open_at
   told_in i v s le ge e =
       let l : v < week = omega (arith, s.most) in

@@ -1,4 +1,5 @@
 -- What the sharing tells of opening: the search over a week finds the first open minute, or there is none.
+use Rattle.std.specs.Prelude.{None, Some}
 use Prim.Native.Nat.{ℕ, zero, suc, ◌+◌, ◌-◌, ◌%◌, ◌≤◌, ◌<◌}
 use mathlib.Core.Path.{◌≡◌, refl, sym, ap, ◌∙◌}
 use mathlib.Core.Logic.{◌⊎◌, inl, inr}
@@ -7,7 +8,6 @@ use mathlib.Core.List.{List}
 use native.Mathlib.Nat.{eq-or-lt_of_le}
 use native.Mathlib.Omega.{arith}
 use Rattle.base.specs.Tests.{pick}
-use Rattle.calendar.specs.declared.Opening.TheVariants.{OpensIn, Never}
 use Rattle.calendar.specs.Windows.{week, open_at, first_from, until_open}
 use Rattle.calendar.specs.Demands212.{TellsOpening}
 
@@ -18,12 +18,12 @@ record Found (f : ℕ → Bool) (n k x : ℕ) : Type 0 where
   before : (i : ℕ) → n ≤ i → i < x → f i ≡ false
 
 module _ (f : ℕ → Bool) where
-  found : (k n x : ℕ) → first_from f n k ≡ OpensIn x → Found f n k x
+  found : (k n x : ℕ) → first_from f n k ≡ Some x → Found f n k x
   unfolding first_from pick
   found zero n x e = absurd (let z : ◌≡◌ {A = ℕ} 0 1 = cc in omega arith)
   found (suc k) n x e = go (f n) refl (found k (suc n) x) e
     where
-      go : (t : Bool) → f n ≡ t → (first_from f (suc n) k ≡ OpensIn x → Found f (suc n) k x) → pick t (OpensIn n) (first_from f (suc n) k) ≡ OpensIn x
+      go : (t : Bool) → f n ≡ t → (first_from f (suc n) k ≡ Some x → Found f (suc n) k x) → pick t (Some n) (first_from f (suc n) k) ≡ Some x
           → Found f n (suc k) x
       go true q ih h = let z : x ≡ n = cc in record { from = omega arith; below = omega arith; here = ap f z ∙ q; before = λ i l m. absurd (omega arith) }
       go false q ih h = let r = ih h in record {
@@ -38,13 +38,13 @@ module _ (f : ℕ → Bool) where
           at i m (inl z) r = ap f (sym z) ∙ q
           at i m (inr l) r = r.before i l m
 
-  none : (k n : ℕ) → first_from f n k ≡ Never → (i : ℕ) → n ≤ i → i < n + k → f i ≡ false
+  none : (k n : ℕ) → first_from f n k ≡ None → (i : ℕ) → n ≤ i → i < n + k → f i ≡ false
   unfolding first_from pick
   none zero n e i l m = absurd (omega arith)
   none (suc k) n e i l m = go (f n) refl (none k (suc n)) e
     where
-      go : (t : Bool) → f n ≡ t → (first_from f (suc n) k ≡ Never → (i : ℕ) → suc n ≤ i → i < suc n + k → f i ≡ false)
-          → pick t (OpensIn n) (first_from f (suc n) k) ≡ Never → f i ≡ false
+      go : (t : Bool) → f n ≡ t → (first_from f (suc n) k ≡ None → (i : ℕ) → suc n ≤ i → i < suc n + k → f i ≡ false)
+          → pick t (Some n) (first_from f (suc n) k) ≡ None → f i ≡ false
       go true q ih h = absurd (let z : ◌≡◌ {A = ℕ} 0 1 = cc in omega arith)
       go false q ih h = at (eq-or-lt_of_le l)
         where
@@ -52,12 +52,12 @@ module _ (f : ℕ → Bool) where
           at (inl z) = ap f (sym z) ∙ q
           at (inr s) = ih h i s (omega arith)
 
-  if_none : (k n : ℕ) → ((i : ℕ) → n ≤ i → i < n + k → f i ≡ false) → first_from f n k ≡ Never
+  if_none : (k n : ℕ) → ((i : ℕ) → n ≤ i → i < n + k → f i ≡ false) → first_from f n k ≡ None
   unfolding first_from pick
   if_none zero n h = refl
   if_none (suc k) n h = rw (h n (omega arith) (omega arith)) (if_none k (suc n) (λ i l m. h i (omega arith) (omega arith)))
 
-  at_once : (k n : ℕ) → f n ≡ true → first_from f n (suc k) ≡ OpensIn n
+  at_once : (k n : ℕ) → f n ≡ true → first_from f n (suc k) ≡ Some n
   unfolding first_from pick
   at_once k n e = rw e
 

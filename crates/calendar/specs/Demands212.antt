@@ -1,30 +1,28 @@
 -- Read this.
 -- Runs with hours: demand 3 as request W-212 has it, for one tenant and for two; and what the sharing tells of opening.
 -- proofs/ proves the claims for every sound plan, all sources and every list of events.
-use Rattle.std.specs.Prelude.{ℕ, ◌+◌, ◌%◌, ◌≤◌, ◌<◌, ◌≡◌, ◌⊎◌, true, false, List, ◌∷◌, ◌++◌, map, length}
+use Rattle.std.specs.Prelude.{ℕ, ◌+◌, ◌%◌, ◌≤◌, ◌<◌, ◌≡◌, ◌⊎◌, true, false, List, ◌∷◌, ◌++◌, map, length, None, Option, Some}
 use Rattle.machine.specs.Plan.{Plan}
 use Rattle.machine.specs.Machine.{State, Answered, tiles_left}
 use Rattle.machine.specs.Runs.{Event, total, turns_of, state_after, answers_to, last, answers, steps, steps_in, Once, Collects, CarriedOut}
 use Rattle.tenants.specs.Tenants.{Sharing, Sources, source_for, own_of}
 use Rattle.tenants.specs.Demand208.{events_of, answers_of, CarriedOutFor}
-use Rattle.calendar.specs.declared.Opening.{Opening}
-use Rattle.calendar.specs.declared.Opening.TheVariants.{OpensIn, Never}
 use Rattle.calendar.specs.Windows.{week, table_words, faulty_window, open_at, moment_of, Moment, Timed, turn_at, mail_of, event_of, TimedCall, call_of}
 
 -- ---- minutes until a processor next opens
 
 -- what was told at a minute of the week about processor b
-pub record TellsOpening (told : Opening) (calendar : List ℕ) (minute b : ℕ) : Type 0 where
+pub record TellsOpening (told : Option ℕ) (calendar : List ℕ) (minute b : ℕ) : Type 0 where
   -- a number told: open then, past the end of the week by the same table, and at no minute before
-  pub then_open : (n : ℕ) → told ≡ OpensIn n → open_at calendar b ((minute + n) % week) ≡ true
-  pub not_before : (n : ℕ) → told ≡ OpensIn n → (i : ℕ) → i < n → open_at calendar b ((minute + i) % week) ≡ false
-  pub in_a_week : (n : ℕ) → told ≡ OpensIn n → n < week
+  pub then_open : (n : ℕ) → told ≡ Some n → open_at calendar b ((minute + n) % week) ≡ true
+  pub not_before : (n : ℕ) → told ≡ Some n → (i : ℕ) → i < n → open_at calendar b ((minute + i) % week) ≡ false
+  pub in_a_week : (n : ℕ) → told ≡ Some n → n < week
   -- 0 while it is open, and only then
-  pub open_now : minute < week → open_at calendar b minute ≡ true → told ≡ OpensIn 0
-  pub only_now : minute < week → told ≡ OpensIn 0 → open_at calendar b minute ≡ true
+  pub open_now : minute < week → open_at calendar b minute ≡ true → told ≡ Some 0
+  pub only_now : minute < week → told ≡ Some 0 → open_at calendar b minute ≡ true
   -- never, exactly if it is open at no minute of the week
-  pub never_open : told ≡ Never → (i : ℕ) → i < week → open_at calendar b i ≡ false
-  pub if_never : ((i : ℕ) → i < week → open_at calendar b i ≡ false) → told ≡ Never
+  pub never_open : told ≡ None → (i : ℕ) → i < week → open_at calendar b i ≡ false
+  pub if_never : ((i : ℕ) → i < week → open_at calendar b i ≡ false) → told ≡ None
 
 -- ---- runs: each event is given hours of its own
 

@@ -1,11 +1,9 @@
 -- Read this.
 -- Moment when processors may run: the lent table, open and faulty, a turn at its minute, minutes until a processor next opens.
 -- Renders request W-212 over the machine of document 01, for one tenant and, with W-208, for two.
-use Rattle.std.specs.Prelude.{ℕ, zero, suc, ◌+◌, ◌*◌, ◌%◌, Bool, List, [], ◌∷◌, get_or, ltb, leb, eqb}
+use Rattle.std.specs.Prelude.{ℕ, zero, suc, ◌+◌, ◌*◌, ◌%◌, Bool, List, [], ◌∷◌, get_or, ltb, leb, eqb, None, Option, Some}
 use Rattle.base.specs.Tests.{◌and◌, ◌or◌, not, pick, some}
 use Rattle.base.specs.Numbers.{Line, line, first_of}
-use Rattle.calendar.specs.declared.Opening.{Opening}
-use Rattle.calendar.specs.declared.Opening.TheVariants.{OpensIn, Never}
 use Rattle.machine.specs.Plan.{Plan}
 use Rattle.machine.specs.Machine.{State, fit, tiles_left, waiting, carry_out, next_action, Answered, answered, deliver}
 use Rattle.machine.specs.Runs.{Event, turn_of, delivery_of}
@@ -136,15 +134,15 @@ act_at_on p sources r c =
 -- ---- minutes until a processor next opens
 
 -- the first of the k offsets from n on at which f holds
-unfoldable pub first_from : (ℕ → Bool) → ℕ → ℕ → Opening
-first_from f n zero = Never
-first_from f n (suc k) = pick (f n) (OpensIn n) (first_from f (suc n) k)
+unfoldable pub first_from : (ℕ → Bool) → ℕ → ℕ → Option ℕ
+first_from f n zero = None
+first_from f n (suc k) = pick (f n) (Some n) (first_from f (suc n) k)
 
 -- over one week from this minute on; past its end the same table holds
-unfoldable pub until_open : List ℕ → ℕ → ℕ → Opening
+unfoldable pub until_open : List ℕ → ℕ → ℕ → Option ℕ
 until_open calendar minute b = first_from (λ n. open_at calendar b ((minute + n) % week)) 0 week
 
 -- the call: at a refusal it tells 0
-unfoldable pub ask_opening : Plan → Moment → ℕ → Answered Opening
+unfoldable pub ask_opening : Plan → Moment → ℕ → Answered (Option ℕ)
 ask_opening p h b = answered (first_of (line 25 (faulty_moment p h) ∷ line 11 (not (ltb b p.processors)) ∷ [])) (until_open h.calendar h.minute b)
-    (OpensIn 0)
+    (Some 0)

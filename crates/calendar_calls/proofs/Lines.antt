@@ -1,9 +1,11 @@
 -- Laws of the lines of the calls with hours: each call by the line that counts, and when a turn with hours is the turn without.
-use Rattle.std.specs.Prelude.{◌≡◌, ℕ, ◌+◌, ◌*◌, ◌<◌, ◌≤◌, Bool, true, false, ltb, leb, ◌≢◌, List, [], ◌∷◌, ◌++◌, length}
+use Rattle.std.specs.Prelude.{Result, Ok, Err, IfOk, ◌≡◌, ℕ, ◌+◌, ◌*◌, ◌<◌, ◌≤◌, Bool, true, false, ltb, leb, ◌≢◌, List, [], ◌∷◌, ◌++◌, length, Option, Some}
 use mathlib.Core.Path.{refl, sym, ap, ◌∙◌}
 use native.Mathlib.Omega.{arith}
 use borrow.Author.Tests.{eqb-true, eq-eqb, ne_eqb, ltb-true, lt-ltb, le-ltb}
 use Rattle.base.specs.Tests.{◌and◌, ◌or◌, not, pick}
+use Rattle.base.specs.declared.refusal.Refusal.{Refusal}
+use Rattle.base.specs.Refusals as refusals
 use Rattle.base.specs.Numbers.{Line, line, first_of}
 use Rattle.base.proofs.Tests.{both, and_no, or_left, or_right, or_false, neither, none_some, not-true, not-false, true_not}
 use Rattle.base.proofs.Numbers.{Numbered, first_nil, first_true, first_false, first_cons, none_first, first_some, first_behind, none_behind}
@@ -11,8 +13,6 @@ use Rattle.machine.specs.Plan.{Plan}
 use Rattle.machine.specs.Machine.{State, state_of, fit, tiles_left, waiting, carry_out, next_action, Answered, answered}
 use Rattle.machine.proofs.RunLaws.{number_of}
 use Rattle.tenants.specs.Tenants.{TenantAreas, fit_for, held_by_other, carry_out_for}
-use Rattle.calendar.specs.declared.Opening.{Opening}
-use Rattle.calendar.specs.declared.Opening.TheVariants.{OpensIn}
 use Rattle.calendar.specs.Windows.{week, table_words, faulty_board, faulty_table, faulty_minute, open_at, Moment, moment_of, faulty_for, closed, turn_lines_at}
 use Rattle.calendar.specs.Windows.{turn_lines_at_for, until_open, turn_at}
 use Rattle.calendar.proofs.Allowed.{Allowed}
@@ -21,9 +21,9 @@ use Rattle.nest.proofs.Numbered.{numbered}
 use Rattle.layout.specs.RouteWords.{route_of}
 use Rattle.recipe.specs.Routes.{lines_for}
 use Rattle.recipe.proofs.Laws.{numbered_for, reads_for}
+use Rattle.records.specs.declared.Progress.{Progress}
 use Rattle.engine.specs.Calls.{answer, recipe, areas, turn_call}
 use Rattle.engine.specs.Given.{unfit_lines, records_after}
-use Rattle.engine.specs.declared.inner.Turned.{Turned}
 use Rattle.engine.proofs.Lines.{Opened, and_right, call_read, call_later, call_done}
 use Rattle.engine.proofs.Reading as reading
 use Rattle.sharing.specs.Calls.{areas_for, turn_call_for}
@@ -32,6 +32,11 @@ use Rattle.sharing.proofs.Lines.{Free, unfit_0, lengths_are}
 use Rattle.sharing.proofs.Starts as starts
 use Rattle.calendar_calls.specs.Calls.{table_long, turn_call_at, turn_call_at_for, opens_call}
 use Rattle.calendar_calls.specs.Given.{hour_lines, away_lines, away_lines_for}
+
+-- what holds whatever an answer is
+pub if_ok : {A E P : Type 0} (r : Result A E) → P → IfOk r (λ _. P)
+if_ok (Ok _) p = p
+if_ok (Err _) p = tt
 
 -- ---- lines 25, 11 and 24
 
@@ -345,9 +350,10 @@ module _ (bytes : List ℕ) (route : ℕ) (source : List ℕ) (o : ℕ) (h : Mom
     plainly_for e a = sym (as_plain_for (rw op.is at e) (rw op.is at a))
 
 -- a turn's answer over the records stored
-pub turn_stored : (r : Turned) (m u l t : List ℕ) (b : ℕ) (x : Answered State) → answer r.number (state_of m u (records_after l b r) t) ≡ x
-    → (k : List ℕ) → k ≡ records_after l b r → answer r.number (state_of m u k t) ≡ x
-turn_stored r m u l t b x q k w = ap (λ (i : List ℕ). answer r.number (state_of m u i t)) w ∙ q
+pub turn_stored : (r : Result Progress Refusal) (m u l t : List ℕ) (b : ℕ) (x : Answered State)
+    → answer (refusals.number_of r) (state_of m u (records_after l b r) t) ≡ x
+    → (k : List ℕ) → k ≡ records_after l b r → answer (refusals.number_of r) (state_of m u k t) ≡ x
+turn_stored r m u l t b x q k w = ap (λ (i : List ℕ). answer (refusals.number_of r) (state_of m u i t)) w ∙ q
 
 -- ---- the question when a processor opens
 
@@ -359,45 +365,42 @@ may_ask n calendar minute b few long fair low =
     let e = neither fair in
     (omega arith, (omega (arith, long), (ltb-true minute week (true_not e.1), none_some (faulty_board calendar) n e.0 b low)))
 
-pub refuses : (m n : ℕ) (told : Opening) (x : Answered Opening) → (m ≡ n) × (told ≡ OpensIn 0) → answer n (OpensIn 0) ≡ x → answer m told ≡ x
-refuses m n told x e q = rw (e.0, e.1) q
-
 module _ (bytes : List ℕ) (h : Moment) (b : ℕ) where
-  pub ask_read : (r : ℕ) → r ≡ first_of (read_lines bytes) → r ≢ 0 → answer r (OpensIn 0) ≡ opens_call bytes h b
+  pub ask_read : (r : ℕ) → r ≡ first_of (read_lines bytes) → r ≢ 0 → answer r (Some 0) ≡ opens_call bytes h b
   unfolding opens_call
-  ask_read r e k = call_read (read_lines bytes) (numbered bytes) _ r _ (OpensIn 0) e k
+  ask_read r e k = call_read (read_lines bytes) (numbered bytes) _ r _ (Some 0) e k
 
   module _ (p : Plan) (op : Opened bytes 0 p) where
     abbrev lines : Plan → List Line
     lines q = line 9 (not (table_long q h)) ∷ line 25 (faulty_for q.processors h) ∷ line 11 (not (ltb b q.processors)) ∷ []
 
-    ask_at : answered (first_of (read_lines bytes ++ lines p)) (until_open h.calendar h.minute b) (OpensIn 0) ≡ opens_call bytes h b
+    ask_at : answered (first_of (read_lines bytes ++ lines p)) (until_open h.calendar h.minute b) (Some 0) ≡ opens_call bytes h b
     unfolding opens_call
-    ask_at = ap (λ (q : Plan). answered (first_of (read_lines bytes ++ lines q)) (until_open h.calendar h.minute b) (OpensIn 0)) op.is
+    ask_at = ap (λ (q : Plan). answered (first_of (read_lines bytes ++ lines q)) (until_open h.calendar h.minute b) (Some 0)) op.is
 
-    refusal : (r : ℕ) → r ≡ first_of (lines p) → r ≢ 0 → answer r (OpensIn 0) ≡ opens_call bytes h b
+    refusal : (r : ℕ) → r ≡ first_of (lines p) → r ≢ 0 → answer r (Some 0) ≡ opens_call bytes h b
     refusal r e k =
-        call_later (read_lines bytes) (numbered bytes) (lines p) r (until_open h.calendar h.minute b) (OpensIn 0) (reads_for (route_of 0) bytes op.none) e
+        call_later (read_lines bytes) (numbered bytes) (lines p) r (until_open h.calendar h.minute b) (Some 0) (reads_for (route_of 0) bytes op.none) e
         k ∙ ask_at
 
-    pub ask_nine : length h.calendar ≢ table_words p → answer 9 (OpensIn 0) ≡ opens_call bytes h b
+    pub ask_nine : length h.calendar ≢ table_words p → answer 9 (Some 0) ≡ opens_call bytes h b
     ask_nine n = refusal 9 (sym (first_true 9 _ _ (not-false (ne_eqb _ _ n)))) (λ q. omega arith)
 
     module _ (long : length h.calendar ≡ table_words p) where
-      pub ask_faulty : faulty_for p.processors h ≡ true → answer 25 (OpensIn 0) ≡ opens_call bytes h b
+      pub ask_faulty : faulty_for p.processors h ≡ true → answer 25 (Some 0) ≡ opens_call bytes h b
       ask_faulty e = refusal 25 (sym (first_false 9 _ _ (not-true (eq-eqb _ _ long)) ∙ first_true 25 _ _ e)) (λ q. omega arith)
 
       module _ (fair : faulty_for p.processors h ≡ false) where
         past_25 : first_of (lines p) ≡ first_of (line 11 (not (ltb b p.processors)) ∷ [])
         past_25 = first_false 9 _ _ (not-true (eq-eqb _ _ long)) ∙ first_false 25 _ _ fair
 
-        pub ask_beyond : p.processors ≤ b → answer 11 (OpensIn 0) ≡ opens_call bytes h b
+        pub ask_beyond : p.processors ≤ b → answer 11 (Some 0) ≡ opens_call bytes h b
         ask_beyond k = refusal 11 (sym (past_25 ∙ first_true 11 _ _ (not-false (le-ltb b p.processors k)))) (λ q. omega arith)
 
-        pub ask_told : b < p.processors → (told : Opening) → told ≡ until_open h.calendar h.minute b → answer 0 told ≡ opens_call bytes h b
+        pub ask_told : b < p.processors → (told : Option ℕ) → told ≡ until_open h.calendar h.minute b → answer 0 told ≡ opens_call bytes h b
         ask_told low told e =
             ap (answer 0) e
-            ∙ call_done (read_lines bytes) (numbered bytes) (lines p) 0 (until_open h.calendar h.minute b) (OpensIn 0)
+            ∙ call_done (read_lines bytes) (numbered bytes) (lines p) 0 (until_open h.calendar h.minute b) (Some 0)
             (reads_for (route_of 0) bytes op.none)
             (past_25 ∙ first_false 11 _ _ (not-true (lt-ltb b p.processors low)) ∙ first_nil)
             ∙ ask_at

@@ -1,9 +1,8 @@
 -- The minutes until row D's processors next open, computed.
-use Rattle.std.specs.Prelude.{◌≡◌, ℕ, ◌+◌, ◌%◌, false}
+use Rattle.std.specs.Prelude.{◌≡◌, ℕ, ◌+◌, ◌%◌, false, None}
 use mathlib.Core.Path.{refl, ap, ◌∙◌}
 use Rattle.base.specs.Tests.{◌and◌, ◌or◌, not, pick, every, some, keep, those, tabulate, product}
 use Rattle.base.specs.Numbers.{first_of}
-use Rattle.calendar.specs.declared.Opening.TheVariants.{Never}
 use Rattle.calendar.specs.Windows.{is_window, is_faulty, covers, faulty_board, faulty_table, faulty_minute, open_at, faulty_for, first_from, until_open, week}
 use Rattle.calendar.proofs.Search.{first_none}
 use Rattle.nest.specs.Nest.{tile_count, cells, box_tiles, processors}
@@ -21,7 +20,7 @@ shut : (n : ℕ) → open_at calendar 1 n ≡ false
 unfolding is_window covers open_at ◌and◌ ◌or◌ not some
 shut n = refl
 
-never_told : until_open calendar 0 1 ≡ Never
+never_told : until_open calendar 0 1 ≡ None
 unfolding until_open
 never_told = first_none (λ n. open_at calendar 1 ((0 + n) % week)) 10080 0 (λ i h. shut ((0 + i) % week))
 
@@ -32,7 +31,7 @@ unfolding first_of ◌and◌ ◌or◌ not pick every some keep those tabulate pr
     read_lines route_of is_window is_faulty faulty_board faulty_table faulty_minute faulty_for opens_call
 asked_told = refl
 
-never_is : asked calendar 0 1 ≡ gave 0 Never
+never_is : asked calendar 0 1 ≡ gave 0 None
 never_is = asked_told ∙ ap (gave 0) never_told
 
 pub rows : OpensExamples

@@ -1,14 +1,12 @@
 -- Read this.
 -- The calls with hours, each from the recipe's bytes, the word that names its route and what is lent: its number, and what is written.
 -- Renders request W-212, and W-209's line 21, all lines in table order: line 9 covers the table of hours too, 28 words a processor; then the machine's lines.
-use Rattle.std.specs.Prelude.{ℕ, Bool, List, [], ◌∷◌, ◌++◌, length, ◌==◌, nat_lt}
+use Rattle.std.specs.Prelude.{ℕ, Bool, List, [], ◌∷◌, ◌++◌, length, ◌==◌, nat_lt, None, Option, Some}
 use Rattle.base.specs.Tests.{◌and◌, not}
 use Rattle.base.specs.Numbers.{Line, line, first_of}
 use Rattle.machine.specs.Plan.{Plan}
 use Rattle.machine.specs.Machine.{State, Answered, answered, carry_out, next_action}
 use Rattle.tenants.specs.Tenants.{TenantAreas, carry_out_for, Sharing, Sources, source_for, other_of, lent_to, put_back}
-use Rattle.calendar.specs.declared.Opening.{Opening}
-use Rattle.calendar.specs.declared.Opening.TheVariants.{OpensIn, Never}
 use Rattle.calendar.specs.Windows.{table_words, Moment, faulty_moment, turn_lines_at, turn_lines_at_for, until_open, Timed, turn_at, mail_of, TimedCall}
 use Rattle.nest.specs.Reader.{read_lines}
 use Rattle.layout.specs.RouteWords.{route_of}
@@ -55,13 +53,13 @@ opens_lines bytes h b =
     ∷ line 11 (not (nat_lt b (recipe bytes 0).processors)) ∷ [])
 
 -- at a refusal it tells 0 minutes
-unfoldable pub opens_call : List ℕ → Moment → ℕ → Answered Opening
-opens_call bytes h b = answered (first_of (opens_lines bytes h b)) (until_open h.calendar h.minute b) (OpensIn 0)
+unfoldable pub opens_call : List ℕ → Moment → ℕ → Answered (Option ℕ)
+opens_call bytes h b = answered (first_of (opens_lines bytes h b)) (until_open h.calendar h.minute b) (Some 0)
 
 -- an opening as two words: 1 and the minutes where it opens, 0 and 0 where it never does
-unfoldable pub opening_words : Opening → List ℕ
-opening_words (OpensIn n) = 1 ∷ n ∷ []
-opening_words Never = 0 ∷ 0 ∷ []
+unfoldable pub opening_words : Option ℕ → List ℕ
+opening_words (Some n) = 1 ∷ n ∷ []
+opening_words None = 0 ∷ 0 ∷ []
 
 -- ---- the calls of a run: turns with their hours, mail at any hour
 

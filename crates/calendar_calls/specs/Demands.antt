@@ -1,12 +1,11 @@
 -- Read this.
 -- Request W-212 for a recipe's bytes and a route, made of the definitions in Calls; each call's contract equates the call with them.
 -- Renders its claims: every call is fixed; demand 3 of runs with hours, for one tenant and for two, in lists with plain turns too; what is told of opening.
-use Rattle.std.specs.Prelude.{◌≡◌, ℕ, ◌≤◌, List}
+use Rattle.std.specs.Prelude.{◌≡◌, ℕ, ◌≤◌, List, Some}
 use Rattle.base.specs.Lists.{Bytes}
 use Rattle.machine.specs.Machine.{State, Answered, carry_out, next_action}
 use Rattle.machine.specs.AnyCalls.{mixed}
 use Rattle.tenants.specs.Tenants.{TenantAreas, carry_out_for, Sharing, Sources, source_for}
-use Rattle.calendar.specs.declared.Opening.TheVariants.{OpensIn}
 use Rattle.calendar.specs.Windows.{Moment, Timed, TimedCall, until_open}
 use Rattle.tenants.specs.AnyCalls.{Alone208}
 use Rattle.calendar.specs.Demands212.{TellsOpening, Demand212, Demand212For, IsolatedAt}
@@ -26,7 +25,7 @@ pub record FixedAt (bytes : List ℕ) (route : ℕ) (source : List ℕ) (h : Mom
       → Fixed (turn_call_at_for bytes route source o h l theirs b) (turn_call_lines_at_for bytes route source o h l theirs b)
       (carry_out_for (recipe bytes route) source o l b (next_action (recipe bytes route) l.own b)) l
   -- lent nothing to write: what it tells at a refusal is 0 minutes
-  pub opens : Fixed (opens_call bytes h b) (opens_lines bytes h b) (until_open h.calendar h.minute b) (OpensIn 0)
+  pub opens : Fixed (opens_call bytes h b) (opens_lines bytes h b) (until_open h.calendar h.minute b) (Some 0)
 
 -- plain turns and turns with hours in one list: each by its own call
 abbrev pub mixed_calls : List ℕ → ℕ → List ℕ → State → Mixed → Answered State

@@ -3,21 +3,20 @@
 #![tactic(auto)]
 
 ghost use Rattle.std.specs.Prelude.{◌≡◌};
+ghost use Rattle.base.specs.Refusals.{number_of};
 ghost use Rattle.machine.specs.Machine.{state_of};
 ghost use Rattle.tenants.specs.Tenants.{tenant_areas};
-ghost use Rattle.calendar.specs.declared.Opening.TheVariants.{OpensIn};
 ghost use Rattle.calendar.specs.Windows.{moment_of};
 ghost use Rattle.engine.specs.Calls.{answer};
 ghost use Rattle.calendar_calls.specs.Calls.{turn_call_at, turn_call_at_for, opens_call};
+ghost use Rattle.calendar_calls.specs.Given.{told};
 
 pub mod inner; // inner.rt: the calls without the stores into the records
 pub mod windows; // windows.rt: code of the hours (W-212): faulty windows, open at a minute, minutes until a processor opens
 
 use crate::windows::minutes;
-use calendar::Opening;
-use layout::sizes_of;
-use plan::Route;
-use reader::read;
+use base::refusal::Refusal;
+use recipe::lay_out;
 use records::flat_of;
 use sharing::inner::store_after;
 
@@ -56,8 +55,7 @@ pub fn turn(
         minute,
         processor,
     );
-    store_after(progress, processor, after);
-    after.number
+    store_after(progress, processor, &after)
 }
 
 // One turn of a processor for a tenant; `theirs` are the other tenant's records.
@@ -97,51 +95,29 @@ pub fn turn_for(
         tenant,
         processor,
     );
-    store_after(progress, processor, after);
-    after.number
-}
-
-// What the question tells: its number and when the processor next opens; at a refusal in 0 minutes.
-#[derive(Clone, Copy)]
-pub struct Asked {
-    pub number: u32,
-    pub opening: Opening,
-}
-
-fn untold(number: u32) -> Asked
-    ensures { (result.number ≡ number) × (result.opening ≡ OpensIn 0) }
-{
-    let now = Opening::OpensIn(0);
-    Asked {
-        number: number,
-        opening: now,
-    }
+    store_after(progress, processor, &after)
 }
 
 // Minutes until a processor next opens, lent only the table.
-pub fn opens(encoded: &[u8], hours: &[u32], minute: u32, processor: u32) -> Asked
-    ensures { answer result.number result.opening ≡ opens_call encoded.now (moment_of hours.now minute) processor }
+pub fn opens(
+    encoded: &[u8],
+    hours: &[u32],
+    minute: u32,
+    processor: u32,
+) -> Result<Option<u32>, Refusal>
+    ensures { answer (number_of result) (told result) ≡ opens_call encoded.now (moment_of hours.now minute) processor }
 {
-    let reading = read(encoded);
-    let number = reading.number;
-    if number != 0 {
-        return untold(number);
-    }
-    let nest = reading.nest;
-    let sizes = sizes_of(nest, Route::Direct);
-    let n = sizes.processors;
+    let layout = lay_out(encoded, 0)?; // the hours are the same on every route
+    let n = layout.sizes.processors;
     let b = processor as usize;
     if hours.len() != WINDOW_WORDS * n {
-        return untold(9);
+        return Err(Refusal::Area);
     }
     if inner::faulty(hours, n, minute) {
-        return untold(25);
+        return Err(Refusal::Hours);
     }
     if b >= n {
-        return untold(11);
+        return Err(Refusal::NoSuch);
     }
-    Asked {
-        number: 0,
-        opening: minutes(hours, b, minute),
-    }
+    Ok(minutes(hours, b, minute))
 }

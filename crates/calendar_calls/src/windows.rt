@@ -5,7 +5,6 @@ ghost use Rattle.calendar.specs.Windows.{week, is_faulty, covers, faulty_board, 
 ghost use Rattle.calendar.specs.Waits.{Fair, First};
 
 use crate::{WEEK, WINDOW_WORDS};
-use calendar::Opening;
 
 // A pair of words is a faulty window.
 fn faulty_pair(opens: u32, closes: u32) -> bool
@@ -51,10 +50,7 @@ pub fn faulty_table(calendar: &[u32], n: usize) -> bool
 fn covers(opens: u32, closes: u32, minute: u32) -> bool
     ensures { result ≡ covers opens closes minute }
 {
-    if minute < opens {
-        return false;
-    }
-    minute < closes
+    opens <= minute && minute < closes
 }
 
 // The processor is open at the minute.
@@ -89,7 +85,7 @@ fn wait(opens: u32, closes: u32, minute: u32) -> u32
 }
 
 // Each of the processor's 14 windows is viewed at once.
-pub fn minutes(calendar: &[u32], b: usize, minute: u32) -> Opening
+pub fn minutes(calendar: &[u32], b: usize, minute: u32) -> Option<u32>
     requires { (b < 64) × ((28 * b + 28 ≤ length calendar.now) × ((minute < week) × (faulty_board calendar.now b ≡ false))) }
     ensures { result ≡ until_open calendar.now minute b }
 {
@@ -97,10 +93,10 @@ pub fn minutes(calendar: &[u32], b: usize, minute: u32) -> Opening
     for w in 0..14 {
         let at = WINDOW_WORDS * b + 2 * w;
         let v = wait(calendar[at], calendar[at + 1], minute);
-        soonest = base::least_word(soonest, v);
+        soonest = soonest.min(v);
     }
     if soonest == WEEK {
-        return Opening::Never;
+        return None;
     }
-    Opening::OpensIn(soonest)
+    Some(soonest)
 }

@@ -1,5 +1,5 @@
 -- Laws of the exported driver by rounds: each return of `drive` is the call by its line, and the records stored have the words it kept.
-use Rattle.std.specs.Prelude.{◌≡◌, ℕ, ◌+◌, ◌-◌, ◌*◌, ◌<◌, ◌≤◌, Bool, true, false, eqb, ◌≢◌, List, [], ◌∷◌, ◌++◌, length, take, drop, replicate}
+use Rattle.std.specs.Prelude.{◌≡◌, ℕ, ◌+◌, ◌-◌, ◌*◌, ◌<◌, ◌≤◌, Bool, true, false, eqb, ◌≢◌, List, [], ◌∷◌, ◌++◌, length, take, drop, replicate, Ok, Err}
 use mathlib.Core.Path.{refl, sym, ap, ◌∙◌}
 use native.Mathlib.Omega.{arith}
 use native.Mathlib.Decide.{ℕ_discrete}
@@ -7,18 +7,21 @@ use lib.ListN.{length-append, length-drop, length-replicate}
 use lib.Seq.{take_at, length-take-le}
 use borrow.Author.Tests.{eq-eqb, ne_eqb}
 use Rattle.base.specs.Tests.{◌and◌, not, pick}
-use Rattle.base.specs.Numbers.{Line, line, first_of}
+use Rattle.base.specs.Numbers.{line, first_of}
+use Rattle.base.specs.declared.refusal.Refusal.{Refusal}
+use Rattle.base.specs.Refusals.{code}
+use Rattle.base.proofs.Codes.{code_some}
 use Rattle.base.proofs.Tests.{not-false, pick_true, pick_false}
 use Rattle.base.proofs.Numbers.{first_true, first_some, first_behind}
 use Rattle.machine.specs.Plan.{Plan, count, words}
 use Rattle.machine.specs.Machine as machine
 use Rattle.machine.specs.Machine.{State, state_of, answered}
 use Rattle.machine.proofs.RunLaws.{number_of, after_of}
-use Rattle.nest.specs.declared.Reading.{Reading}
+use Rattle.nest.specs.declared.Nest.{Nest}
 use Rattle.nest.specs.Nest.{processors}
 use Rattle.layout.specs.RouteWords.{route_of}
 use Rattle.recipe.specs.Routes.{lines_for, ReadFor}
-use Rattle.recipe.proofs.Laws.{numbered_for, accepted_for}
+use Rattle.recipe.proofs.Laws.{numbered_for, accepted_for, none_for, refused_for_route}
 use Rattle.rounds.specs.Rounds.{Told, told, drive}
 use Rattle.records.specs.declared.Progress.{Progress}
 use Rattle.records.specs.declared.Flat.{Flat}
@@ -65,14 +68,14 @@ module _ (bytes source m u t l : List ℕ) where
       ∙ answered_no n done (told 0 given) h ∙ ap (λ (k : ℕ). answered k done (told 0 given)) is
 
   -- ---- the driver is not asked
-  module _ (r : Reading) (e : ReadFor (route_of 0) bytes r) where
-    pub rounds_read : (a d : ℕ) (w : List ℕ) → a ≡ r.number → d ≡ 0 → r.number ≢ 0
-        → answer a (told d (state_of m u (words_after l a w) t)) ≡ rounds_call bytes source given
-    rounds_read a d w is z h =
-        by_line r.number a d w is z h (e.number ∙ sym (first_some (lines_for (route_of 0) bytes) _ (λ q. h (e.number ∙ q))))
+  pub rounds_read : {why : Refusal} → ReadFor (route_of 0) bytes (Err why) → (a d : ℕ) (w : List ℕ) → a ≡ code why → d ≡ 0
+      → answer a (told d (state_of m u (words_after l a w) t)) ≡ rounds_call bytes source given
+  rounds_read {why = why} e a d w is z =
+      by_line (code why) a d w is z (code_some why) (e.number ∙ sym (first_some (lines_for (route_of 0) bytes) _ (refused_for_route e)))
 
-    many : r.number ≡ 0 → 192 < length l → areas p source given ≡ false
-    many z h = by (areas p source given) refl
+  module _ {x : Nest} (e : ReadFor (route_of 0) bytes (Ok x)) where
+    many : 192 < length l → areas p source given ≡ false
+    many h = by (areas p source given) refl
       where
         by : (b : Bool) → areas p source given ≡ b → b ≡ false
         by true q =
@@ -80,18 +83,17 @@ module _ (bytes source m u t l : List ℕ) where
               arith,
               h,
               (areas_are p source given q).progress,
-              ap processors (e.nest z),
-              (accepted_for (route_of 0) bytes r e z
-                  ).processors_most,
+              ap processors e.nest,
+              (accepted_for e).processors_most,
             ))
         by false q = refl
 
-    pub rounds_nine : (a d : ℕ) (w : List ℕ) → a ≡ 9 → d ≡ 0 → r.number ≡ 0 → (words : ℕ) → words ≡ length l → 192 < words
+    pub rounds_nine : (a d : ℕ) (w : List ℕ) → a ≡ 9 → d ≡ 0 → (words : ℕ) → words ≡ length l → 192 < words
         → answer a (told d (state_of m u (words_after l a w) t)) ≡ rounds_call bytes source given
-    rounds_nine a d w is none z words long k =
+    rounds_nine a d w is none words long k =
         by_line 9 a d w is none (λ q. omega arith)
-        (sym (first_behind (lines_for (route_of 0) bytes) _ (numbered_for (route_of 0) bytes) (sym e.number ∙ z)
-        ∙ first_true 9 _ [] (not-false (many z (omega (arith, long, k))))))
+        (sym (first_behind (lines_for (route_of 0) bytes) _ (numbered_for (route_of 0) bytes) (none_for e)
+        ∙ first_true 9 _ [] (not-false (many (omega (arith, long, k))))))
 
   -- ---- the driver was asked, lent words z in place of the records'
   module _ (z : List ℕ) (same : length z ≡ length l) (n rd : ℕ) (m' u' z' t' : List ℕ)

@@ -4,3 +4,4 @@ pub mod Opens
 pub mod Demand211
 pub mod DriverWords
 pub mod PartTurn
+pub mod Stores

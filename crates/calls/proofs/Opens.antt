@@ -1,5 +1,5 @@
 -- Laws of the exported calls with hours: the record of a turn that gave 0 is there; each return of the question is what it tells by its line.
-use Rattle.std.specs.Prelude.{◌≡◌, ℕ, zero, suc, ◌<◌, ◌≢◌, List, length}
+use Rattle.std.specs.Prelude.{◌≡◌, ℕ, zero, suc, ◌<◌, ◌≢◌, List, length, None, Option, Some}
 use mathlib.Core.Path.{refl, sym, ap, ◌∙◌}
 use native.Mathlib.Omega.{arith}
 use borrow.Author.Tests.{eq-eqb}
@@ -8,8 +8,6 @@ use Rattle.base.proofs.Tests.{pick_true}
 use Rattle.machine.specs.Machine.{state_of, State}
 use Rattle.machine.proofs.RunLaws.{number_of, after_of}
 use Rattle.tenants.specs.Tenants.{TenantAreas, tenant_areas}
-use Rattle.calendar.specs.declared.Opening.{Opening}
-use Rattle.calendar.specs.declared.Opening.TheVariants.{OpensIn, Never}
 use Rattle.calendar.specs.Windows.{Moment, moment_of, until_open}
 use Rattle.records.specs.declared.Progress.{Progress}
 use Rattle.records.specs.Records.{flat_words}
@@ -45,27 +43,27 @@ record_there_at_for bytes route source o table minute m u t e rs ss b n x is z =
 
 -- ---- what is told of an opening
 
-pub told_in : (n : ℕ) (x : Opening) → x ≡ OpensIn n → (r : NextOpening) → r ≡ tells 0 1 n → r ≡ opening_told x
+pub told_in : (n : ℕ) (x : Option ℕ) → x ≡ Some n → (r : NextOpening) → r ≡ tells 0 1 n → r ≡ opening_told x
 unfolding opening_told
 told_in n x e r q = q ∙ sym (ap opening_told e)
 
-pub told_never : (x : Opening) → x ≡ Never → (r : NextOpening) → r ≡ tells 0 0 0 → r ≡ opening_told x
+pub told_never : (x : Option ℕ) → x ≡ None → (r : NextOpening) → r ≡ tells 0 0 0 → r ≡ opening_told x
 unfolding opening_told
 told_never x e r q = q ∙ sym (ap opening_told e)
 
-opens_no : (n : ℕ) (x : Opening) → n ≢ 0 → opens_if n x ≡ tells n 0 0
+opens_no : (n : ℕ) (x : Option ℕ) → n ≢ 0 → opens_if n x ≡ tells n 0 0
 unfolding opens_if
 opens_no zero x h = absurd (h refl)
 opens_no (suc n) x h = refl
 
 -- ---- the question
 
-module _ (bytes : List ℕ) (h : Moment) (b n : ℕ) (x : Opening) (q : answer n x ≡ opens_call bytes h b) where
+module _ (bytes : List ℕ) (h : Moment) (b n : ℕ) (x : Option ℕ) (q : answer n x ≡ opens_call bytes h b) where
   number_is : n ≡ first_of (opens_lines bytes h b)
   unfolding opens_call
   number_is = number_of q
 
-  abbrev until : Opening
+  abbrev until : Option ℕ
   until = until_open h.calendar h.minute b
 
   pub opens_none : n ≢ 0 → (r : NextOpening) → r ≡ tells n 0 0 → r ≡ opens_of bytes h b

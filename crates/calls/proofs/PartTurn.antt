@@ -1,9 +1,9 @@
 -- Laws of the calls for one processor that is lent its own part alone: a turn that gives 0 was lent its record.
-use Rattle.std.specs.Prelude.{◌≡◌, ℕ, ◌<◌, true, eqb, ltb, List, [], ◌∷◌, ◌++◌, length}
+use Rattle.std.specs.Prelude.{◌≡◌, ℕ, ◌<◌, eqb, List, ◌∷◌, length}
 use mathlib.Core.Path.{sym, ap, ◌∙◌}
 use native.Mathlib.Omega.{arith}
 use Rattle.base.specs.Tests.{◌and◌, not}
-use Rattle.base.specs.Numbers.{line, first_of}
+use Rattle.base.specs.Numbers.{line}
 use Rattle.base.proofs.Tests.{both, true_not}
 use Rattle.base.proofs.Numbers.{none_first}
 use Rattle.machine.specs.Machine.{State, state_of, Answered, turn_lines}
@@ -13,7 +13,7 @@ use Rattle.records.proofs.Words.{length_words}
 use Rattle.engine.specs.Calls.{answer, recipe}
 use Rattle.network.specs.Own.{own_cells}
 use Rattle.part.specs.Part.{part_fits}
-use Rattle.part_calls.specs.front.Calls.{from_part, board_lines, part_turn_call}
+use Rattle.part_calls.specs.front.Calls.{from_part, part_turn_call}
 use Rattle.part_calls.proofs.front.Answers.{behind_board}
 use Rattle.part_calls.proofs.front.Wide.{fits_are}
 

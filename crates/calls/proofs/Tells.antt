@@ -1,6 +1,6 @@
 -- A struct that is made of the first true line's number tells by it.
 use Rattle.std.specs.Prelude.{◌≡◌, ℕ, zero, suc, ◌≢◌, List}
-use mathlib.Core.Path.{refl, sym, ap, ◌∙◌}
+use mathlib.Core.Path.{refl, ap, ◌∙◌}
 use Rattle.base.specs.Numbers.{Line, first_of}
 use Rattle.calls.specs.Tells.{Tells}
 

@@ -1,7 +1,7 @@
 -- Read this.
 -- What W-211 demands of the exported calls for the charting desk, and demand 1 for them.
 -- Renders document 02, W-211: 23 before 9, the text's length told, bytes past the text as before, 0 told at a refusal, no two inputs with one text.
-use Rattle.std.specs.Prelude.{◌≡◌, ℕ, ◌≤◌, true, false, ◌≢◌, List, ◌++◌, length, take, drop, ℤ}
+use Rattle.std.specs.Prelude.{◌≡◌, ℕ, ◌≤◌, true, ◌≢◌, List, ◌++◌, length, take, drop, ℤ}
 use Rattle.base.specs.Numbers.{first_of}
 use Rattle.nest.specs.Reader.{read_lines, nest_of}
 use Rattle.chart.specs.declared.Told.{Told}

@@ -68,8 +68,7 @@ pub extern "C" fn rolwyddac_part_turn(
     let after = part_calls::turn::turn(
         encoded, route, source, memory, mail, flat, marks, processor,
     );
-    records::put(progress, after.number, 0, after.progress);
-    after.number
+    records::put(progress, 0, after)
 }
 
 // A message is handed over to a transport: its mark from 1 to 2; its words lie in the mail.

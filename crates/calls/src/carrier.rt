@@ -2,6 +2,7 @@
 // records as structs what a processor waits for, and taking a message in.
 ghost use Rattle.calls.specs.Gave.{areas_of, MessagesGave, OwnersGave, AwaitedGave, TakeInGave};
 
+use base::refusal::number_of;
 use records::Progress;
 use transport::Waiting;
 
@@ -57,7 +58,7 @@ pub extern "C" fn rolwyddac_take_in(
         result (areas_of memories.now buffer.new progress.now status.new) }
 {
     let flat = records::flatten(progress);
-    transport::inner::take_in(
+    number_of(&transport::inner::take_in(
         encoded, route, source, memories, buffer, flat, status, processor, message, words,
-    )
+    ))
 }

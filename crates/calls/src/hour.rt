@@ -5,7 +5,6 @@ ghost use Rattle.calendar.specs.Windows.{moment_of, turn_at};
 ghost use Rattle.calls.specs.Gave.{areas_of, lent_areas_of, TimedGave, TenantTimedGave, OpensGave};
 ghost use Rattle.calls.specs.Opens.{tells, opening_told};
 
-use calendar::Opening;
 use records::Progress;
 
 // One turn of a processor.
@@ -31,8 +30,7 @@ pub extern "C" fn rolwyddac_turn_at(
     let after = calendar_calls::inner::turn(
         encoded, route, source, memories, buffer, flat, status, hours, minute, processor,
     );
-    records::put(progress, after.number, processor, after.progress);
-    after.number
+    records::put(progress, processor, after)
 }
 
 // One turn of a processor for a tenant.
@@ -63,8 +61,7 @@ pub extern "C" fn rolwyddac_tenant_turn_at(
         encoded, route, source, memories, buffer, own, status, engaged, theirs, hours, minute,
         tenant, processor,
     );
-    records::put(progress, after.number, processor, after.progress);
-    after.number
+    records::put(progress, processor, after)
 }
 
 // What is told of an opening: the call's number, 1 and in how many minutes, or 0 and 0 where there is none; 0 and 0 at a refusal.
@@ -80,18 +77,18 @@ fn tell(number: u32, opens: u32, minutes: u32) -> NextOpening
     ensures { result ≡ tells number opens minutes }
 {
     NextOpening {
-        number: number,
-        opens: opens,
-        minutes: minutes,
+        number,
+        opens,
+        minutes,
     }
 }
 
-fn tell_opening(opening: Opening) -> NextOpening
+fn tell_opening(opening: Option<u32>) -> NextOpening
     ensures { result ≡ opening_told opening }
 {
     match opening {
-        Opening::OpensIn(minutes) => tell(0, 1, minutes),
-        Opening::Never => tell(0, 0, 0),
+        Some(minutes) => tell(0, 1, minutes),
+        None => tell(0, 0, 0),
     }
 }
 
@@ -105,11 +102,8 @@ pub extern "C" fn rolwyddac_opens(
 ) -> NextOpening
     ensures { OpensGave encoded.now (moment_of hours.now minute) processor result }
 {
-    let asked = calendar_calls::opens(encoded, hours, minute, processor);
-    let number = asked.number;
-    if number != 0 {
-        return tell(number, 0, 0);
+    match calendar_calls::opens(encoded, hours, minute, processor) {
+        Ok(opening) => tell_opening(opening),
+        Err(refusal) => tell(refusal.number(), 0, 0),
     }
-    let opening = asked.opening;
-    tell_opening(opening)
 }

@@ -10,6 +10,7 @@ ghost use Rattle.writer.specs.Fields.{fields};
 ghost use Rattle.calls.specs.Gave.{areas_of, FreshGave, EventGave, CollectGave, SweepGave, SummaryGave, MessageGave, HopsGave};
 ghost use Rattle.calls.specs.Gave.{ReadGave, WriteGave, SoundingsGave};
 
+use base::refusal::number_of;
 use records::Progress;
 use summary::{Figures, HopCount, MessageLine};
 use writer::reading::RecipeFields;
@@ -42,8 +43,7 @@ pub extern "C" fn rolwyddac_turn(
     let after = engine::inner::turn(
         encoded, route, source, memories, buffer, flat, status, processor,
     );
-    records::put(progress, after.number, processor, after.progress);
-    after.number
+    records::put(progress, processor, after)
 }
 
 // A fresh start.
@@ -62,7 +62,9 @@ pub extern "C" fn rolwyddac_fresh(
         result (areas_of memories.new buffer.new progress.new status.new) }
 {
     let words = 3 * progress.len();
-    let number = engine::inner::fresh(encoded, route, source, memories, buffer, words, status);
+    let number = number_of(&engine::inner::fresh(
+        encoded, route, source, memories, buffer, words, status,
+    ));
     records::clear(progress, number);
     number
 }
@@ -84,9 +86,9 @@ pub extern "C" fn rolwyddac_deliver(
         result (areas_of memories.now buffer.now progress.now status.new) }
 {
     let flat = records::flatten(progress);
-    engine::inner::deliver(
+    number_of(&engine::inner::deliver(
         encoded, route, source, memories, buffer, flat, status, message,
-    )
+    ))
 }
 
 // The grid, once all processors have finished.
@@ -105,7 +107,7 @@ pub extern "C" fn rolwyddac_collect(
         (areas_of memories.now buffer.now progress.now status.now) grid.old result grid.new }
 {
     let flat = records::flatten(progress);
-    engine::inner::collect(encoded, route, source, memories, buffer, flat, status, grid)
+    number_of(&engine::inner::collect(encoded, route, source, memories, buffer, flat, status, grid))
 }
 
 // The sequential sweep of the whole grid.

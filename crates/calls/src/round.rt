@@ -1,6 +1,7 @@
 // The calls by rounds with C linkage, for the foreman's screen: over progress records as structs the driver, which tells its rounds; and each tile's
 // round, one word a tile. Both are on the direct route.
 ghost use Rattle.std.specs.Prelude.{◌≡◌, ℕ, ◌≤◌, List, length};
+ghost use Rattle.base.specs.Refusals.{code};
 ghost use Rattle.machine.specs.Machine.{state_of};
 ghost use Rattle.rounds.specs.Rounds.{told};
 ghost use Rattle.engine.specs.Calls.{answer};
@@ -8,7 +9,7 @@ ghost use Rattle.schedule.specs.Calls.{rounds_call};
 ghost use Rattle.calls.specs.DriverWords.{words_after};
 ghost use Rattle.calls.specs.Gave.{areas_of, RoundsGave, RoundsOfGave};
 
-use base::refusals;
+use base::refusal::Refusal;
 use records::{Flat, Progress, RECORD_WORDS};
 use schedule::Driven;
 
@@ -19,21 +20,18 @@ pub struct Ran {
     pub flat: Flat,
 }
 
-fn refused(number: u32) -> Ran
-    ensures { (result.driven.number ≡ number) × ((result.driven.rounds ≡ 0) × (length result.flat.words ≡ 192)) }
+fn refused(refusal: Refusal) -> Ran
+    ensures { (result.driven.number ≡ code refusal) × ((result.driven.rounds ≡ 0) × (length result.flat.words ≡ 192)) }
 {
     let flat = Flat {
         words: [0; RECORD_WORDS],
         count: 0,
     };
     let driven = Driven {
-        number: number,
+        number: refusal.number(),
         rounds: 0,
     };
-    Ran {
-        driven: driven,
-        flat: flat,
-    }
+    Ran { driven, flat }
 }
 
 // The driver but for the stores into the records, which have so many words.
@@ -54,12 +52,10 @@ fn drive(
 {
     // no recipe has so many records
     if words > RECORD_WORDS {
-        let reading = recipe::read_for(encoded, 0);
-        let number = reading.number;
-        if number != 0 {
-            return refused(number);
-        }
-        return refused(refusals::AREA);
+        return match recipe::read_for(encoded, 0) {
+            Ok(_) => refused(Refusal::Area),
+            Err(refusal) => refused(refusal),
+        };
     }
     let mut kept = [0u32; RECORD_WORDS];
     let driven = schedule::run(
@@ -74,10 +70,7 @@ fn drive(
         words: kept,
         count: words,
     };
-    Ran {
-        driven: driven,
-        flat: flat,
-    }
+    Ran { driven, flat }
 }
 
 // A fresh start, then rounds to the run's end, and how many there were.

@@ -2,12 +2,15 @@
 // and collecting for one of them, to which the other's records are lent only to read; and the view of a processor's
 // memory.
 ghost use Rattle.std.specs.Prelude.{◌≡◌};
+ghost use Rattle.base.specs.Refusals.{code};
 ghost use Rattle.machine.specs.Runs.{turn_of, delivery_of};
 ghost use Rattle.tenants.specs.Tenants.{sources_of};
 ghost use Rattle.calls.specs.Gave.{areas_of, lent_areas_of, sharing_areas_of, TenantGave, TenantCollectGave, FreshBothGave, ViewGave};
 ghost use Rattle.calls.specs.View.{no_view};
 
+use base::refusal::{Refusal, number_of};
 use records::Progress;
+use sharing::view::inner::view_at;
 
 // One turn of a processor for a tenant.
 #[unsafe(no_mangle)]
@@ -34,8 +37,7 @@ pub extern "C" fn rolwyddac_tenant_turn(
     let after = sharing::inner::turn(
         encoded, route, source, memories, buffer, own, status, engaged, theirs, tenant, processor,
     );
-    records::put(progress, after.number, processor, after.progress);
-    after.number
+    records::put(progress, processor, after)
 }
 
 // The delivery of a message for a tenant.
@@ -60,9 +62,9 @@ pub extern "C" fn rolwyddac_tenant_deliver(
 {
     let own = records::flatten(progress);
     let theirs = records::flatten(other);
-    sharing::inner::deliver(
+    number_of(&sharing::inner::deliver(
         encoded, route, source, memories, buffer, own, status, engaged, theirs, tenant, message,
-    )
+    ))
 }
 
 // A tenant's grid, once all processors have finished for it.
@@ -86,9 +88,9 @@ pub extern "C" fn rolwyddac_tenant_collect(
 {
     let own = records::flatten(progress);
     let theirs = records::flatten(other);
-    sharing::inner::collect(
+    number_of(&sharing::inner::collect(
         encoded, route, source, memories, buffer, own, status, engaged, theirs, tenant, grid,
-    )
+    ))
 }
 
 // A fresh start of both tenants together.
@@ -119,7 +121,7 @@ pub extern "C" fn rolwyddac_fresh_both(
 {
     let first_words = 3 * first_progress.len();
     let second_words = 3 * second_progress.len();
-    let number = sharing::inner::fresh(
+    let number = number_of(&sharing::inner::fresh(
         encoded,
         route,
         first_source,
@@ -133,7 +135,7 @@ pub extern "C" fn rolwyddac_fresh_both(
         second_words,
         second_status,
         engaged,
-    );
+    ));
     records::clear(first_progress, number);
     records::clear(second_progress, number);
     number
@@ -148,11 +150,11 @@ pub struct Viewed {
     pub length: u32,
 }
 
-fn no_view(number: u32) -> Viewed
-    ensures { result ≡ no_view number }
+fn no_view(refusal: Refusal) -> Viewed
+    ensures { result ≡ no_view (code refusal) }
 {
     Viewed {
-        number: number,
+        number: refusal.number(),
         begin: 0,
         length: 0,
     }
@@ -169,14 +171,12 @@ pub extern "C" fn rolwyddac_view(
 ) -> Viewed
     ensures { ViewGave encoded.now first.now second.now tenant processor result }
 {
-    let seen = sharing::view::inner::view_at(encoded, first.len(), second.len(), tenant, processor);
-    let number = seen.number;
-    if number != 0 {
-        return no_view(number);
-    }
-    Viewed {
-        number: 0,
-        begin: seen.start as u32,
-        length: seen.words as u32,
+    match view_at(encoded, first.len(), second.len(), tenant, processor) {
+        Ok(seen) => Viewed {
+            number: 0,
+            begin: seen.start as u32,
+            length: seen.words as u32,
+        },
+        Err(refusal) => no_view(refusal),
     }
 }

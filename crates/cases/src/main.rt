@@ -9,6 +9,7 @@ mod numbers; // numbers.rt: labelled recipes, each one's number
 mod recipes; // recipes.rt: recipes, each one's plan or its sweeps compared
 mod script; // script.rt: calls on areas, each one's number and a checksum of the areas
 
+use crate::recipes::Printing;
 use std::rt::Files;
 use std::{fs, io};
 
@@ -37,8 +38,8 @@ fn main(rt: HostRuntime) -> io::Result<()> {
     let numbers_end = read_file(&rt, "numbers", &mut space);
     numbers::show_all(&rt, &space[..numbers_end])?;
     let plans_end = read_file(&rt, "plans", &mut space);
-    recipes::print_cases(&rt, &space[..plans_end], false)?;
+    recipes::print_cases(&rt, &space[..plans_end], Printing::Plan)?;
     let sweeps_end = read_file(&rt, "sweeps", &mut space);
-    recipes::print_cases(&rt, &space[..sweeps_end], true)?;
+    recipes::print_cases(&rt, &space[..sweeps_end], Printing::Sweeps)?;
     script::run_file(&rt, "script")
 }

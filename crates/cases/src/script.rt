@@ -1,6 +1,6 @@
 // Carries out the file `script`, records of 16 bytes, on areas of its own: each call's number is printed with a checksum of every
 // word that was lent. tools/README.md has the format.
-ghost use Rattle.program_io.specs.Counts.{IsPrefixLen};
+ghost use Rattle.std.specs.Prelude.{◌≤◌};
 
 use crate::recipes::print_head;
 use records::RECORD_WORDS;
@@ -8,9 +8,190 @@ use std::io::Read;
 use std::rt::Files;
 use std::{fs, io};
 
-// The areas, and what of each is lent: lent[0] is the recipe's length in bytes, lent[1] to lent[6] those of the areas; lent[7] is the
-// route of calls. They go from function to function by value.
+// ---- records
+
+// The rule by which an area is filled: each word the same, one more than the last, drawn, or two bits of what is drawn.
 #[derive(Clone, Copy)]
+enum Rule {
+    Same,
+    Rising,
+    Drawn,
+    TwoBits,
+}
+
+impl Rule {
+    fn of(byte: u8) -> Rule {
+        match byte {
+            0 => Rule::Same,
+            1 => Rule::Rising,
+            3 => Rule::TwoBits,
+            _ => Rule::Drawn,
+        }
+    }
+
+    // The generator's next value.
+    fn next(self, x: u32) -> u32 {
+        match self {
+            Rule::Same => x,
+            Rule::Rising => x.wrapping_add(1),
+            Rule::Drawn | Rule::TwoBits => x.wrapping_mul(1664525).wrapping_add(1013904223),
+        }
+    }
+
+    // The word made of it.
+    fn word(self, x: u32) -> u32 {
+        match self {
+            Rule::TwoBits => x >> 30,
+            _ => x,
+        }
+    }
+}
+
+// What is done with the lent words of an area.
+#[derive(Clone, Copy)]
+enum Change {
+    Fill(Rule, u32),
+    Poke(u32, u32),
+    Show,
+}
+
+#[derive(Clone, Copy)]
+enum Call {
+    Fresh,
+    Turn(u32),
+    Deliver(u32),
+    Collect,
+    Sweep,
+}
+
+// What a record asks for.
+#[derive(Clone, Copy)]
+enum Action {
+    Begin(u32),
+    Recipe(u32),
+    Lend(u8, u32),
+    Route(u32),
+    Change(u8, Change),
+    Call(Call),
+}
+
+// A record: what to do, on which area, by which rule, a byte that is not heeded, and two words.
+fn action_of(record: &[u8; 16]) -> Action {
+    let area = record[1];
+    let a = base::word_at(record, 4);
+    let b = base::word_at(record, 8);
+    match record[0] {
+        1 => Action::Begin(a),
+        2 => Action::Recipe(a),
+        3 => Action::Lend(area, a),
+        4 => Action::Change(area, Change::Fill(Rule::of(record[2]), a)),
+        5 => Action::Change(area, Change::Poke(a, b)),
+        6 => Action::Call(Call::Fresh),
+        7 => Action::Call(Call::Turn(a)),
+        8 => Action::Call(Call::Deliver(a)),
+        9 => Action::Call(Call::Collect),
+        11 => Action::Change(area, Change::Show),
+        12 => Action::Route(a),
+        _ => Action::Call(Call::Sweep),
+    }
+}
+
+// ---- an area's words
+
+// How much of an area of `len` words is lent, by the number that the script has.
+fn front(lent: u32, len: usize) -> usize
+    ensures { result ≤ len }
+{
+    (lent as usize).min(len)
+}
+
+fn fill(words: &mut [u32], rule: Rule, start: u32) {
+    let mut x = start;
+    for word in words.iter_mut() {
+        x = rule.next(x);
+        *word = rule.word(x);
+    }
+}
+
+fn show(rt: &impl Print, words: &[u32]) -> io::Result<()> {
+    for word in words {
+        print!(rt; "{word} ")?;
+    }
+    println!(rt)
+}
+
+fn apply(rt: &impl Print, area: &mut [u32], lent: u32, change: Change) -> io::Result<()> {
+    let n = front(lent, area.len());
+    let words = &mut area[..n];
+    match change {
+        Change::Fill(rule, start) => fill(words, rule, start),
+        Change::Poke(at, word) => {
+            if let Some(place) = words.get_mut(at as usize) {
+                *place = word;
+            }
+        }
+        Change::Show => show(rt, words)?,
+    }
+    Ok(())
+}
+
+// ---- checksum
+
+fn fold(h: u32, x: u32) -> u32 {
+    h.wrapping_mul(16777619).wrapping_add(x)
+}
+
+// An area's length as lent, then its words.
+fn fold_words(h: u32, words: &[u32], lent: u32) -> u32 {
+    let n = front(lent, words.len());
+    words[..n].iter().fold(fold(h, lent), |h, x| fold(h, *x))
+}
+
+// ---- the areas
+
+// How much of each area is lent, the recipe's in bytes; and the route of calls.
+#[derive(Clone, Copy)]
+struct Lent {
+    recipe: u32,
+    source: u32,
+    memories: u32,
+    buffer: u32,
+    progress: u32,
+    status: u32,
+    grid: u32,
+    route: u32,
+}
+
+impl Lent {
+    fn nothing() -> Lent {
+        Lent {
+            recipe: 0,
+            source: 0,
+            memories: 0,
+            buffer: 0,
+            progress: 0,
+            status: 0,
+            grid: 0,
+            route: 0,
+        }
+    }
+
+    fn set(&mut self, area: u8, words: u32) {
+        match area {
+            0 => self.recipe = words,
+            1 => self.source = words,
+            2 => self.memories = words,
+            3 => self.buffer = words,
+            4 => self.progress = words,
+            5 => self.status = words,
+            6 => self.grid = words,
+            7 => self.route = words,
+            _ => {}
+        }
+    }
+}
+
+#[derive(Drop)]
 struct Areas {
     recipe: [u8; 512],
     source: [u32; 1024],
@@ -19,356 +200,103 @@ struct Areas {
     progress: [u32; RECORD_WORDS],
     status: [u8; 7168],
     grid: [u32; 1024],
-    lent: [u32; 8],
+    lent: Lent,
 }
 
-// How much of an area is lent, by the number that the script has.
-fn front(words: &[u32], lent: u32) -> usize
-    ensures { IsPrefixLen result words.now }
-{
-    program_io::front(words, program_io::as_index(lent))
-}
-
-fn front_bytes(bytes: &[u8], lent: u32) -> usize
-    ensures { IsPrefixLen result bytes.now }
-{
-    program_io::front_bytes(bytes, program_io::as_index(lent))
-}
-
-// ---- rules by which areas are filled
-
-// The generator's next value by a rule: 0 the same, 1 one more, 2 and 3 drawn.
-fn next_by(rule: u8, x: u32) -> u32 {
-    let from = x as u64;
-    let next = match rule {
-        0 => from,
-        1 => from + 1,
-        _ => from * 1664525 + 1013904223,
-    };
-    (next % 4294967296) as u32
-}
-
-// The word made of it: by rule 3 its two upper bits.
-fn word_by(rule: u8, x: u32) -> u32 {
-    if rule == 3 { x / 1073741824 } else { x }
-}
-
-fn fill(words: &mut [u32], rule: u8, a: u32) {
-    let mut x = a;
-    let mut i: usize = 0;
-    while i < words.len() {
-        x = next_by(rule, x);
-        words[i] = word_by(rule, x);
-        i += 1;
+impl Areas {
+    // Over all words lent, area by area.
+    fn checksum(&self) -> u32 {
+        let lent = self.lent;
+        let h = fold_words(2166136261, &self.source, lent.source);
+        let h = fold_words(h, &self.memories, lent.memories);
+        let h = fold_words(h, &self.buffer, lent.buffer);
+        let h = fold_words(h, &self.progress, lent.progress);
+        let h = fold_words(h, &self.status.map(u32::from), lent.status);
+        fold_words(h, &self.grid, lent.grid)
     }
-}
 
-fn poke(words: &mut [u32], at: u32, word: u32) {
-    let i = at as usize;
-    if i < words.len() {
-        words[i] = word;
-    }
-}
-
-// ---- bytes of status as words, and back
-
-fn widened(bytes: [u8; 7168]) -> [u32; 7168] {
-    let mut words = [0u32; 7168];
-    let mut i: usize = 0;
-    while i < 7168 {
-        words[i] = program_io::of_byte(bytes[i]);
-        i += 1;
-    }
-    words
-}
-
-fn narrowed(words: [u32; 7168]) -> [u8; 7168] {
-    let mut bytes = [0u8; 7168];
-    let mut i: usize = 0;
-    while i < 7168 {
-        bytes[i] = (words[i] % 256) as u8;
-        i += 1;
-    }
-    bytes
-}
-
-// ---- checksum
-
-fn fold(h: u32, x: u32) -> u32 {
-    ((h as u64 * 16777619 + x as u64) % 4294967296) as u32
-}
-
-// An area's length as lent, then its words.
-fn fold_words(start: u32, words: &[u32], lent: u32) -> u32 {
-    let n = front(words, lent);
-    let mut h = fold(start, lent);
-    let mut i: usize = 0;
-    while i < n {
-        h = fold(h, words[i]);
-        i += 1;
-    }
-    h
-}
-
-// Over all words lent, area by area.
-fn checksum(areas: Areas) -> u32 {
-    let lent = areas.lent;
-    let source = areas.source;
-    let memories = areas.memories;
-    let buffer = areas.buffer;
-    let progress = areas.progress;
-    let bytes = areas.status;
-    let status = widened(bytes);
-    let grid = areas.grid;
-    let h1 = fold_words(2166136261, &source, lent[1]);
-    let h2 = fold_words(h1, &memories, lent[2]);
-    let h3 = fold_words(h2, &buffer, lent[3]);
-    let h4 = fold_words(h3, &progress, lent[4]);
-    let h5 = fold_words(h4, &status, lent[5]);
-    fold_words(h5, &grid, lent[6])
-}
-
-// ---- printing
-
-fn print_end(rt: &impl Print) -> io::Result<()> {
-    println!(rt)
-}
-
-fn print_answer(rt: &impl Print, number: u32, sum: u32) -> io::Result<()> {
-    println!(rt; "{number} {sum:08x}")
-}
-
-fn print_word(rt: &impl Print, word: u32) -> io::Result<()> {
-    print!(rt; "{word} ")
-}
-
-fn show(rt: &impl Print, words: &[u32]) -> io::Result<()> {
-    for word in words {
-        print_word(rt, *word)?;
-    }
-    print_end(rt)
-}
-
-// ---- records: what each does
-
-// A record: what to do, on which area (0 for a call), by which rule, and two words.
-#[derive(Clone, Copy)]
-struct Record {
-    op: u8,
-    area: u32,
-    rule: u8,
-    a: u32,
-    b: u32,
-}
-
-fn record_of(bytes: [u8; 16]) -> Record {
-    Record {
-        op: bytes[0],
-        area: program_io::of_byte(bytes[1]),
-        rule: bytes[2],
-        a: program_io::word(&bytes, 4),
-        b: program_io::word(&bytes, 8),
-    }
-}
-
-// Records 4, 5 and 11, on the lent words of one area.
-fn change(rt: &impl Print, words: &mut [u32], lent: u32, record: Record) -> io::Result<()> {
-    let n = front(words, lent);
-    let op = record.op;
-    match op {
-        4 => fill(&mut words[..n], record.rule, record.a),
-        5 => poke(&mut words[..n], record.a, record.b),
-        _ => show(rt, &words[..n])?,
-    }
-    Ok(())
-}
-
-// The same on the bytes of status.
-fn changed_bytes(
-    rt: &impl Print,
-    bytes: [u8; 7168],
-    lent: u32,
-    record: Record,
-) -> io::Result<[u8; 7168]> {
-    let mut words = widened(bytes);
-    change(rt, &mut words, lent, record)?;
-    Ok(narrowed(words))
-}
-
-// The same on the area that the record names.
-fn changed(rt: &impl Print, before: Areas, record: Record) -> io::Result<Areas> {
-    let mut areas = before;
-    let lent = before.lent;
-    let area = record.area;
-    match area {
-        1 => {
-            let mut source = before.source;
-            change(rt, &mut source, lent[1], record)?;
-            areas.source = source;
-        }
-        2 => {
-            let mut memories = before.memories;
-            change(rt, &mut memories, lent[2], record)?;
-            areas.memories = memories;
-        }
-        3 => {
-            let mut buffer = before.buffer;
-            change(rt, &mut buffer, lent[3], record)?;
-            areas.buffer = buffer;
-        }
-        4 => {
-            let mut progress = before.progress;
-            change(rt, &mut progress, lent[4], record)?;
-            areas.progress = progress;
-        }
-        5 => {
-            let bytes = before.status;
-            let status = changed_bytes(rt, bytes, lent[5], record)?;
-            areas.status = status;
-        }
-        _ => {
-            let mut grid = before.grid;
-            change(rt, &mut grid, lent[6], record)?;
-            areas.grid = grid;
+    fn change(&mut self, rt: &impl Print, area: u8, what: Change) -> io::Result<()> {
+        let lent = self.lent;
+        match area {
+            1 => apply(rt, &mut self.source, lent.source, what),
+            2 => apply(rt, &mut self.memories, lent.memories, what),
+            3 => apply(rt, &mut self.buffer, lent.buffer, what),
+            4 => apply(rt, &mut self.progress, lent.progress, what),
+            5 => {
+                let mut words = self.status.map(u32::from);
+                apply(rt, &mut words, lent.status, what)?;
+                self.status = words.map(|word| (word % 256) as u8);
+                Ok(())
+            }
+            _ => apply(rt, &mut self.grid, lent.grid, what),
         }
     }
-    Ok(areas)
-}
 
-// Records 8 to 10, which leave memories, buffer and records as they are.
-fn tell(
-    encoded: &[u8],
-    route: u32,
-    source: &[u32],
-    memories: &[u32],
-    buffer: &[u32],
-    progress: &[u32],
-    status: &mut [u8],
-    grid: &mut [u32],
-    op: u8,
-    a: u32,
-) -> u32 {
-    match op {
-        8 => engine::deliver(
-            encoded, route, source, memories, buffer, progress, status, a,
-        ),
-        9 => engine::collect(
-            encoded, route, source, memories, buffer, progress, status, grid,
-        ),
-        _ => engine::sweep(encoded, source, grid),
+    // A call's number, on the parts that are lent.
+    fn answer(&mut self, call: Call) -> u32 {
+        let lent = self.lent;
+        let route = lent.route;
+        let encoded = &self.recipe[..front(lent.recipe, 512)];
+        let source = &self.source[..front(lent.source, 1024)];
+        let memories = &mut self.memories[..];
+        let memories = &mut memories[..front(lent.memories, 4096)];
+        let buffer = &mut self.buffer[..];
+        let buffer = &mut buffer[..front(lent.buffer, 7168)];
+        let progress = &mut self.progress[..];
+        let progress = &mut progress[..front(lent.progress, RECORD_WORDS)];
+        let status = &mut self.status[..];
+        let status = &mut status[..front(lent.status, 7168)];
+        let grid = &mut self.grid[..];
+        let grid = &mut grid[..front(lent.grid, 1024)];
+        match call {
+            Call::Fresh => engine::fresh(
+                encoded, route, source, memories, buffer, progress, status,
+            ),
+            Call::Turn(processor) => engine::turn(
+                encoded, route, source, memories, buffer, progress, status, processor,
+            ),
+            Call::Deliver(message) => engine::deliver(
+                encoded, route, source, memories, buffer, progress, status, message,
+            ),
+            Call::Collect => engine::collect(
+                encoded, route, source, memories, buffer, progress, status, grid,
+            ),
+            Call::Sweep => engine::sweep(encoded, source, grid),
+        }
     }
-}
 
-// Records 6 to 10, on the areas as lent.
-fn answer(
-    encoded: &[u8],
-    route: u32,
-    source: &[u32],
-    memories: &mut [u32],
-    buffer: &mut [u32],
-    progress: &mut [u32],
-    status: &mut [u8],
-    grid: &mut [u32],
-    op: u8,
-    a: u32,
-) -> u32 {
-    match op {
-        6 => engine::fresh(encoded, route, source, memories, buffer, progress, status),
-        7 => engine::turn(
-            encoded, route, source, memories, buffer, progress, status, a,
-        ),
-        _ => tell(
-            encoded, route, source, memories, buffer, progress, status, grid, op, a,
-        ),
+    // A call, and the line that tells of it.
+    fn call(&mut self, rt: &impl Print, call: Call) -> io::Result<()> {
+        let number = self.answer(call);
+        let sum = self.checksum();
+        println!(rt; "{number} {sum:08x}")
     }
-}
 
-// A call on the parts that are lent, and the line that tells of it.
-fn called(rt: &impl Print, before: Areas, op: u8, a: u32) -> io::Result<Areas> {
-    let lent = before.lent;
-    let recipe = before.recipe;
-    let source = before.source;
-    let mut memories = before.memories;
-    let mut buffer = before.buffer;
-    let mut progress = before.progress;
-    let mut status = before.status;
-    let mut grid = before.grid;
-    let g = front(&grid, lent[6]);
-    let t = front_bytes(&status, lent[5]);
-    let p = front(&progress, lent[4]);
-    let b = front(&buffer, lent[3]);
-    let m = front(&memories, lent[2]);
-    let s = front(&source, lent[1]);
-    let e = front_bytes(&recipe, lent[0]);
-    let number = answer(
-        &recipe[..e],
-        lent[7],
-        &source[..s],
-        &mut memories[..m],
-        &mut buffer[..b],
-        &mut progress[..p],
-        &mut status[..t],
-        &mut grid[..g],
-        op,
-        a,
-    );
-    let mut areas = before;
-    areas.memories = memories;
-    areas.buffer = buffer;
-    areas.progress = progress;
-    areas.status = status;
-    areas.grid = grid;
-    print_answer(rt, number, checksum(areas))?;
-    Ok(areas)
-}
+    // The recipe's bytes follow the record, filled up to whole records.
+    fn read_recipe(&mut self, file: &mut impl Read, length: u32) {
+        self.lent.recipe = length;
+        let padded = (length as usize).next_multiple_of(16).min(512);
+        program_io::read_full(file, &mut self.recipe[..padded]);
+    }
 
-// ---- what is lent
-
-// Record 3: as many words of an area are lent.
-fn lend(before: Areas, area: u32, words: u32) -> Areas {
-    let mut areas = before;
-    let mut lent = before.lent;
-    poke(&mut lent, area, words);
-    areas.lent = lent;
-    areas
-}
-
-// Record 1: a case begins with nothing lent.
-fn begun(rt: &impl Print, before: Areas, number: u32) -> io::Result<Areas> {
-    let mut areas = before;
-    areas.lent = [0u32; 8];
-    print_head(rt, number as u64)?;
-    Ok(areas)
-}
-
-// Record 2: the recipe's bytes follow, filled up to whole records.
-fn with_recipe(file: &mut impl Read, before: Areas, length: u32) -> Areas {
-    let mut areas = lend(before, 0, length);
-    let mut recipe = before.recipe;
-    let padded = (program_io::as_index(length) + 15) / 16 * 16;
-    let n = program_io::front_bytes(&recipe, padded);
-    program_io::read_full(file, &mut recipe[..n]);
-    areas.recipe = recipe;
-    areas
-}
-
-// One record.
-fn carried_out(
-    rt: &impl Print,
-    file: &mut impl Read,
-    areas: Areas,
-    record: Record,
-) -> io::Result<Areas> {
-    let op = record.op;
-    match op {
-        1 => begun(rt, areas, record.a),
-        2 => Ok(with_recipe(file, areas, record.a)),
-        3 => Ok(lend(areas, record.area, record.a)),
-        12 => Ok(lend(areas, 7, record.a)),
-        4 => changed(rt, areas, record),
-        5 => changed(rt, areas, record),
-        11 => changed(rt, areas, record),
-        _ => called(rt, areas, op, record.a),
+    fn carry_out(
+        &mut self,
+        rt: &impl Print,
+        file: &mut impl Read,
+        action: Action,
+    ) -> io::Result<()> {
+        match action {
+            Action::Begin(number) => {
+                self.lent = Lent::nothing();
+                print_head(rt, u64::from(number))?;
+            }
+            Action::Recipe(length) => self.read_recipe(file, length),
+            Action::Lend(area, words) => self.lent.set(area, words),
+            Action::Route(route) => self.lent.route = route,
+            Action::Change(area, what) => self.change(rt, area, what)?,
+            Action::Call(call) => self.call(rt, call)?,
+        }
+        Ok(())
     }
 }
 
@@ -376,21 +304,21 @@ fn carried_out(
 // no file has.
 fn run(rt: &impl Print, file: &mut impl Read) -> io::Result<()> {
     let mut areas = Areas {
-        recipe: [0u8; 512],
-        source: [0u32; 1024],
-        memories: [0u32; 4096],
-        buffer: [0u32; 7168],
-        progress: [0u32; RECORD_WORDS],
-        status: [0u8; 7168],
-        grid: [0u32; 1024],
-        lent: [0u32; 8],
+        recipe: [0; 512],
+        source: [0; 1024],
+        memories: [0; 4096],
+        buffer: [0; 7168],
+        progress: [0; RECORD_WORDS],
+        status: [0; 7168],
+        grid: [0; 1024],
+        lent: Lent::nothing(),
     };
-    let mut bytes = [0u8; 16];
+    let mut record = [0u8; 16];
     for _ in 0..u64::MAX {
-        if program_io::read_full(file, &mut bytes) != 16 {
+        if program_io::read_full(file, &mut record) != 16 {
             break;
         }
-        areas = carried_out(rt, file, areas, record_of(bytes))?;
+        areas.carry_out(rt, file, action_of(&record))?;
     }
     Ok(())
 }

@@ -13,7 +13,11 @@ use mir.Syntax.{w32}
 use mir.Val.{SFits, to_z, of_z}
 use mir.ValLaws.{to_z-of_z}
 use borrow.Author.Tests.{eqb-true, eq-eqb, ne_eqb, lt-ltb, le-ltb}
+use Rattle.std.specs.Prelude.{Result, Ok, Err, IfOk, OnErr, MatchResult}
 use Rattle.base.specs.Tests.{◌or◌, not, pick}
+use Rattle.base.specs.declared.refusal.Refusal.{Refusal}
+use Rattle.base.specs.Refusals.{code, number_of}
+use Rattle.base.proofs.Codes.{code_some}
 use Rattle.base.specs.Numbers.{Line, line, first_of}
 use Rattle.base.proofs.Tests.{or_left, or_right, or_false, not-true, not-false, true_not, neither}
 use Rattle.base.proofs.Numbers.{Numbered, first_true, first_false, first_some, first_behind, none_first}
@@ -21,31 +25,27 @@ pub use Rattle.base.proofs.Numbers.{none_front, none_behind}
 use Rattle.text.specs.Writing.{Pen, pen, write}
 use Rattle.text.proofs.Pens.{write_at, write_front}
 use Rattle.nest.specs.declared.Nest.{Nest}
-use Rattle.nest.specs.declared.Reading.{Reading}
 use Rattle.nest.specs.Nest.{length_of, cells}
-use Rattle.nest.specs.Reader.{read_lines, nest_of, reading_of}
+use Rattle.nest.specs.Reader.{read_lines, nest_of, Reads}
 use Rattle.nest.proofs.Numbered.{numbered}
-use Rattle.nest.proofs.Answers.{number_read, nest_read}
+use Rattle.nest.proofs.Answers.{nest_read, refused_read}
 use Rattle.chart.specs.declared.Told.{Told}
 use Rattle.chart.specs.grid_text.Text.{chart_text}
 use Rattle.chart.specs.Call.{not_charted, wrong_grid, measure_lines, told_of, length_lines, length_call, write_lines, Written, written, written_if, write_call}
 use Rattle.chart.proofs.grid_text.Lengths.{cells_are}
 
--- what `tell` promises
-abbrev pub Tells : Told → ℕ → ℕ → Type 0
-Tells r n l = (r.number ≡ n) × (r.length ≡ l)
-
 same_told : (a b c d : ℕ) → a ≡ b → c ≡ d → ◌≡◌ {A = Told} (record { number = a; length = c }) (record { number = b; length = d })
 same_told a b c d p q = rw (p, q)
 
-told_no : (r : Told) (n : ℕ) (text : List ℕ) → n ≢ 0 → Tells r n 0 → r ≡ told_of n text
+told_no : (r : Told) (n : ℕ) (text : List ℕ) → n ≢ 0 → r.number ≡ n → r.length ≡ 0 → r ≡ told_of n text
 unfolding told_of
-told_no r zero text h t = absurd (h refl)
-told_no r (suc n) text h t = same_told r.number (suc n) r.length 0 t.0 t.1
+told_no r zero text h p q = absurd (h refl)
+told_no r (suc n) text h p q = same_told r.number (suc n) r.length 0 p q
 
-told_yes : (r : Told) (text : List ℕ) → Tells r 0 (length text) → r ≡ told_of 0 text
+told_yes : (r : Told) (n : ℕ) (text : List ℕ) → n ≡ 0 → r.number ≡ n → r.length ≡ length text → r ≡ told_of n text
 unfolding told_of
-told_yes r text t = same_told r.number 0 r.length (length text) t.0 t.1
+told_yes r zero text e p q = same_told r.number 0 r.length (length text) p q
+told_yes r (suc n) text e p q = absurd (omega arith)
 
 number_told : (n : ℕ) (text : List ℕ) → (told_of n text).number ≡ n
 unfolding told_of
@@ -57,100 +57,116 @@ unfolding told_of
 length_told zero text e = refl
 length_told (suc n) text e = absurd (omega arith)
 
+-- ---- what `tell` makes of an answer
+
+abbrev pub Tells : Told → Result ℕ Refusal → Type 0
+Tells t answer = MatchResult answer (λ n. t.length ≡ n) (λ _. t.length ≡ 0)
+
+told_is : (text : List ℕ) (k : ℕ) (answer : Result ℕ Refusal) (t : Told) → t.number ≡ number_of answer → Tells t answer → number_of answer ≡ k
+    → IfOk answer (λ n. n ≡ length text) → t ≡ told_of k text
+told_is text k (Ok n) t a b e h = told_yes t k text (sym e) (a ∙ e) (b ∙ h)
+told_is text k (Err r) t a b e h = told_no t k text (λ z. code_some r (e ∙ z)) (a ∙ e) b
+
 -- ---- lines 23 and 9 of a nest
 
-module _ (nest : Nest) (g : List ℕ) (x y : ℤ) (size : ℕ) (r : Told) where
-  abbrev Measured : Type 0
-  Measured = r ≡ told_of (first_of (measure_lines nest g size)) (chart_text nest g x y size)
+module _ (nest : Nest) (g : List ℕ) (size : ℕ) where
+  line_23 : not_charted nest size ≡ true → 23 ≡ first_of (measure_lines nest g size)
+  line_23 e = sym (first_true 23 _ _ e)
 
-  by_line : (n : ℕ) → n ≢ 0 → Tells r n 0 → first_of (measure_lines nest g size) ≡ n → Measured
-  by_line n h t e = told_no r n _ h t ∙ ap (λ (k : ℕ). told_of k (chart_text nest g x y size)) (sym e)
-
-  line_23 : Tells r 23 0 → not_charted nest size ≡ true → Measured
-  line_23 t e = by_line 23 (λ q. omega arith) t (first_true 23 _ _ e)
-
-  pub not_flat : Tells r 23 0 → nest.dimensions ≢ 2 → Measured
+  pub not_flat : nest.dimensions ≢ 2 → 23 ≡ first_of (measure_lines nest g size)
   unfolding not_charted
-  not_flat t h = line_23 t (or_left _ (not-false (ne_eqb _ _ h)))
+  not_flat h = line_23 (or_left _ (not-false (ne_eqb _ _ h)))
 
-  pub size_zero : Tells r 23 0 → size ≡ 0 → Measured
+  pub size_zero : size ≡ 0 → 23 ≡ first_of (measure_lines nest g size)
   unfolding not_charted
-  size_zero t e = line_23 t (or_right _ (or_left _ (eq-eqb _ _ e)))
+  size_zero e = line_23 (or_right _ (or_left _ (eq-eqb _ _ e)))
 
-  pub size_large : Tells r 23 0 → 65535 < size → Measured
+  pub size_large : 65535 < size → 23 ≡ first_of (measure_lines nest g size)
   unfolding not_charted
-  size_large t h = line_23 t (or_right _ (or_right _ (lt-ltb _ _ h)))
+  size_large h = line_23 (or_right _ (or_right _ (lt-ltb _ _ h)))
 
-  module _ (flat : nest.dimensions ≡ 2) (some : size ≢ 0) (low : size ≤ 65535) where
-    charted : not_charted nest size ≡ false
-    unfolding not_charted
-    charted = or_false (not-true (eq-eqb _ _ flat)) (or_false (ne_eqb _ _ some) (le-ltb _ _ low))
-
-    pub grid_wrong : Tells r 9 0 → length g ≢ length_of nest 0 * length_of nest 1 → Measured
-    unfolding wrong_grid
-    grid_wrong t h =
-        by_line 9 (λ q. omega arith) t
-        (first_false 23 _ _ charted ∙ first_true 9 _ _ (not-false (ne_eqb _ _ (λ q. h (q ∙ cells_are nest flat)))))
-
+  module _ (flat : nest.dimensions ≡ 2) where
     pub grid_right : length g ≡ length_of nest 0 * length_of nest 1 → length g ≡ cells nest
     grid_right e = e ∙ sym (cells_are nest flat)
 
-    pub measured_all : length g ≡ length_of nest 0 * length_of nest 1 → (q : ℕ) (s t : List ℕ) → SFits w32 x → SFits w32 y
-        → pen q t ≡ write (pen 0 s) (chart_text nest g (to_z w32 (of_z w32 x)) (to_z w32 (of_z w32 y)) size) → Tells r 0 q → Measured
-    unfolding wrong_grid first_of
-    measured_all e q s t fx fy w k =
-        let w' : pen q t ≡ write (pen 0 s) (chart_text nest g x y size) = rw (to_z-of_z w32 x fx, to_z-of_z w32 y fy) at w in
-        let p : q ≡ length (chart_text nest g x y size) =
-        ap (λ (z : Pen). z.at) w' ∙ write_at (pen 0 s) (chart_text nest g x y size) ∙ omega arith in
-        let z : first_of (measure_lines nest g size) ≡ 0 =
-        first_false 23 (not_charted nest size) (line 9 (wrong_grid nest g) ∷ []) charted
-        ∙ first_false 9 (not (eqb (length g) (cells nest))) [] (not-true (eq-eqb _ _ (grid_right e))) in
-        told_yes r _ (k.0, k.1 ∙ p) ∙ ap (λ (n : ℕ). told_of n (chart_text nest g x y size)) (sym z)
+    module _ (some : size ≢ 0) (low : size ≤ 65535) where
+      charted : not_charted nest size ≡ false
+      unfolding not_charted
+      charted = or_false (not-true (eq-eqb _ _ flat)) (or_false (ne_eqb _ _ some) (le-ltb _ _ low))
 
--- where neither line holds, the nest has two dimensions and the grid one word a cell
-module _ (nest : Nest) (g : List ℕ) (size : ℕ) (text : List ℕ) (m : Told) (e : m ≡ told_of (first_of (measure_lines nest g size)) text) (z : m.number ≡ 0) where
-  lines_none : first_of (measure_lines nest g size) ≡ 0
-  lines_none = sym (number_told _ text) ∙ sym (ap (λ (t : Told). t.number) e) ∙ z
+      pub grid_wrong : length g ≢ length_of nest 0 * length_of nest 1 → 9 ≡ first_of (measure_lines nest g size)
+      unfolding wrong_grid
+      grid_wrong h =
+          sym (first_false 23 _ _ charted ∙ first_true 9 _ _ (not-false (ne_eqb _ _ (λ q. h (q ∙ cells_are nest flat)))))
 
-  first : (not_charted nest size ≡ false) × (first_of (line 9 (wrong_grid nest g) ∷ []) ≡ 0)
-  first = none_first 23 (not_charted nest size) (line 9 (wrong_grid nest g) ∷ []) (λ q. omega arith) lines_none
+      pub no_line : length g ≡ length_of nest 0 * length_of nest 1 → 0 ≡ first_of (measure_lines nest g size)
+      unfolding wrong_grid first_of
+      no_line e =
+          sym (first_false 23 (not_charted nest size) (line 9 (wrong_grid nest g) ∷ []) charted
+          ∙ first_false 9 (not (eqb (length g) (cells nest))) [] (not-true (eq-eqb _ _ (grid_right e))))
 
-  pub two : nest.dimensions ≡ 2
-  unfolding not_charted
-  two = eqb-true _ _ (true_not (neither first.0).0)
+  -- where neither line holds, the nest has two dimensions and the grid one word a cell
+  module _ (none : 0 ≡ first_of (measure_lines nest g size)) where
+    first : (not_charted nest size ≡ false) × (first_of (line 9 (wrong_grid nest g) ∷ []) ≡ 0)
+    first = none_first 23 (not_charted nest size) (line 9 (wrong_grid nest g) ∷ []) (λ q. omega arith) (sym none)
 
-  pub a_word_a_cell : length g ≡ cells nest
-  unfolding wrong_grid
-  a_word_a_cell = eqb-true _ _ (true_not (none_first 9 (not (eqb (length g) (cells nest))) [] (λ q. omega arith) first.1).0)
+    pub two : nest.dimensions ≡ 2
+    unfolding not_charted
+    two = eqb-true _ _ (true_not (neither first.0).0)
+
+    pub a_word_a_cell : length g ≡ cells nest
+    unfolding wrong_grid
+    a_word_a_cell = eqb-true _ _ (true_not (none_first 9 (not (eqb (length g) (cells nest))) [] (λ q. omega arith) first.1).0)
+
+-- the text that was put, with the corners as the machine reads them back
+module _ (nest : Nest) (g : List ℕ) (x y : ℤ) (size : ℕ) (q : ℕ) (s t : List ℕ) (fx : SFits w32 x) (fy : SFits w32 y)
+    (w : pen q t ≡ write (pen 0 s) (chart_text nest g (to_z w32 (of_z w32 x)) (to_z w32 (of_z w32 y)) size)) where
+  pub text_put : pen q t ≡ write (pen 0 s) (chart_text nest g x y size)
+  text_put = rw (to_z-of_z w32 x fx, to_z-of_z w32 y fy) at w
+
+  pub length_put : q ≡ length (chart_text nest g x y size)
+  length_put = ap (λ (z : Pen). z.at) text_put ∙ write_at (pen 0 s) (chart_text nest g x y size) ∙ omega arith
 
 -- ---- the reader's lines before them
 
-module _ (l : List ℕ) (r : Reading) (e : r ≡ reading_of l) where
-  behind : r.number ≡ 0 → (more : List Line) → first_of (read_lines l ++ more) ≡ first_of more
-  behind h more = first_behind (read_lines l) more (numbered l) (sym (number_read l r e) ∙ h)
+before : {l : List ℕ} {e : Refusal} → Reads l (Err e) → (more : List Line) → code e ≡ first_of (read_lines l ++ more)
+before {l = l} is more = is.number ∙ sym (first_some (read_lines l) more (refused_read is))
 
-  before : r.number ≢ 0 → (more : List Line) → first_of (read_lines l ++ more) ≡ r.number
-  before h more = first_some (read_lines l) more (λ q. h (number_read l r e ∙ q)) ∙ sym (number_read l r e)
+behind : {l : List ℕ} {nest : Nest} → Reads l (Ok nest) → (more : List Line) → first_of (read_lines l ++ more) ≡ first_of more
+behind {l = l} is more = first_behind (read_lines l) more (numbered l) (sym is.number)
 
-  module _ (g : List ℕ) (x y : ℤ) (size : ℕ) where
-    pub length_read : (t : Told) → r.number ≢ 0 → Tells t r.number 0 → t ≡ length_call l g x y size
-    unfolding length_call
-    length_read t h k =
-        told_no t r.number (chart_text (nest_of l) g x y size) h k
-        ∙ ap (λ (n : ℕ). told_of n (chart_text (nest_of l) g x y size)) (sym (before h _))
+pub length_read : {l : List ℕ} {e : Refusal} → Reads l (Err e) → (g : List ℕ) (size : ℕ) → code e ≡ first_of (length_lines l g size)
+length_read is g size = before is _
 
-    -- what `measured` told, with the corners as the machine reads them back
-    module _ (fx : SFits w32 x) (fy : SFits w32 y) (h : r.number ≡ 0) (t : Told)
-        (k : t ≡ told_of (first_of (measure_lines r.nest g size)) (chart_text r.nest g (to_z w32 (of_z w32 x)) (to_z w32 (of_z w32 y)) size)) where
-      told_is : t ≡ told_of (first_of (measure_lines (nest_of l) g size)) (chart_text (nest_of l) g x y size)
-      told_is =
-          let k' : t ≡ told_of (first_of (measure_lines r.nest g size)) (chart_text r.nest g x y size) =
-          rw (to_z-of_z w32 x fx, to_z-of_z w32 y fy) at k in
-          k' ∙ ap (λ (n : Nest). told_of (first_of (measure_lines n g size)) (chart_text n g x y size)) (nest_read l r e h)
+module _ {l : List ℕ} {nest : Nest} (is : Reads l (Ok nest)) (g : List ℕ) (size : ℕ) where
+  -- what `measured` answered
+  module _ (k : ℕ) (e : k ≡ first_of (measure_lines nest g size)) where
+    pub lines_of : k ≡ first_of (measure_lines (nest_of l) g size)
+    lines_of = e ∙ ap (λ (n : Nest). first_of (measure_lines n g size)) (nest_read is)
 
-      pub length_done : t ≡ length_call l g x y size
-      unfolding length_call
-      length_done = told_is ∙ ap (λ (n : ℕ). told_of n (chart_text (nest_of l) g x y size)) (sym (behind h _))
+    pub length_lines_of : k ≡ first_of (length_lines l g size)
+    length_lines_of = lines_of ∙ sym (behind is _)
+
+  module _ (x y : ℤ) (fx : SFits w32 x) (fy : SFits w32 y) where
+    text_is : chart_text nest g (to_z w32 (of_z w32 x)) (to_z w32 (of_z w32 y)) size ≡ chart_text (nest_of l) g x y size
+    text_is = rw (to_z-of_z w32 x fx, to_z-of_z w32 y fy) (ap (λ (n : Nest). chart_text n g x y size) (nest_read is))
+
+    pub text_length : (n : ℕ) → n ≡ length (chart_text nest g (to_z w32 (of_z w32 x)) (to_z w32 (of_z w32 y)) size)
+        → n ≡ length (chart_text (nest_of l) g x y size)
+    text_length n h = h ∙ ap length text_is
+
+    pub length_of_text : (answer : Result ℕ Refusal)
+        → IfOk answer (λ n. n ≡ length (chart_text nest g (to_z w32 (of_z w32 x)) (to_z w32 (of_z w32 y)) size))
+        → IfOk answer (λ n. n ≡ length (chart_text (nest_of l) g x y size))
+    length_of_text (Ok n) h = text_length n h
+    length_of_text (Err e) h = tt
+
+-- what `text_length` answered, told
+pub length_answer : (l g : List ℕ) (x y : ℤ) (size : ℕ) (answer : Result ℕ Refusal) (t : Told) → t.number ≡ number_of answer → Tells t answer
+    → number_of answer ≡ first_of (length_lines l g size) → IfOk answer (λ n. n ≡ length (chart_text (nest_of l) g x y size))
+    → t ≡ length_call l g x y size
+unfolding length_call
+length_answer l g x y size answer t a b e h = told_is (chart_text (nest_of l) g x y size) _ answer t a b e h
 
 -- ---- the text
 
@@ -178,66 +194,60 @@ module _ (a b c : Bool) where
       go false false c z true e = rw e
       go false false c z false e = rw e
 
-unwritten : (t : Told) (n : ℕ) (text s : List ℕ) → n ≢ 0 → Tells t n 0 → written t s ≡ written_if n text s
-unfolding written_if
-unwritten t zero text s h k = absurd (h refl)
-unwritten t (suc n) text s h k = ap (λ (z : Told). written z s) (told_no t (suc n) text h k)
+pub write_read : {l : List ℕ} {e : Refusal} → Reads l (Err e) → (g : List ℕ) (x y : ℤ) (size : ℕ) (s : List ℕ)
+    → code e ≡ first_of (write_lines l g x y size s)
+write_read is g x y size s = before is _
 
+module _ {l : List ℕ} {nest : Nest} (is : Reads l (Ok nest)) (g : List ℕ) (x y : ℤ) (size : ℕ) (s : List ℕ) where
+  abbrev its_text : List ℕ
+  its_text = chart_text (nest_of l) g x y size
+
+  pub write_fault : (r : Refusal) → code r ≡ first_of (measure_lines nest g size) → code r ≡ first_of (write_lines l g x y size s)
+  unfolding pair
+  write_fault r e =
+      let f = lines_of is g size (code r) e in
+      f
+      ∙ sym (behind is _ ∙ kept (not_charted (nest_of l) size) (wrong_grid (nest_of l) g) (ltb (length s) (length its_text)) (λ z. code_some r (f ∙ z)))
+
+  module _ (e : 0 ≡ first_of (measure_lines nest g size)) where
+    none : first_of (measure_lines (nest_of l) g size) ≡ 0
+    none = sym (lines_of is g size 0 e)
+
+    pub write_short : length s < length its_text → 9 ≡ first_of (write_lines l g x y size s)
+    unfolding pair pick
+    write_short h =
+        sym (behind is _
+        ∙ late (not_charted (nest_of l) size) (wrong_grid (nest_of l) g) (ltb (length s) (length its_text)) none true (lt-ltb (length s) (length its_text) h))
+
+    pub write_long : length its_text ≤ length s → 0 ≡ first_of (write_lines l g x y size s)
+    unfolding pair pick
+    write_long h =
+        sym (behind is _
+        ∙ late (not_charted (nest_of l) size) (wrong_grid (nest_of l) g) (ltb (length s) (length its_text)) none false (le-ltb (length s) (length its_text) h))
+
+  pub front_written : (fx : SFits w32 x) (fy : SFits w32 y) (q : ℕ) (t : List ℕ)
+      → pen q t ≡ write (pen 0 s) (chart_text nest g (to_z w32 (of_z w32 x)) (to_z w32 (of_z w32 y)) size) → length its_text ≤ length s
+      → t ≡ its_text ++ drop (length its_text) s
+  front_written fx fy q t w f =
+      let w' : pen q t ≡ write (pen 0 s) its_text = w ∙ ap (write (pen 0 s)) (text_is is g size x y fx fy) in
+      ap (λ (z : Pen). z.space) w' ∙ write_front s its_text f
+
+-- what `write_text` answered, told
 module _ (l g : List ℕ) (x y : ℤ) (size : ℕ) (s : List ℕ) where
-  abbrev text : List ℕ
-  text = chart_text (nest_of l) g x y size
+  abbrev told_text : List ℕ
+  told_text = chart_text (nest_of l) g x y size
 
-  refused : (t : Told) (n : ℕ) → n ≢ 0 → Tells t n 0 → first_of (write_lines l g x y size s) ≡ n → written t s ≡ write_call l g x y size s
-  unfolding write_call
-  refused t n h k e = unwritten t n text s h k ∙ ap (λ (m : ℕ). written_if m text s) (sym e)
-
-  module _ (r : Reading) (e : r ≡ reading_of l) where
-    pub write_read : (t : Told) → r.number ≢ 0 → Tells t r.number 0 → written t s ≡ write_call l g x y size s
-    write_read t h k = refused t r.number h k (before l r e h _)
-
-    module _ (fx : SFits w32 x) (fy : SFits w32 y) (h : r.number ≡ 0) (m : Told)
-        (k : m ≡ told_of (first_of (measure_lines r.nest g size)) (chart_text r.nest g (to_z w32 (of_z w32 x)) (to_z w32 (of_z w32 y)) size)) where
-      is : m ≡ told_of (first_of (measure_lines (nest_of l) g size)) text
-      is = told_is l r e g x y size fx fy h m k
-
-      number_is : m.number ≡ first_of (measure_lines (nest_of l) g size)
-      number_is = ap (λ (z : Told). z.number) is ∙ number_told _ text
-
-      pub write_fault : (t : Told) → m.number ≢ 0 → Tells t m.number 0 → written t s ≡ write_call l g x y size s
-      unfolding pair
-      write_fault t j q =
-          refused t m.number j q
-          (behind l r e h _
-          ∙ kept (not_charted (nest_of l) size) (wrong_grid (nest_of l) g) (ltb (length s) (length text)) (λ z. j (number_is ∙ z))
-          ∙ sym number_is)
-
-      module _ (j : m.number ≡ 0) where
-        none : first_of (measure_lines (nest_of l) g size) ≡ 0
-        none = sym number_is ∙ j
-
-        long : m.length ≡ length text
-        long = ap (λ (z : Told). z.length) is ∙ length_told _ text none
-
-        pub write_short : (t : Told) → length s < m.length → Tells t 9 0 → written t s ≡ write_call l g x y size s
-        unfolding pair pick
-        write_short t q w =
-            refused t 9 (λ z. omega arith) w
-            (behind l r e h _ ∙ late (not_charted (nest_of l) size) (wrong_grid (nest_of l) g) (ltb (length s) (length text)) none true
-            (lt-ltb (length s) (length text) (omega (arith, long))))
-
-        pub write_done : m.length ≤ length s → (q : ℕ) (t : List ℕ)
-            → pen q t ≡ write (pen 0 s) (chart_text r.nest g (to_z w32 (of_z w32 x)) (to_z w32 (of_z w32 y)) size)
-            → written m t ≡ write_call l g x y size s
-        unfolding write_call written_if pair pick
-        write_done f q t w =
-            let w₁ : pen q t ≡ write (pen 0 s) (chart_text r.nest g x y size) = rw (to_z-of_z w32 x fx, to_z-of_z w32 y fy) at w in
-            let w₂ : pen q t ≡ write (pen 0 s) text = w₁ ∙ ap (λ (n : Nest). write (pen 0 s) (chart_text n g x y size)) (nest_read l r e h) in
-            let u : t ≡ text ++ drop (length text) s = ap (λ (z : Pen). z.space) w₂ ∙ write_front s text (omega (arith, long, f)) in
-            let m' : m ≡ told_of 0 text = is ∙ ap (λ (n : ℕ). told_of n text) none in
-            let z : first_of (write_lines l g x y size s) ≡ 0 =
-            behind l r e h _ ∙ late (not_charted (nest_of l) size) (wrong_grid (nest_of l) g) (ltb (length s) (length text)) none false
-            (le-ltb (length s) (length text) (omega (arith, long, f))) in
-            ap (λ (o : Told). written o t) m' ∙ ap (written (told_of 0 text)) u ∙ ap (λ (n : ℕ). written_if n text s) (sym z)
+  pub write_told : (answer : Result ℕ Refusal) (t : Told) (u : List ℕ) → t.number ≡ number_of answer → Tells t answer
+      → number_of answer ≡ first_of (write_lines l g x y size s) → IfOk answer (λ n. n ≡ length told_text)
+      → IfOk answer (λ n. u ≡ told_text ++ drop n s) → OnErr answer (u ≡ s) → written t u ≡ write_call l g x y size s
+  unfolding write_call written_if
+  write_told (Ok n) t u a b e h k q =
+      rw (told_yes t 0 told_text refl a (b ∙ h), k, h, sym e) refl
+  write_told (Err r) t u a b e h k q = go (first_of (write_lines l g x y size s)) e
+    where
+      go : (m : ℕ) → code r ≡ m → written t u ≡ written_if m told_text s
+      go zero z = absurd (code_some r z)
+      go (suc m) z = rw (told_no t (suc m) told_text (λ o. omega (arith, o)) (a ∙ z) b, q) refl
 
 -- ---- what a caller has of the two calls
 

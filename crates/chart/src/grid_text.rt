@@ -71,10 +71,7 @@ fn shown(nest: Nest, i: usize, c: usize) -> Interval
 fn has(s: Interval, c: usize) -> bool
     ensures { result ≡ within s c }
 {
-    if c < s.from {
-        return false;
-    }
-    c < s.to
+    s.from <= c && c < s.to
 }
 
 // A cell: its value, or -9999 outside the shape.
@@ -96,11 +93,9 @@ fn put_more(space: &mut [u8], at: usize, grid: &[u32], s: Interval, c: usize, n:
     ensures { pen result space.new ≡ write (pen at space.old) (more grid.now (within s) c n) }
 {
     let mut place = at;
-    let mut j = 0;
-    while j < n {
+    for j in 0..n {
         let after = text::put(space, place, 32);
         place = put_cell(space, after, grid, s, c + j);
-        j += 1;
     }
     text::put(space, place, 10)
 }
@@ -124,12 +119,10 @@ fn put_rows(space: &mut [u8], at: usize, grid: &[u32], nest: Nest, n: usize, k: 
 {
     let mut place = at;
     let mut c = 0;
-    let mut i = 0;
-    while i < k {
+    for i in 0..k {
         let s = shown(nest, i, c);
         place = put_row(space, place, grid, s, c, n);
         c += n;
-        i += 1;
     }
     place
 }

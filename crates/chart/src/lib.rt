@@ -1,13 +1,16 @@
 // A grid's text for the charting desk (document 02, W-211), and its length: the calls, by the line that counts.
 #![tactic(auto)]
 
-ghost use Rattle.std.specs.Prelude.{◌≡◌};
+ghost use Rattle.std.specs.Prelude.{◌≡◌, ◌++◌, drop, length, IfOk, OnErr, MatchResult};
 ghost use Rattle.nest.specs.Accepted.{Accepted};
 ghost use Rattle.base.specs.Numbers.{first_of};
+ghost use Rattle.base.specs.Refusals.{number_of};
+ghost use Rattle.nest.specs.Reader.{nest_of};
 ghost use Rattle.chart.specs.grid_text.Text.{chart_text};
-ghost use Rattle.chart.specs.Call.{measure_lines, told_of, length_call, written, write_call};
+ghost use Rattle.chart.specs.Call.{measure_lines, length_lines, length_call, write_lines, written, write_call};
 
 use crate::grid_text::put_text;
+use base::refusal::Refusal;
 use nest::Nest;
 
 pub mod grid_text; // grid_text.rt: the text, row by row, put into a lent space; what falls past its end is counted alone
@@ -20,36 +23,67 @@ pub struct Told {
     pub length: u32,
 }
 
-fn tell(number: u32, length: u32) -> Told
-    ensures { (result.number ≡ number) × (result.length ≡ length) }
+// What C is told of the text's length, or of a refusal.
+fn tell(answer: Result<u32, Refusal>) -> Told
+    ensures number { result.number ≡ number_of answer }
+    ensures length { MatchResult answer (λ n. result.length ≡ n) (λ _. result.length ≡ 0) }
 {
-    Told {
-        number: number,
-        length: length,
+    match answer {
+        Ok(length) => Told { number: 0, length },
+        Err(refusal) => Told {
+            number: refusal.number(),
+            length: 0,
+        },
     }
 }
 
-// The number by lines 23 and 9, and the text's length.
-fn measured(nest: Nest, grid: &[u32], x: i32, y: i32, cell_size: u32) -> Told
+// The text's length, or line 23 or 9.
+fn measured(nest: Nest, grid: &[u32], x: i32, y: i32, cell_size: u32) -> Result<u32, Refusal>
     requires { Accepted nest }
-    ensures { result ≡ told_of (first_of (measure_lines nest grid.now cell_size)) (chart_text nest grid.now x y cell_size) }
+    ensures number { number_of result ≡ first_of (measure_lines nest grid.now cell_size) }
+    ensures length { IfOk result (λ n. n ≡ length (chart_text nest grid.now x y cell_size)) }
 {
-    if nest.dimensions != 2 {
-        return tell(23, 0);
+    if nest.dimensions != 2 || cell_size == 0 || cell_size > 65535 {
+        return Err(Refusal::NoChart);
     }
-    if cell_size == 0 {
-        return tell(23, 0);
-    }
-    if cell_size > 65535 {
-        return tell(23, 0);
-    }
-    let lengths = nest.lengths;
-    if grid.len() != lengths[0] * lengths[1] {
-        return tell(9, 0);
+    if grid.len() != nest.lengths[0] * nest.lengths[1] {
+        return Err(Refusal::Area);
     }
     let mut scratch = [0u8; 1];
     let length = put_text(&mut scratch, grid, nest, x, y, cell_size);
-    tell(0, length as u32)
+    Ok(length as u32)
+}
+
+// The same of a recipe's bytes, behind the reader's lines.
+fn text_length(encoded: &[u8], grid: &[u32], x: i32, y: i32, cell_size: u32) -> Result<u32, Refusal>
+    ensures number { number_of result ≡ first_of (length_lines encoded.now grid.now cell_size) }
+    ensures length { IfOk result (λ n. n ≡ length (chart_text (nest_of encoded.now) grid.now x y cell_size)) }
+{
+    let nest = reader::read(encoded)?;
+    measured(nest, grid, x, y, cell_size)
+}
+
+// The text put at the front of the space, and its length.
+fn write_text(
+    encoded: &[u8],
+    grid: &[u32],
+    x: i32,
+    y: i32,
+    cell_size: u32,
+    space: &mut [u8],
+) -> Result<u32, Refusal>
+    ensures number { number_of result ≡ first_of (write_lines encoded.now grid.now x y cell_size space.old) }
+    ensures length { IfOk result (λ n. n ≡ length (chart_text (nest_of encoded.now) grid.now x y cell_size)) }
+    ensures ok { IfOk result (λ n. space.new ≡ chart_text (nest_of encoded.now) grid.now x y cell_size ++ drop n space.old) }
+    ensures err { OnErr result (space.new ≡ space.old) }
+{
+    let nest = reader::read(encoded)?;
+    let length = measured(nest, grid, x, y, cell_size)?;
+    if space.len() < length as usize {
+        return Err(Refusal::Area);
+    }
+    put_text(space, grid, nest, x, y, cell_size);
+    Ok(length)
 }
 
 // ---- offered to callers
@@ -58,32 +92,12 @@ fn measured(nest: Nest, grid: &[u32], x: i32, y: i32, cell_size: u32) -> Told
 pub fn length_of(encoded: &[u8], grid: &[u32], x: i32, y: i32, cell_size: u32) -> Told
     ensures { result ≡ length_call encoded.now grid.now x y cell_size }
 {
-    let reading = reader::read(encoded);
-    let number = reading.number;
-    if number != 0 {
-        return tell(number, 0);
-    }
-    measured(reading.nest, grid, x, y, cell_size)
+    tell(text_length(encoded, grid, x, y, cell_size))
 }
 
 // The grid's text at the front of the space.
 pub fn write(encoded: &[u8], grid: &[u32], x: i32, y: i32, cell_size: u32, space: &mut [u8]) -> Told
     ensures { written result space.new ≡ write_call encoded.now grid.now x y cell_size space.old }
 {
-    let reading = reader::read(encoded);
-    let number = reading.number;
-    if number != 0 {
-        return tell(number, 0);
-    }
-    let measure = measured(reading.nest, grid, x, y, cell_size);
-    let fault = measure.number;
-    if fault != 0 {
-        return tell(fault, 0);
-    }
-    let length = measure.length as usize;
-    if space.len() < length {
-        return tell(9, 0);
-    }
-    put_text(space, grid, reading.nest, x, y, cell_size);
-    measure
+    tell(write_text(encoded, grid, x, y, cell_size, space))
 }

@@ -1,4 +1,5 @@
 -- Laws of the comparison: when two areas are the same, when a fresh start gives 0, each return, and that no recipe within the limits differs.
+use Rattle.std.specs.Prelude.{Ok}
 use Prim.Native.Nat.{ℕ, ◌+◌, ◌*◌, ◌≤◌, ◌<◌}
 use mathlib.Core.Path.{◌≡◌, refl, sym, ap, ◌∙◌}
 use mathlib.Core.Logic.{◌≢◌, ◌⊎◌, inl, inr}
@@ -20,12 +21,12 @@ use Rattle.base.proofs.Numbers.{first_false, first_behind, none_first, none_behi
 use Rattle.machine.specs.Plan.{count, words}
 use Rattle.machine.specs.Machine.{State, Answered, state_of, sweep}
 use Rattle.machine.specs.Runs.{Event, steps, total}
-use Rattle.nest.specs.declared.Reading.{Reading}
 use Rattle.nest.specs.Nest.{cells, processors}
 use Rattle.base.specs.Lists.{Bytes}
-use Rattle.nest.specs.Reader.{read_lines, nest_of, reading_of}
+use Rattle.nest.specs.declared.Nest.{Nest}
+use Rattle.nest.specs.Reader.{read_lines, nest_of, Reads}
 use Rattle.nest.proofs.Facts.{accepted}
-use Rattle.nest.proofs.Answers.{nest_read}
+use Rattle.nest.proofs.Answers.{none_read, nest_read}
 use Rattle.layout.specs.declared.Sizes.{Sizes}
 use Rattle.layout.specs.Sizes.{Sized}
 use Rattle.layout.specs.RouteWords.{route_of}
@@ -249,13 +250,13 @@ module _ (bytes : List ℕ) (x : Extent) (b : Bytes bytes) (w : Within bytes x) 
 
 -- ---- the figures that the program gives
 
-pub in_limits : (bytes : List ℕ) (r : Reading) (z : Sizes) (f : Figures) (c p : ℕ) → r ≡ reading_of bytes → r.number ≡ 0 → Sized r.nest z
+pub in_limits : {bytes : List ℕ} {x : Nest} → Reads bytes (Ok x) → (z : Sizes) (f : Figures) (c p : ℕ) → Sized x z
     → (z.cells < 4294967296 → c ≡ z.cells) → (z.processors < 4294967296 → p ≡ z.processors) → (c ≤ 1024) × (c * p ≤ 4096)
     → f ≡ summary_of (route_of 0) bytes
     → Within bytes (record { cells = c; processors = p; messages = f.messages; words = f.words; steps = f.steps })
-in_limits bytes r z f c p is zero-read g narrow narrow2 low e =
-    let read : first_of (read_lines bytes) ≡ 0 = sym (ap (λ (x : Reading). x.number) is) ∙ zero-read in
-    let nest = nest_read bytes r is zero-read in
+in_limits {bytes} is z f c p g narrow narrow2 low e =
+    let read = none_read is in
+    let nest = nest_read is in
     let figures : f ≡ figures_of (recipe bytes 0) = e ∙ sym (summary_is bytes 0 _ (record { none = open_direct bytes read; is = refl })) in
     record {
       read = read;

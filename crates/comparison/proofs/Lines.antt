@@ -1,4 +1,5 @@
 -- Laws of the second program's lines: each step of the code over plain variables; and that no recipe within the limits differs.
+use Rattle.std.specs.Prelude.{Ok, Err}
 use Prim.Native.Nat.{ℕ, zero, suc, ◌*◌, ◌≤◌, ◌<◌}
 use mathlib.Core.Path.{◌≡◌, refl, sym, ap, ◌∙◌}
 use mathlib.Core.Logic.{◌≢◌}
@@ -16,10 +17,13 @@ use Rattle.text.proofs.Pens.{next}
 use Rattle.machine.specs.Plan.{Plan, count, words}
 use Rattle.machine.specs.Machine.{state_of}
 use Rattle.machine.specs.Runs.{total}
-use Rattle.nest.specs.declared.Reading.{Reading}
 use Rattle.nest.specs.Nest.{cells, processors}
-use Rattle.nest.specs.Reader.{read_lines, nest_of, reading_of}
-use Rattle.nest.proofs.Answers.{number_read, nest_read}
+use Rattle.nest.specs.declared.Nest.{Nest}
+use Rattle.nest.specs.Reader.{read_lines, nest_of, Reads}
+use Rattle.nest.proofs.Answers.{none_read, nest_read}
+use Rattle.base.specs.declared.refusal.Refusal.{Refusal}
+use Rattle.base.specs.Refusals.{code}
+use Rattle.base.proofs.Codes.{code_some}
 use Rattle.layout.specs.declared.Sizes.{Sizes}
 use Rattle.layout.specs.Sizes.{Sized}
 use Rattle.engine.specs.Calls.{recipe}
@@ -114,26 +118,26 @@ module _ (l : List ℕ) (u w : Pen) where
   unfolding comparison_text
   too_long h e = e ∙ ap (write w) (sym (pick_true _ _ _ (lt-ltb _ _ h)))
 
-  module _ (h : length l ≤ 512) (i : Reading) (is : i ≡ reading_of l) where
+  module _ (h : length l ≤ 512) where
     short : compared_if (first_of (read_lines l)) l ≡ comparison_text l
     unfolding comparison_text
     short = sym (pick_false _ _ _ (le-ltb _ _ h))
 
-    pub refused_put : i.number ≢ 0 → u ≡ write w (refused_text i.number) → u ≡ write w (comparison_text l)
-    refused_put k e =
-        e ∙ ap (write w) (refusal i.number l k ∙ ap (λ (n : ℕ). compared_if n l) (number_read l i is) ∙ short)
+    pub refused_put : {r : Refusal} → Reads l (Err r) → u ≡ write w (refused_text (code r)) → u ≡ write w (comparison_text l)
+    refused_put {r} is e =
+        e ∙ ap (write w) (refusal (code r) l (code_some r) ∙ ap (λ (n : ℕ). compared_if n l) is.number ∙ short)
 
-    module _ (z : i.number ≡ 0) (s : Sizes) (g : Sized i.nest s) (c p : ℕ) (narrow : s.cells < 4294967296 → c ≡ s.cells)
+    module _ {x : Nest} (is : Reads l (Ok x)) (s : Sizes) (g : Sized x s) (c p : ℕ) (narrow : s.cells < 4294967296 → c ≡ s.cells)
         (narrow2 : s.processors < 4294967296 → p ≡ s.processors) (r : Bool) (e : r ≡ is_beyond c p) where
       limit : r ≡ is_beyond (recipe l 0).cells (recipe l 0).processors
       limit =
-          let nest = nest_read l i is z in
+          let nest = nest_read is in
           let a : c ≡ cells (nest_of l) = narrow (omega (arith, g.cells, g.accepted.cells_most)) ∙ g.cells ∙ ap cells nest in
           let b : p ≡ processors (nest_of l) = narrow2 (omega (arith, g.processors, g.accepted.processors_most)) ∙ g.processors ∙ ap processors nest in
           e ∙ ap (λ (k : ℕ). is_beyond k p) a ∙ ap (is_beyond (cells (nest_of l))) b
 
       text_is : pick (is_beyond (recipe l 0).cells (recipe l 0).processors) beyond_line (four_lines l) ≡ comparison_text l
-      text_is = sym (accepted_is (first_of (read_lines l)) l (sym (number_read l i is) ∙ z)) ∙ short
+      text_is = sym (accepted_is (first_of (read_lines l)) l (none_read is)) ∙ short
 
       pub beyond_put : r ≡ true → u ≡ write w beyond_line → u ≡ write w (comparison_text l)
       beyond_put k f = f ∙ ap (write w) (sym (pick_true _ beyond_line (four_lines l) (sym limit ∙ k)) ∙ text_is)

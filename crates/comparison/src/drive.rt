@@ -19,19 +19,18 @@ pub struct Order {
 fn in_order(place: u32, processors: u32, falling: bool) -> u32
     ensures { result ≡ in_order processors falling place }
 {
-    if falling {
-        if place < processors {
-            return processors - 1 - place;
-        }
+    if falling && place < processors {
+        processors - 1 - place
+    } else {
+        place
     }
-    place
 }
 
 // Something was done before, or is done now.
 fn noted(before: bool, done: bool) -> bool
     ensures { result ≡ (before or done) }
 {
-    if before { true } else { done }
+    before || done
 }
 
 // One turn of each processor, in the order: whether one of them was taken.
@@ -51,14 +50,12 @@ fn turn_each(
         (state_of memories.new buffer.new progress.new status.new) }
 {
     let mut taken = false;
-    let mut place: u32 = 0;
-    while place < processors {
+    for place in 0..processors {
         let processor = in_order(place, processors, falling);
         let answer = engine::turn(
             encoded, 0, source, memories, buffer, progress, status, processor,
         );
         taken = noted(taken, answer == 0);
-        place += 1;
     }
     taken
 }
@@ -67,11 +64,7 @@ fn turn_each(
 fn in_flight(status: &[u8], message: u32) -> bool
     ensures { result ≡ eqb (get_or status.now message 0) 1 }
 {
-    let m = message as usize;
-    if m < status.len() {
-        return status[m] == 1;
-    }
-    false
+    status.get(message as usize) == Some(&1)
 }
 
 // The delivery of a message in flight: whether it was done.
@@ -88,12 +81,10 @@ fn deliver_one(
         (state_of memories.now buffer.now progress.now status.old) message) result
         (state_of memories.now buffer.now progress.now status.new) }
 {
-    if in_flight(status, message) {
-        return engine::deliver(
+    in_flight(status, message)
+        && engine::deliver(
             encoded, 0, source, memories, buffer, progress, status, message,
-        ) == 0;
-    }
-    false
+        ) == 0
 }
 
 // Each message in flight is delivered: whether one was.
@@ -111,11 +102,9 @@ fn deliver_each(
         (state_of memories.now buffer.now progress.now status.new) }
 {
     let mut delivered = false;
-    let mut message: u32 = 0;
-    while message < messages {
+    for message in 0..messages {
         let done = deliver_one(encoded, source, memories, buffer, progress, status, message);
         delivered = noted(delivered, done);
-        message += 1;
     }
     delivered
 }
@@ -136,16 +125,23 @@ fn round(
         (state_of memories.old buffer.old progress.old status.old)) result
         (state_of memories.new buffer.new progress.new status.new) }
 {
-    let processors = order.processors;
-    let messages = order.messages;
-    let falling = order.falling;
-    if turn_each(
-        encoded, source, memories, buffer, progress, status, processors, falling,
-    ) {
-        return true;
-    }
-    deliver_each(
-        encoded, source, memories, buffer, progress, status, messages,
+    turn_each(
+        encoded,
+        source,
+        memories,
+        buffer,
+        progress,
+        status,
+        order.processors,
+        order.falling,
+    ) || deliver_each(
+        encoded,
+        source,
+        memories,
+        buffer,
+        progress,
+        status,
+        order.messages,
     )
 }
 
@@ -164,8 +160,10 @@ pub fn drive(
         (state_of memories.old buffer.old progress.old status.old)
         (state_of memories.new buffer.new progress.new status.new) }
 {
-    let mut left = steps;
-    while left > 0 && round(encoded, source, memories, buffer, progress, status, order) {
-        left -= 1;
+    // named, since the invariant speaks of it
+    for _done in 0..steps {
+        if !round(encoded, source, memories, buffer, progress, status, order) {
+            break;
+        }
     }
 }

@@ -11,6 +11,7 @@ ghost use Rattle.comparison.specs.Agreement.{ran_and_compared, Within};
 ghost use Rattle.comparison.specs.Lines.{verdict_line, agrees_for, four_lines, comparison_text};
 
 use crate::drive::Order;
+use layout::Layout;
 use plan::Route;
 use records::RECORD_WORDS;
 use std::io;
@@ -31,9 +32,7 @@ pub struct Extent {
 fn memory_words(cells: u32, processors: u32) -> u64
     ensures { result ≡ cells * processors }
 {
-    let c = cells as u64;
-    let p = processors as u64;
-    c * p
+    u64::from(cells) * u64::from(processors)
 }
 
 // A word of the source: 1, or the cell's number plus 1.
@@ -47,10 +46,8 @@ fn fill_source(source: &mut [u32], counting: bool)
     requires { length source.old ≤ 1024 }
     ensures { source.new ≡ source_of counting (length source.old) }
 {
-    let mut c: usize = 0;
-    while c < source.len() {
-        source[c] = source_word((c + 1) as u32, counting);
-        c += 1;
+    for (c, word) in source.iter_mut().enumerate() {
+        *word = source_word((c + 1) as u32, counting);
     }
 }
 
@@ -94,10 +91,7 @@ fn compare(
 {
     let collecting = engine::collect(encoded, 0, source, memories, buffer, progress, status, grid);
     let sweeping = engine::sweep(encoded, source, swept);
-    if collecting != 0 {
-        return false;
-    }
-    if sweeping != 0 {
+    if collecting != 0 || sweeping != 0 {
         return false;
     }
     base::same(grid, swept)
@@ -137,18 +131,22 @@ fn verdict(encoded: &[u8], extent: Extent, counting: bool, falling: bool) -> boo
     ensures value { result ≡ agrees_for encoded.now counting falling }
     ensures value_2 { result ≡ true }
 {
-    let cells = extent.cells;
-    let processors = extent.processors;
-    let messages = extent.messages;
-    let c = program_io::as_index(cells);
+    let Extent {
+        cells,
+        processors,
+        messages,
+        words,
+        steps,
+    } = extent;
+    let c = cells as usize;
     let m = memory_words(cells, processors) as usize;
-    let w = program_io::as_index(extent.words);
-    let p = 3 * program_io::as_index(processors);
-    let s = program_io::as_index(messages);
+    let w = words as usize;
+    let p = 3 * processors as usize;
+    let s = messages as usize;
     let order = Order {
-        processors: processors,
-        messages: messages,
-        falling: falling,
+        processors,
+        messages,
+        falling,
     };
     let mut source = [0u32; 1024];
     fill_source(&mut source[..c], counting);
@@ -168,7 +166,7 @@ fn verdict(encoded: &[u8], extent: Extent, counting: bool, falling: bool) -> boo
         &mut grid[..c],
         &mut swept[..c],
         order,
-        extent.steps,
+        steps,
     )
 }
 
@@ -209,16 +207,13 @@ fn put_four(space: &mut [u8], encoded: &[u8], extent: Extent) -> usize
 fn narrow(x: usize) -> u32
     ensures { x < 4294967296 → result ≡ x }
 {
-    if x < 4294967296 { x as u32 } else { 4294967295 }
+    u32::try_from(x).unwrap_or(u32::MAX)
 }
 
 fn is_beyond(cells: u32, processors: u32) -> bool
     ensures { result ≡ is_beyond cells processors }
 {
-    if cells > 1024 {
-        return true;
-    }
-    memory_words(cells, processors) > 4096
+    cells > 1024 || memory_words(cells, processors) > 4096
 }
 
 // The lines of a recipe: how many bytes they have, each written where the space has room.
@@ -229,22 +224,20 @@ pub fn put_lines(space: &mut [u8], encoded: &[u8]) -> usize
     if encoded.len() > 512 {
         return plan_text::put_refused(space, 1);
     }
-    let reading = reader::read(encoded);
-    let number = reading.number;
-    if number != 0 {
-        return plan_text::put_refused(space, number);
-    }
-    let nest = reading.nest;
-    let sizes = layout::sizes_of(nest, Route::Direct);
-    let cells = narrow(sizes.cells);
-    let processors = narrow(sizes.processors);
+    let nest = match reader::read(encoded) {
+        Ok(nest) => nest,
+        Err(refusal) => return plan_text::put_refused(space, refusal.number()),
+    };
+    let layout = Layout::of(nest, Route::Direct);
+    let cells = narrow(layout.sizes.cells);
+    let processors = narrow(layout.sizes.processors);
     if is_beyond(cells, processors) {
         return text::put_bytes(space, 0, b"beyond\n");
     }
     let figures = summary::summary(encoded, 0);
     let extent = Extent {
-        cells: cells,
-        processors: processors,
+        cells,
+        processors,
         messages: figures.messages,
         words: figures.words,
         steps: figures.steps,

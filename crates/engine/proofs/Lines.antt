@@ -1,5 +1,5 @@
 -- Laws of the lines: areas and fit states, what reading gives, and each call by the line that counts.
-use Rattle.std.specs.Prelude.{◌≡◌, ℕ, ◌*◌, ◌<◌, ◌≤◌, Bool, true, false, eqb, ltb, leb, ◌≢◌, List, [], ◌∷◌, ◌++◌, length, get_or, set, replicate}
+use Rattle.std.specs.Prelude.{Ok, ◌≡◌, ℕ, ◌*◌, ◌<◌, ◌≤◌, Bool, true, false, eqb, ltb, leb, ◌≢◌, List, [], ◌∷◌, ◌++◌, length, get_or, set, replicate}
 use mathlib.Core.Path.{refl, sym, ap, ◌∙◌}
 use native.Mathlib.Nat.{mul-le-mul_right}
 use native.Mathlib.Omega.{arith}
@@ -23,11 +23,9 @@ use Rattle.plan.proofs.ShapedBox.{plan_of_box}
 use Rattle.layout.specs.declared.Sizes.{Sizes}
 use Rattle.layout.specs.Sizes.{Sized}
 use Rattle.layout.specs.RouteWords.{route_of}
-use Rattle.nest.specs.declared.Reading.{Reading}
-use Rattle.nest.specs.Reader.{read_lines, nest_of, reading_of}
+use Rattle.nest.specs.Reader.{read_lines, nest_of, Reads}
 use Rattle.nest.proofs.Numbered.{numbered}
-use Rattle.nest.proofs.Answers.{nest_read}
-pub use Rattle.nest.proofs.Answers.{number_read as read_number}
+use Rattle.nest.proofs.Answers.{none_read, nest_read}
 use Rattle.recipe.specs.Routes.{lines_for}
 pub use Rattle.recipe.specs.Given.{Opened}
 use Rattle.recipe.proofs.Laws.{numbered_for, reads_for, passed_for, direct_open}
@@ -129,14 +127,17 @@ module _ (p : Plan) (source : List ℕ) (s : State) where
 -- ---- what reading gives
 
 -- a recipe read for no route is open to the direct one
-module _ (l : List ℕ) (r : Reading) (e : r ≡ reading_of l) where
-  pub opened_direct : r.number ≡ 0 → {route : Route} → route ≡ Direct → Opened l 0 (plan_of route r.nest)
-  unfolding route_of
-  opened_direct h {route} k =
-      record {
-        none = passed_for Direct l (sym (read_number l r e) ∙ h) (direct_open (nest_of l));
-        is = ap (λ (z : Route). plan_of z r.nest) k ∙ ap (plan_of Direct) (nest_read l r e h);
-      }
+pub opened_direct : {l : List ℕ} {x : Nest} → Reads l (Ok x) → {route : Route} → route ≡ Direct → Opened l 0 (plan_of route x)
+unfolding route_of
+opened_direct {l} {x} r {route} k =
+    record {
+      none = passed_for Direct l (none_read r) (direct_open (nest_of l));
+      is = ap (λ (z : Route). plan_of z x) k ∙ ap (plan_of Direct) (nest_read r);
+    }
+
+-- and so is the layout made of its nest
+pub laid_direct : {l : List ℕ} {x : Nest} → Reads l (Ok x) → (y : Nest) → y ≡ x → Opened l 0 (plan_of Direct y)
+laid_direct r y e = rw e (opened_direct r refl)
 
 -- behind lines of which none has the number 0
 module _ {A : Type 0} (front : List Line) (named : Numbered front) (more : List Line) (r : ℕ) (new old : A) where

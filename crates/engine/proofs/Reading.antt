@@ -19,12 +19,11 @@ use Rattle.layout.specs.Sizes.{Sized}
 use Rattle.layout.specs.RouteWords.{route_of}
 use Rattle.records.specs.declared.Progress.{Progress}
 use Rattle.records.specs.declared.Flat.{Flat}
-use Rattle.records.specs.Records.{flat_words, Flattens, put_at, zeros, clear_all}
+use Rattle.records.specs.Records.{flat_words, Flattens, zeros, clear_all}
 use Rattle.records.proofs.Words.{length_words, words_put, words_cleared}
 use Rattle.stages.specs.Progress.{progress_only, set_record}
-use Rattle.engine.specs.Given.{records_after, zeros_after}
+use Rattle.engine.specs.Given.{zeros_after}
 use Rattle.engine.specs.Calls.{answer, recipe, areas, area_lines, turn_call}
-use Rattle.engine.specs.declared.inner.Turned.{Turned}
 use Rattle.engine.proofs.Lines.{areas_are}
 
 -- ---- what is read
@@ -56,40 +55,10 @@ part_is f l few h = ap (λ (k : ℕ). take k f.words) (whole f.count (length l) 
 
 -- ---- what a turn makes
 
-module _ (r : Turned) (n : ℕ) (e : r.number ≡ n) (h : n ≢ 0) (s : State) (b : ℕ) (x : Answered State) where
-  pub refuses : answer n s ≡ x → answer r.number (state_of s.memories s.buffer (records_after s.progress b r) s.status) ≡ x
-  unfolding records_after
-  refuses q =
-      ap (λ (l : List ℕ). answer r.number (state_of s.memories s.buffer l s.status)) (pick_false _ _ _ (ne_eqb r.number 0 (λ z. h (sym e ∙ z))))
-      ∙ ap (λ (k : ℕ). answer k s) e ∙ q
-
-pub does : (r : Turned) (p : Progress) → (r.number ≡ 0) × (r.progress ≡ p) → (m u l t : List ℕ) (b : ℕ) (x : Answered State)
-    → answer 0 (state_of m u (set_record l b p) t) ≡ x → answer r.number (state_of m u (records_after l b r) t) ≡ x
-unfolding records_after
-does r p e m u l t b x q =
-    ap (λ (k : List ℕ). answer r.number (state_of m u k t)) (pick_true _ _ _ (eq-eqb r.number 0 e.0) ∙ ap (λ (z : Progress). set_record l b z) e.1)
-    ∙ ap (λ (k : ℕ). answer k (state_of m u (set_record l b p) t)) e.0 ∙ q
-
-module _ (r : Turned) (m u l t : List ℕ) (b : ℕ) (x : Answered State) (q : answer r.number (state_of m u (records_after l b r) t) ≡ x) where
-  -- the same with the words as they were, or one record's written
-  pub left_out : r.number ≢ 0 → answer r.number (state_of m u l t) ≡ x
-  unfolding records_after
-  left_out h = ap (λ (k : List ℕ). answer r.number (state_of m u k t)) (sym (pick_false _ _ _ (ne_eqb r.number 0 h))) ∙ q
-
-  pub written_in : r.number ≡ 0 → (l' : List ℕ) → l' ≡ set_record l b r.progress → answer 0 (state_of m u l' t) ≡ x
-  unfolding records_after
-  written_in h l' e =
-      ap (λ (k : List ℕ). answer 0 (state_of m u k t)) (e ∙ sym (pick_true _ _ _ (eq-eqb r.number 0 h)))
-      ∙ ap (λ (k : ℕ). answer k (state_of m u (records_after l b r) t)) (sym h) ∙ q
-
 -- the words of the records after one of them was stored
-pub stored_after : (rs : List Progress) (b : ℕ) (r : Turned) → flat_words (put_at r.number b r.progress rs) ≡ records_after (flat_words rs) b r
-unfolding put_at records_after set_progress pick
-stored_after rs b r = by (eqb r.number 0)
-  where
-    by : (t : Bool) → flat_words (pick t (set rs b r.progress) rs) ≡ pick t (set_record (flat_words rs) b r.progress) (flat_words rs)
-    by true = words_put rs b r.progress
-    by false = refl
+pub stored_after : (rs : List Progress) (b : ℕ) (p : Progress) → flat_words (set rs b p) ≡ set_record (flat_words rs) b p
+unfolding set_progress
+stored_after rs b p = words_put rs b p
 
 -- a turn that gives 0 has a record there
 module _ (l : List ℕ) (route : ℕ) (source : List ℕ) (s : State) (b : ℕ) where

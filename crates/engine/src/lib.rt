@@ -8,8 +8,8 @@ ghost use Rattle.engine.specs.Calls.{answer, fresh_call, turn_call, deliver_call
 
 pub mod inner; // inner.rt: the calls without the stores into the records
 
-use base::{refusals, zero_words};
-use layout::sizes_of;
+use base::refusal::{Refusal, number_of};
+use layout::Layout;
 use plan::Route;
 use reader::read;
 use records::{Progress, flat_of};
@@ -28,7 +28,7 @@ pub fn fresh(
         ≡ fresh_call encoded.now route source.now
         (state_of memories.old buffer.old progress.old status.old) }
 {
-    let number = inner::fresh(
+    let fresh = inner::fresh(
         encoded,
         route,
         source,
@@ -37,10 +37,10 @@ pub fn fresh(
         progress.len(),
         status,
     );
-    if number != 0 {
-        return number;
+    match fresh {
+        Ok(()) => progress.fill(0),
+        Err(refusal) => return refusal.number(),
     }
-    zero_words(progress);
     0
 }
 
@@ -70,7 +70,7 @@ pub fn turn(
         ≡ turn_call encoded.now route source.now
         (state_of memories.old buffer.old progress.old status.old) processor }
 {
-    let after = inner::turn(
+    let turned = inner::turn(
         encoded,
         route,
         source,
@@ -80,12 +80,10 @@ pub fn turn(
         status,
         processor,
     );
-    let number = after.number;
-    if number != 0 {
-        return number;
+    match turned {
+        Ok(record) => store_record(progress, processor as usize, record),
+        Err(refusal) => return refusal.number(),
     }
-    let p = after.progress;
-    store_record(progress, processor as usize, p);
     0
 }
 
@@ -104,7 +102,7 @@ pub fn deliver(
         ≡ deliver_call encoded.now route source.now
         (state_of memories.now buffer.now progress.now status.old) message }
 {
-    inner::deliver(
+    number_of(&inner::deliver(
         encoded,
         route,
         source,
@@ -113,7 +111,7 @@ pub fn deliver(
         flat_of(progress),
         status,
         message,
-    )
+    ))
 }
 
 // The grid, once all processors have finished.
@@ -131,7 +129,7 @@ pub fn collect(
         ≡ collect_call encoded.now route source.now
         (state_of memories.now buffer.now progress.now status.now) grid.old }
 {
-    inner::collect(
+    number_of(&inner::collect(
         encoded,
         route,
         source,
@@ -140,30 +138,28 @@ pub fn collect(
         flat_of(progress),
         status,
         grid,
-    )
+    ))
 }
 
 // The sequential sweep of the whole grid, the same on every route.
 pub fn sweep(encoded: &[u8], source: &[u32], grid: &mut [u32]) -> u32
     ensures { answer result grid.new ≡ sweep_call encoded.now source.now grid.old }
 {
-    let reading = read(encoded);
-    let number = reading.number;
-    if number != 0 {
-        return number;
+    let nest = match read(encoded) {
+        Ok(nest) => nest,
+        Err(refusal) => return refusal.number(),
+    };
+    let layout = Layout::of(nest, Route::Direct);
+    if source.len() != layout.sizes.cells {
+        return Refusal::Area.number();
     }
-    let nest = reading.nest;
-    let sizes = sizes_of(nest, Route::Direct);
-    if source.len() != sizes.cells {
-        return refusals::AREA;
+    if grid.len() != layout.sizes.cells {
+        return Refusal::Area.number();
     }
-    if grid.len() != sizes.cells {
-        return refusals::AREA;
-    }
-    if nest.bounds == 0 {
-        values::sweep(nest, sizes, source, grid);
+    if layout.nest.bounds == 0 {
+        values::sweep(&layout, source, grid);
         return 0;
     }
-    values::shaped_values::sweep(nest, sizes, source, grid);
+    values::shaped_values::sweep(&layout, source, grid);
     0
 }

@@ -1,4 +1,5 @@
 -- Request W-212 holds of the calls as exported, board records as structs.
+use Rattle.std.specs.Prelude.{None, Option, Some}
 use Prim.Native.Nat.{ℕ, ◌≤◌}
 use mathlib.Core.Path.{◌≡◌, refl, sym, ap, subst, ◌∙◌}
 use mathlib.Core.Bool.{true}
@@ -21,8 +22,6 @@ use Rattle.engine.proofs.Demands as engine
 use Rattle.sharing.specs.Calls.{sharing_collects}
 use Rattle.calendar_calls.specs.Calls.{turn_call_at, turn_call_at_for, calls_at, call_at_for, sharing_calls_at}
 use Rattle.calendar_calls.proofs.Demands.{timed_demands}
-use Rattle.calendar.specs.declared.Opening.{Opening}
-use Rattle.calendar.specs.declared.Opening.TheVariants.{OpensIn, Never}
 use Rattle.calendar_calls.specs.Calls.{opens_lines}
 use Rattle.calls.specs.declared.hour.NextOpening.{NextOpening}
 use Rattle.calls.specs.Opens.{tells as told, opening_told, opens_if, opens_of}
@@ -40,10 +39,10 @@ use Rattle.guarantees.proofs.OverRecords.{Whole, areas_from, in_words_lem, lengt
 use Rattle.guarantees.proofs.OverSharing.{lent_fixed, sharing_fixed, tenant_words, lent_words_lem, other_words, returned_is, whole_lent}
 use Rattle.guarantees.proofs.OverSharing.{can_tenant, among, among_own, among_other, collect_length, collect_words}
 
-zero_told : (o : Opening) → (opening_told o).number ≡ 0
+zero_told : (o : Option ℕ) → (opening_told o).number ≡ 0
 unfolding opening_told
-zero_told (OpensIn m) = refl
-zero_told Never = refl
+zero_told (Some m) = refl
+zero_told None = refl
 
 module _ (bytes : List ℕ) (route : ℕ) where
   -- ---- a contract, by the calls over words

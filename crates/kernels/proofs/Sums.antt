@@ -41,11 +41,6 @@ module _ {n : ℕ} {backs weights : List ℕ} {outside shift c span sources word
         small = omega (arith, f.small);
       }
 
-  -- what one tap more needs
-  pub tap_needs : (k : ℕ) → k < n → 1 ≤ span → (total : ℕ) → total ≤ 4611686018427387904
-      → (total ≤ 4611686018427387904) × ((get_or weights k 0 < 65536) × ((get_or backs k 0 ≤ c) × ((c < words) × (words ≤ 16384))))
-  tap_needs k h l total t = (t, (f.light k h, (f.back k h, (omega (arith, f.within), f.small))))
-
 -- ---- the sum of the first k taps at cell c
 
 pub record Summing (n : ℕ) (backs weights : List ℕ) (outside : ℕ) (source memory : List ℕ) (c total k : ℕ) : Type 0 where
@@ -496,35 +491,3 @@ Tapped backs weights k b w = (b ≡ get_or backs k 0) × (get_or weights k 0 < 6
 module _ (backs weights : List ℕ) {n : ℕ} (light : (k : ℕ) → k < n → get_or weights k 0 < 65536) where
   pub same_one : n ≡ 1 → {b₀ w₀ : ℕ} → Tapped backs weights 0 b₀ w₀ → Same 1 n (b₀ ∷ []) (w₀ ∷ []) backs weights
   same_one e p = record { many = sym e; back = below_more _ 0 (below_none _) p.0; weight = below_more _ 0 (below_none _) (p.1 (light 0 (omega arith))) }
-
-  pub same_two : n ≡ 2 → {b₀ w₀ b₁ w₁ : ℕ} → Tapped backs weights 0 b₀ w₀ → Tapped backs weights 1 b₁ w₁ → Same 2 n (b₀ ∷ b₁ ∷ []) (w₀ ∷ w₁ ∷ []) backs weights
-  same_two e p q =
-      record {
-        many = sym e;
-        back = below_more _ 1 (below_more _ 0 (below_none _) p.0) q.0;
-        weight = below_more _ 1
-            (below_more _ 0 (below_none _) (p.1 (light 0 (omega arith)))) (q.1 (light 1 (omega arith)));
-      }
-
-  pub same_three : n ≡ 3 → {b₀ w₀ b₁ w₁ b₂ w₂ : ℕ} → Tapped backs weights 0 b₀ w₀ → Tapped backs weights 1 b₁ w₁ → Tapped backs weights 2 b₂ w₂
-      → Same 3 n (b₀ ∷ b₁ ∷ b₂ ∷ []) (w₀ ∷ w₁ ∷ w₂ ∷ []) backs weights
-  same_three e p q r =
-      record {
-        many = sym e;
-        back = below_more _ 2 (below_more _ 1 (below_more _ 0 (below_none _) p.0) q.0) r.0;
-        weight =
-            below_more _ 2 (below_more _ 1 (below_more _ 0 (below_none _) (p.1 (light 0 (omega arith)))) (q.1 (light 1 (omega arith))))
-            (r.1 (light 2 (omega arith)));
-      }
-
-  pub same_four : n ≡ 4 → {b₀ w₀ b₁ w₁ b₂ w₂ b₃ w₃ : ℕ} → Tapped backs weights 0 b₀ w₀ → Tapped backs weights 1 b₁ w₁ → Tapped backs weights 2 b₂ w₂
-      → Tapped backs weights 3 b₃ w₃
-      → Same 4 n (b₀ ∷ b₁ ∷ b₂ ∷ b₃ ∷ []) (w₀ ∷ w₁ ∷ w₂ ∷ w₃ ∷ []) backs weights
-  same_four e p q r s =
-      record {
-        many = sym e;
-        back = below_more _ 3 (below_more _ 2 (below_more _ 1 (below_more _ 0 (below_none _) p.0) q.0) r.0) s.0;
-        weight =
-            below_more _ 3 (below_more _ 2 (below_more _ 1 (below_more _ 0 (below_none _) (p.1 (light 0 (omega arith)))) (q.1 (light 1 (omega arith))))
-            (r.1 (light 2 (omega arith)))) (s.1 (light 3 (omega arith)));
-      }

@@ -1,6 +1,6 @@
 // Loops that make words of a source and a memory: along a row of cells, and along four rows side by side, each one column behind
-// the row before it. A word sums the source's and so many taps, words of the memory a fixed way back, weighed. One to four
-// taps are summed without a loop, so that the words of a column wait for each other no longer than they must.
+// the row before it. A word sums the source's and so many taps, words of the memory a fixed way back, weighed. How many is a
+// constant, so that the compiler sums them without a loop and the words of a column wait for each other no longer than they must.
 #![tactic(auto)]
 
 ghost use Rattle.std.specs.Prelude.{◌≡◌, [], ◌∷◌, ◌+◌, ◌*◌, ◌-◌, ◌/◌, ◌%◌, ◌^◌, ◌≤◌, ◌<◌, length, get_or, set};
@@ -48,17 +48,6 @@ pub fn closed(total: u64, shift: u64) -> u32
     ((total >> shift) % 4294967296) as u32
 }
 
-// The word of cell c, of one tap.
-fn store_one(source: &[u32], memory: &mut [u32], rule: Rule, p: Tap, c: usize)
-    requires { FitsBy rule (p ∷ []) c 1 source.now memory.old }
-    ensures { memory.new ≡ set memory.old c
-        (made_by rule (p ∷ []) source.now memory.old c) }
-{
-    let t = rule.outside + word_of(source, c);
-    let tp = with_tap(t, p, memory, c);
-    memory[c] = closed(tp, rule.shift);
-}
-
 // The word of cell c of one tap, whose word v is at hand: it is given back too, for the cell that reads it next.
 fn store_after(source: &[u32], memory: &mut [u32], rule: Rule, p: Tap, v: u64, c: usize) -> u64
     requires { FitsBy rule (p ∷ []) c 1 source.now memory.old × Word memory.old (c - p.back) v }
@@ -71,70 +60,21 @@ fn store_after(source: &[u32], memory: &mut [u32], rule: Rule, p: Tap, v: u64, c
     word as u64
 }
 
-// The word of cell c, of two taps.
-fn store_two(source: &[u32], memory: &mut [u32], rule: Rule, p: Tap, q: Tap, c: usize)
-    requires { FitsBy rule (p ∷ q ∷ []) c 1 source.now memory.old }
-    ensures { memory.new ≡ set memory.old c
-        (made_by rule (p ∷ q ∷ []) source.now memory.old c) }
-{
-    let t = rule.outside + word_of(source, c);
-    let tp = with_tap(t, p, memory, c);
-    let tq = with_tap(tp, q, memory, c);
-    memory[c] = closed(tq, rule.shift);
-}
-
-// The word of cell c, of three taps.
-fn store_three(source: &[u32], memory: &mut [u32], rule: Rule, p: Tap, q: Tap, r: Tap, c: usize)
-    requires { FitsBy rule (p ∷ q ∷ r ∷ []) c 1 source.now memory.old }
-    ensures { memory.new ≡ set memory.old c
-        (made_by rule (p ∷ q ∷ r ∷ []) source.now memory.old c) }
-{
-    let t = rule.outside + word_of(source, c);
-    let tp = with_tap(t, p, memory, c);
-    let tq = with_tap(tp, q, memory, c);
-    let tr = with_tap(tq, r, memory, c);
-    memory[c] = closed(tr, rule.shift);
-}
-
-// The word of cell c, of four taps.
-fn store_four(
+// The word of cell c, of N taps.
+fn store<const N: usize>(
     source: &[u32],
     memory: &mut [u32],
     rule: Rule,
-    p: Tap,
-    q: Tap,
-    r: Tap,
-    s: Tap,
-    c: usize,
-)
-    requires { FitsBy rule (p ∷ q ∷ r ∷ s ∷ []) c 1 source.now memory.old }
-    ensures { memory.new ≡ set memory.old c
-        (made_by rule (p ∷ q ∷ r ∷ s ∷ []) source.now memory.old c) }
-{
-    let t = rule.outside + word_of(source, c);
-    let tp = with_tap(t, p, memory, c);
-    let tq = with_tap(tp, q, memory, c);
-    let tr = with_tap(tq, r, memory, c);
-    let ts = with_tap(tr, s, memory, c);
-    memory[c] = closed(ts, rule.shift);
-}
-
-// The word of cell c, of any number of taps.
-fn store_many(
-    source: &[u32],
-    memory: &mut [u32],
-    rule: Rule,
-    n: usize,
     backs: &[usize; 8],
     weights: &[u64; 8],
     c: usize,
 )
-    requires { Fits n backs.now weights.now rule.outside rule.shift c 1 (length source.now) (length memory.old) }
+    requires { Fits N backs.now weights.now rule.outside rule.shift c 1 (length source.now) (length memory.old) }
     ensures { memory.new ≡ set memory.old c
-        (made n backs.now weights.now rule.outside rule.shift source.now memory.old c) }
+        (made N backs.now weights.now rule.outside rule.shift source.now memory.old c) }
 {
     let mut total = rule.outside + word_of(source, c);
-    for k in 0..n {
+    for k in 0..N {
         let tap = tap_at(backs, weights, k);
         total = with_tap(total, tap, memory, c);
     }
@@ -142,130 +82,73 @@ fn store_many(
 }
 
 // The words of a row: `width` cells from one on.
-fn row_tap(source: &[u32], memory: &mut [u32], rule: Rule, p: Tap, cell: usize, width: usize)
-    requires { FitsBy rule (p ∷ []) cell width source.now memory.old }
-    ensures { memory.new ≡ store_all (made_by rule (p ∷ []) source.now) memory.old
-        (tabulate (λ y. cell + y) width) }
+fn store_row<const N: usize>(
+    source: &[u32],
+    memory: &mut [u32],
+    rule: Rule,
+    backs: &[usize; 8],
+    weights: &[u64; 8],
+    cell: usize,
+    width: usize,
+)
+    requires { Fits N backs.now weights.now rule.outside rule.shift cell width (length source.now) (length memory.old) }
+    ensures { memory.new ≡ store_all (made N backs.now weights.now rule.outside rule.shift
+        source.now) memory.old (tabulate (λ y. cell + y) width) }
 {
     for y in 0..width {
-        store_one(source, memory, rule, p, cell + y);
+        store::<N>(source, memory, rule, backs, weights, cell + y);
     }
 }
 
-// The same where mostly nothing is added besides: saying so lets the compiler leave the addition out.
-fn row_one(source: &[u32], memory: &mut [u32], rule: Rule, p: Tap, cell: usize, width: usize)
-    requires { FitsBy rule (p ∷ []) cell width source.now memory.old }
-    ensures { memory.new ≡ store_all (made_by rule (p ∷ []) source.now) memory.old
-        (tabulate (λ y. cell + y) width) }
+// The same of one tap, where mostly nothing is added besides: saying so lets the compiler leave the addition out.
+fn row_one(
+    source: &[u32],
+    memory: &mut [u32],
+    rule: Rule,
+    backs: &[usize; 8],
+    weights: &[u64; 8],
+    cell: usize,
+    width: usize,
+)
+    requires { Fits 1 backs.now weights.now rule.outside rule.shift cell width (length source.now) (length memory.old) }
+    ensures { memory.new ≡ store_all (made 1 backs.now weights.now rule.outside rule.shift
+        source.now) memory.old (tabulate (λ y. cell + y) width) }
 {
     if rule.outside == 0 {
         let bare = Rule {
             outside: 0,
             shift: rule.shift,
         };
-        row_tap(source, memory, bare, p, cell, width);
+        store_row::<1>(source, memory, bare, backs, weights, cell, width);
         return;
     }
-    row_tap(source, memory, rule, p, cell, width);
-}
-
-fn row_two(
-    source: &[u32],
-    memory: &mut [u32],
-    rule: Rule,
-    p: Tap,
-    q: Tap,
-    cell: usize,
-    width: usize,
-)
-    requires { FitsBy rule (p ∷ q ∷ []) cell width source.now memory.old }
-    ensures { memory.new ≡ store_all (made_by rule (p ∷ q ∷ []) source.now) memory.old
-        (tabulate (λ y. cell + y) width) }
-{
-    for y in 0..width {
-        store_two(source, memory, rule, p, q, cell + y);
-    }
-}
-
-fn row_three(
-    source: &[u32],
-    memory: &mut [u32],
-    rule: Rule,
-    p: Tap,
-    q: Tap,
-    r: Tap,
-    cell: usize,
-    width: usize,
-)
-    requires { FitsBy rule (p ∷ q ∷ r ∷ []) cell width source.now memory.old }
-    ensures { memory.new ≡ store_all (made_by rule (p ∷ q ∷ r ∷ []) source.now) memory.old
-        (tabulate (λ y. cell + y) width) }
-{
-    for y in 0..width {
-        store_three(source, memory, rule, p, q, r, cell + y);
-    }
-}
-
-fn row_four(
-    source: &[u32],
-    memory: &mut [u32],
-    rule: Rule,
-    p: Tap,
-    q: Tap,
-    r: Tap,
-    s: Tap,
-    cell: usize,
-    width: usize,
-)
-    requires { FitsBy rule (p ∷ q ∷ r ∷ s ∷ []) cell width source.now memory.old }
-    ensures { memory.new ≡ store_all (made_by rule (p ∷ q ∷ r ∷ s ∷ []) source.now) memory.old
-        (tabulate (λ y. cell + y) width) }
-{
-    for y in 0..width {
-        store_four(source, memory, rule, p, q, r, s, cell + y);
-    }
-}
-
-fn row_many(
-    source: &[u32],
-    memory: &mut [u32],
-    rule: Rule,
-    n: usize,
-    backs: &[usize; 8],
-    weights: &[u64; 8],
-    cell: usize,
-    width: usize,
-)
-    requires { Fits n backs.now weights.now rule.outside rule.shift cell width (length source.now) (length memory.old) }
-    ensures { memory.new ≡ store_all (made n backs.now weights.now rule.outside rule.shift
-        source.now) memory.old (tabulate (λ y. cell + y) width) }
-{
-    for y in 0..width {
-        store_many(source, memory, rule, n, backs, weights, cell + y);
-    }
+    store_row::<1>(source, memory, rule, backs, weights, cell, width);
 }
 
 // Four rows side by side: `width` cells of each, the first row's from a on, each other row's t further on than those of the row before.
-fn wave_tap(
+fn store_wave<const N: usize>(
     source: &[u32],
     memory: &mut [u32],
     rule: Rule,
-    p: Tap,
+    backs: &[usize; 8],
+    weights: &[u64; 8],
     a: usize,
     t: usize,
     width: usize,
 )
-    requires { FitsBy rule (p ∷ []) a (3 * t + width) source.now memory.old }
-    ensures { memory.new ≡ store_all (made_by rule (p ∷ []) source.now) memory.old (wave_of a t width) }
+    requires { Fits N backs.now weights.now rule.outside rule.shift a (3 * t + width) (length source.now)
+        (length memory.old) }
+    ensures { memory.new ≡ store_all (made N backs.now weights.now rule.outside rule.shift
+        source.now) memory.old (wave_of a t width) }
 {
     for y in 0..width {
         let b = a + y + t;
         let c = b + t;
         let d = c + t;
-        store_one(source, memory, rule, p, a + y);
-        store_one(source, memory, rule, p, b);
-        store_one(source, memory, rule, p, c);
-        store_one(source, memory, rule, p, d);
+        store::<N>(source, memory, rule, backs, weights, a + y);
+        store::<N>(source, memory, rule, backs, weights, b);
+        store::<N>(source, memory, rule, backs, weights, c);
+        store::<N>(source, memory, rule, backs, weights, d);
     }
 }
 
@@ -314,10 +197,10 @@ fn store_column(
     let third = store_after(source, memory, rule, p, last.third, d);
     let fourth = store_after(source, memory, rule, p, last.fourth, d + t);
     Column {
-        first: first,
-        second: second,
-        third: third,
-        fourth: fourth,
+        first,
+        second,
+        third,
+        fourth,
     }
 }
 
@@ -340,128 +223,28 @@ fn wave_after(
     }
 }
 
+// Four rows of one tap.
 fn wave_one(
     source: &[u32],
     memory: &mut [u32],
     rule: Rule,
-    p: Tap,
-    a: usize,
-    t: usize,
-    width: usize,
-)
-    requires { FitsBy rule (p ∷ []) a (3 * t + width) source.now memory.old }
-    ensures { memory.new ≡ store_all (made_by rule (p ∷ []) source.now) memory.old (wave_of a t width) }
-{
-    if p.back == 1 && 1 < t {
-        wave_after(source, memory, rule, p, a, t, width);
-        return;
-    }
-    wave_tap(source, memory, rule, p, a, t, width);
-}
-
-fn wave_two(
-    source: &[u32],
-    memory: &mut [u32],
-    rule: Rule,
-    p: Tap,
-    q: Tap,
-    a: usize,
-    t: usize,
-    width: usize,
-)
-    requires { FitsBy rule (p ∷ q ∷ []) a (3 * t + width) source.now memory.old }
-    ensures { memory.new ≡ store_all (made_by rule (p ∷ q ∷ []) source.now) memory.old
-        (wave_of a t width) }
-{
-    for y in 0..width {
-        let b = a + y + t;
-        let c = b + t;
-        let d = c + t;
-        store_two(source, memory, rule, p, q, a + y);
-        store_two(source, memory, rule, p, q, b);
-        store_two(source, memory, rule, p, q, c);
-        store_two(source, memory, rule, p, q, d);
-    }
-}
-
-fn wave_three(
-    source: &[u32],
-    memory: &mut [u32],
-    rule: Rule,
-    p: Tap,
-    q: Tap,
-    r: Tap,
-    a: usize,
-    t: usize,
-    width: usize,
-)
-    requires { FitsBy rule (p ∷ q ∷ r ∷ []) a (3 * t + width) source.now memory.old }
-    ensures { memory.new ≡ store_all (made_by rule (p ∷ q ∷ r ∷ []) source.now) memory.old
-        (wave_of a t width) }
-{
-    for y in 0..width {
-        let b = a + y + t;
-        let c = b + t;
-        let d = c + t;
-        store_three(source, memory, rule, p, q, r, a + y);
-        store_three(source, memory, rule, p, q, r, b);
-        store_three(source, memory, rule, p, q, r, c);
-        store_three(source, memory, rule, p, q, r, d);
-    }
-}
-
-fn wave_four(
-    source: &[u32],
-    memory: &mut [u32],
-    rule: Rule,
-    p: Tap,
-    q: Tap,
-    r: Tap,
-    s: Tap,
-    a: usize,
-    t: usize,
-    width: usize,
-)
-    requires { FitsBy rule (p ∷ q ∷ r ∷ s ∷ []) a (3 * t + width) source.now memory.old }
-    ensures { memory.new ≡ store_all (made_by rule (p ∷ q ∷ r ∷ s ∷ []) source.now) memory.old
-        (wave_of a t width) }
-{
-    for y in 0..width {
-        let b = a + y + t;
-        let c = b + t;
-        let d = c + t;
-        store_four(source, memory, rule, p, q, r, s, a + y);
-        store_four(source, memory, rule, p, q, r, s, b);
-        store_four(source, memory, rule, p, q, r, s, c);
-        store_four(source, memory, rule, p, q, r, s, d);
-    }
-}
-
-fn wave_many(
-    source: &[u32],
-    memory: &mut [u32],
-    rule: Rule,
-    n: usize,
     backs: &[usize; 8],
     weights: &[u64; 8],
     a: usize,
     t: usize,
     width: usize,
 )
-    requires { Fits n backs.now weights.now rule.outside rule.shift a (3 * t + width) (length source.now)
+    requires { Fits 1 backs.now weights.now rule.outside rule.shift a (3 * t + width) (length source.now)
         (length memory.old) }
-    ensures { memory.new ≡ store_all (made n backs.now weights.now rule.outside rule.shift
+    ensures { memory.new ≡ store_all (made 1 backs.now weights.now rule.outside rule.shift
         source.now) memory.old (wave_of a t width) }
 {
-    for y in 0..width {
-        let b = a + y + t;
-        let c = b + t;
-        let d = c + t;
-        store_many(source, memory, rule, n, backs, weights, a + y);
-        store_many(source, memory, rule, n, backs, weights, b);
-        store_many(source, memory, rule, n, backs, weights, c);
-        store_many(source, memory, rule, n, backs, weights, d);
+    let p = tap_at(backs, weights, 0);
+    if p.back == 1 && 1 < t {
+        wave_after(source, memory, rule, p, a, t, width);
+        return;
     }
+    store_wave::<1>(source, memory, rule, backs, weights, a, t, width);
 }
 
 // Tap k. A weight is below 65536; saying so here lets the compiler multiply narrow words.
@@ -476,7 +259,7 @@ fn tap_at(backs: &[usize; 8], weights: &[u64; 8], k: usize) -> Tap
     }
 }
 
-// A row, by whichever loop has as many taps.
+// A row, by the loop of so many taps.
 pub fn row(
     source: &[u32],
     memory: &mut [u32],
@@ -491,27 +274,17 @@ pub fn row(
     ensures { memory.new ≡ store_all (made n backs.now weights.now rule.outside rule.shift
         source.now) memory.old (tabulate (λ y. cell + y) width) }
 {
-    let p = tap_at(backs, weights, 0);
-    if n == 1 {
-        row_one(source, memory, rule, p, cell, width);
-        return;
+    match n {
+        1 => row_one(source, memory, rule, backs, weights, cell, width),
+        2 => store_row::<2>(source, memory, rule, backs, weights, cell, width),
+        3 => store_row::<3>(source, memory, rule, backs, weights, cell, width),
+        4 => store_row::<4>(source, memory, rule, backs, weights, cell, width),
+        5 => store_row::<5>(source, memory, rule, backs, weights, cell, width),
+        6 => store_row::<6>(source, memory, rule, backs, weights, cell, width),
+        7 => store_row::<7>(source, memory, rule, backs, weights, cell, width),
+        8 => store_row::<8>(source, memory, rule, backs, weights, cell, width),
+        _ => store_row::<0>(source, memory, rule, backs, weights, cell, width),
     }
-    let q = tap_at(backs, weights, 1);
-    if n == 2 {
-        row_two(source, memory, rule, p, q, cell, width);
-        return;
-    }
-    let r = tap_at(backs, weights, 2);
-    if n == 3 {
-        row_three(source, memory, rule, p, q, r, cell, width);
-        return;
-    }
-    let s = tap_at(backs, weights, 3);
-    if n == 4 {
-        row_four(source, memory, rule, p, q, r, s, cell, width);
-        return;
-    }
-    row_many(source, memory, rule, n, backs, weights, cell, width);
 }
 
 // Four rows side by side, likewise.
@@ -531,29 +304,16 @@ pub fn wave(
     ensures { memory.new ≡ store_all (made n backs.now weights.now 0 shift
         source.now) memory.old (wave_of a t width) }
 {
-    let rule = Rule {
-        outside: 0,
-        shift: shift,
-    };
-    let p = tap_at(backs, weights, 0);
-    if n == 1 {
-        wave_one(source, memory, rule, p, a, t, width);
-        return;
+    let rule = Rule { outside: 0, shift };
+    match n {
+        1 => wave_one(source, memory, rule, backs, weights, a, t, width),
+        2 => store_wave::<2>(source, memory, rule, backs, weights, a, t, width),
+        3 => store_wave::<3>(source, memory, rule, backs, weights, a, t, width),
+        4 => store_wave::<4>(source, memory, rule, backs, weights, a, t, width),
+        5 => store_wave::<5>(source, memory, rule, backs, weights, a, t, width),
+        6 => store_wave::<6>(source, memory, rule, backs, weights, a, t, width),
+        7 => store_wave::<7>(source, memory, rule, backs, weights, a, t, width),
+        8 => store_wave::<8>(source, memory, rule, backs, weights, a, t, width),
+        _ => store_wave::<0>(source, memory, rule, backs, weights, a, t, width),
     }
-    let q = tap_at(backs, weights, 1);
-    if n == 2 {
-        wave_two(source, memory, rule, p, q, a, t, width);
-        return;
-    }
-    let r = tap_at(backs, weights, 2);
-    if n == 3 {
-        wave_three(source, memory, rule, p, q, r, a, t, width);
-        return;
-    }
-    let s = tap_at(backs, weights, 3);
-    if n == 4 {
-        wave_four(source, memory, rule, p, q, r, s, a, t, width);
-        return;
-    }
-    wave_many(source, memory, rule, n, backs, weights, a, t, width);
 }

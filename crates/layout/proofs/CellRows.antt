@@ -20,7 +20,7 @@ use Rattle.plan.proofs.Box.{box_length_pos, box_cell_place}
 use Rattle.layout.specs.declared.Bounds.{Bounds}
 use Rattle.layout.specs.declared.Cell.{Cell}
 use Rattle.layout.specs.Places.{nth, Countable, Located, Bounded}
-use Rattle.layout.proofs.Dims.{product_turn}
+use Rattle.layout.proofs.Dims.{countable_less}
 use Rattle.layout.proofs.Cells.{box_countable}
 
 -- ---- a number moved by y within its row
@@ -100,7 +100,7 @@ module _ (x : Nest) (ok : Accepted x) where
   deep = omega (arith, ok.dimensions_least)
 
   pub fewer : (l : List ℕ) → Countable l x.dimensions → Countable l (x.dimensions - 1)
-  fewer l h = (product_turn l x.dimensions (λ z. omega (arith, deep)) h).counts
+  fewer l h = countable_less l x.dimensions (x.dimensions - 1) (omega arith) h
 
   -- the rows of a tile's box
   module _ (b : Bounds) (is : Bounded x b) where

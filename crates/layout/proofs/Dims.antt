@@ -1,10 +1,11 @@
--- One turn of each recursion over the dimensions left; places and products over equal lengths.
+-- One turn of each loop and recursion over the dimensions; places and products over equal lengths.
 use Prim.Native.Nat.{ℕ, zero, suc, ◌+◌, ◌*◌, ◌-◌, ◌/◌, ◌%◌, ◌≤◌, ◌<◌}
 use mathlib.Core.Path.{◌≡◌, refl, ap, ◌∙◌}
 use mathlib.Core.Logic.{◌⊎◌, inl, inr, ◌≢◌}
 use mathlib.Core.List.{List}
 use native.Mathlib.Nat.{add-mul, eq-or-lt_of_le, le_of_suc-le-suc, mul-le-mul_right, mul-le-mul_left, mul_assoc, suc-mul, one-mul, mul-one, mod-lt}
 use native.Mathlib.Decide.{dec_lt}
+use native.Mathlib.Numerals.{add-one}
 use native.Mathlib.Omega.{arith}
 use lib.ListN.{length, get_or, set}
 use lib.Seq.{get_or-set_same, get_or-set_other}
@@ -47,23 +48,29 @@ rank_most N i (suc l) p w =
 
 -- ---- the product
 
-pub record ProductTurn (N : List ℕ) (left : ℕ) : Type 0 where
-  pub counts : Countable N (left - 1)
-  pub is : product (nth N) left ≡ product (nth N) (left - 1) * get_or N (left - 1) 0
-
-pub product_turn : (N : List ℕ) (left : ℕ) → left ≢ 0 → Countable N left → ProductTurn N left
+pub product_prefix : (N : ℕ → ℕ) (l j : ℕ) → Positive N l → j ≤ l → product N j ≤ product N l
 unfolding product
-product_turn N zero f h = absurd (f refl)
-product_turn N (suc l) f h =
-    let z : suc l - 1 ≡ l = omega arith in
+product_prefix N zero j p h = let z : j ≡ 0 = omega arith in rw z (omega arith)
+product_prefix N (suc l) j p h = go (dec_lt l j) (λ k. product_prefix N l j (λ q r. p q (omega arith)) k)
+  where
+    go : Dec (l < j) → (j ≤ l → product N j ≤ product N l) → product N j ≤ product N l * N l
+    go (yes k) ih = let z : j ≡ suc l = omega arith in rw z (omega arith)
+    go (no k) ih = omega (arith, ih (omega arith), mul-le-mul_left (product N l) (p l (omega arith)), mul-one (product N l))
+
+pub product_next : (N : ℕ → ℕ) (j : ℕ) → product N (j + 1) ≡ product N j * N j
+unfolding product
+product_next N j = rw (add-one j)
+
+pub countable_less : (N : List ℕ) (left j : ℕ) → j ≤ left → Countable N left → Countable N j
+countable_less N left j h c =
     record {
-      counts = rw z (record {
-        low = omega (arith, h.low);
-        positive = λ j k. h.positive j (omega arith);
-        few = omega (arith, h.few, mul-le-mul_left (product (nth N) l) (h.positive l (omega arith)), mul-one (product (nth N) l));
-      });
-      is = rw z;
+      low = omega (arith, c.low);
+      positive = λ i k. c.positive i (omega arith);
+      few = omega (arith, c.few, product_prefix (nth N) left j c.positive h);
     }
+
+pub product_fits : (N : List ℕ) (left j : ℕ) → j < left → Countable N left → product (nth N) j * get_or N j 0 ≤ 16384
+product_fits N left j h c = omega (arith, product_next (nth N) j, (countable_less N left (j + 1) (omega arith) c).few)
 
 -- ---- the rank
 
@@ -81,8 +88,11 @@ unfolding rank
 rank_turn N i zero f r = absurd (f refl)
 rank_turn N i (suc l) f r =
     let z : suc l - 1 ≡ l = omega arith in
-    let c : Countable N l = rw z at (product_turn N (suc l) f r.counts).counts in
-    record { ranks = rw z (record { counts = c; at_most = λ j h. r.at_most j (omega arith) }); fits = rw z (rank_few N i (suc l) r); is = rw z }
+    record {
+      ranks = rw z (record { counts = countable_less N (suc l) l (omega arith) r.counts; at_most = λ j h. r.at_most j (omega arith) });
+      fits = rw z (rank_few N i (suc l) r);
+      is = rw z;
+    }
 
 -- ---- the place
 
@@ -125,15 +135,6 @@ placed_more N from r n (suc l) f h p =
         rw (place_before (nth N) l n q k)
         (p'.first q k ∙ ap (λ (a : ℕ). a + place (nth N) l (n / get_or N l 0) q) (get_or-set_other from l q (get_or from l 0 + n % get_or N l 0) 0
         (λ (e : q ≡ l). omega arith)))
-
-pub product_prefix : (N : ℕ → ℕ) (l j : ℕ) → Positive N l → j ≤ l → product N j ≤ product N l
-unfolding product
-product_prefix N zero j p h = let z : j ≡ 0 = omega arith in rw z (omega arith)
-product_prefix N (suc l) j p h = go (dec_lt l j) (λ k. product_prefix N l j (λ q r. p q (omega arith)) k)
-  where
-    go : Dec (l < j) → (j ≤ l → product N j ≤ product N l) → product N j ≤ product N l * N l
-    go (yes k) ih = let z : j ≡ suc l = omega arith in rw z (omega arith)
-    go (no k) ih = omega (arith, ih (omega arith), mul-le-mul_left (product N l) (p l (omega arith)), mul-one (product N l))
 
 -- ---- ranks add up
 

@@ -27,6 +27,8 @@ use Rattle.plan.proofs.Tiles.{processor_of_low}
 use Rattle.plan.proofs.Grid.{keep_nothing}
 use Rattle.plan.proofs.Loops.{loops_are_tiles}
 use Rattle.layout.specs.declared.Share.{Share}
+use Rattle.layout.specs.declared.Sizes.{Sizes}
+use Rattle.layout.specs.Sizes.{Sized}
 use Rattle.layout.specs.Places.{nth, Has, Shared}
 use Rattle.layout.proofs.Dims.{product_pos, place_lengths, rank_lengths}
 use Rattle.layout.proofs.Cells.{across_product, across_countable, count_most, box_few}
@@ -146,6 +148,7 @@ module _ (counts across : List ℕ) (spread m p : ℕ) where
   -- what the code makes of a share, and where it stands then
   pub record Turn (f l left weight tile : ℕ) (r : Share) : Type 0 where
     pub some : 0 < r.tiles
+    pub narrow : get_or across l 0 ≤ 1024
     pub in_range : r.first + left % r.tiles * r.stride < get_or across l 0
     pub room : tile + (r.first + left % r.tiles * r.stride) * weight < weight * get_or across l 0
     pub wide : weight * get_or across l 0 ≤ 16384
@@ -369,6 +372,7 @@ module _ (route : Route) (x : Nest) (ok : Accepted x) (across : List ℕ) (a : H
     finding_step l rest left weight tile r c h =
         record {
           some = rw t (many_pos l c.low);
+          narrow = omega (arith, a.each l c.low, count_most x ok l c.low);
           in_range = below;
           room = under_step tile v weight (N l) c.under below;
           wide =
@@ -408,3 +412,11 @@ module _ (route : Route) (x : Nest) (ok : Accepted x) (across : List ℕ) (a : H
         → T (j - 1) left weight tile r
     finding_more zero rest left weight tile r h c e = absurd (omega arith)
     finding_more (suc l) rest left weight tile r h c e = let z : suc l - 1 ≡ l = omega arith in rw z (finding_step l rest left weight tile r c (rw z at e))
+
+-- the same of a nest's counts
+pub finding_turn : (x : Nest) (z : Sizes) → Sized x z → (p f : ℕ) → f < length (tiles_of (box_plan z.route x) p)
+    → (j rest left weight tile : ℕ) (r : Share) → 0 < j
+    → Finding x.counts z.across x.spread x.dimensions p f j rest left weight tile
+    → Shared (get_or z.across (j - 1) 0) (stride x.counts z.across x.spread x.dimensions p (j - 1)) rest r
+    → Turn x.counts z.across x.spread x.dimensions p f (j - 1) left weight tile r
+finding_turn x z s p f h = finding_more z.route x s.accepted z.across (record { each = s.across }) p f h

@@ -1,7 +1,7 @@
 -- For contracts below the calls: no reader needs it.
 -- What the code below the calls is given of a nest: its route and counts, made once in a call; the tiles at the ends of a slot, and the steps to them.
 -- No sentence of document 01.
-use Rattle.std.specs.Prelude.{ℕ, suc, zero, ◌+◌, ◌%◌, ◌<◌, ◌≡◌, List, get_or, eqb}
+use Rattle.std.specs.Prelude.{ℕ, suc, zero, ◌+◌, ◌%◌, ◌<◌, ◌≡◌, ◌≢◌, List, get_or, eqb}
 use Rattle.base.specs.Tests.{one}
 use Rattle.nest.specs.declared.Nest.{Nest}
 use Rattle.nest.specs.Accepted.{Accepted}
@@ -18,6 +18,10 @@ pub record Sized (x : Nest) (z : Sizes) : Type 0 where
   pub processors : z.processors ≡ processors x
   pub ways : z.ways ≡ ways z.route x
   pub across : (j : ℕ) → j < x.dimensions → get_or z.across j 0 ≡ tile_count x j
+
+-- indirect passing is for nests without bounds
+abbrev pub Routed : Nest → Sizes → Type 0
+Routed x z = x.bounds ≢ 0 → z.route ≡ Direct
 
 -- the tile at an end of a slot: 0 the sender, else the taker
 unfoldable pub end_at : Route → Nest → ℕ → ℕ → ℕ

@@ -1,20 +1,20 @@
 // Cells and tiles in code: numbers and places, the tile of a cell, the processor of a tile, a tile's box, the ends of a slot.
 #![tactic(auto)]
 
-ghost use Rattle.std.specs.Prelude.{◌≡◌, ℕ, ◌+◌, ◌*◌, ◌-◌, ◌/◌, ◌%◌, ◌≤◌, ◌<◌, length, get_or, true};
+ghost use Rattle.std.specs.Prelude.{◌≡◌, ◌≢◌, ℕ, ◌+◌, ◌*◌, ◌-◌, ◌/◌, ◌%◌, ◌≤◌, ◌<◌, length, get_or, true};
 ghost use Rattle.base.specs.Tests.{pick, product};
 ghost use Rattle.machine.specs.Plan.{tiles_of};
 ghost use Rattle.nest.specs.Accepted.{Accepted};
 ghost use Rattle.nest.specs.Nest.{tile_count, tile_length, cells, processors, box_tiles};
 ghost use Rattle.nest.specs.Places.{rank, tile_at, box_tile_of, tile_place};
+ghost use Rattle.plan.specs.declared.Route.TheVariants.{Direct};
 ghost use Rattle.plan.specs.Geometry.{processor_of};
 ghost use Rattle.plan.specs.Messages.{ways, slots, box_plan};
 ghost use Rattle.plan.specs.Box.{box_cell};
-ghost use Rattle.layout.specs.Sizes.{Sized, along, end_at, Stepped};
+ghost use Rattle.layout.specs.Sizes.{Sized, Routed, along, end_at, Stepped};
 ghost use Rattle.layout.specs.RouteWords.{route_of};
 ghost use Rattle.layout.specs.Places.{nth, Has, Countable, Ranked, Places, Placed, Shared, Located, Bounded};
 
-use base::least;
 use nest::Nest;
 use nest::division::tile_along;
 use plan::Route;
@@ -28,6 +28,15 @@ pub struct Sizes {
     pub route: Route,
     pub ways: usize,
     pub across: [usize; 4],
+}
+
+// An accepted nest with its counts on a route that is open to it: what the code below the calls works on.
+#[derive(Clone, Copy)]
+pub struct Layout {
+    pub nest: Nest,
+    pub sizes: Sizes,
+    ghost sized: { Sized nest sizes },
+    ghost routed: { Routed nest sizes },
 }
 
 // A processor's share of the tiles along a dimension.
@@ -55,70 +64,43 @@ pub struct Bounds {
     pub size: usize,
 }
 
-// The number of a place among those of the first `left` dimensions.
-pub fn rank_of(lengths: &[usize; 4], at: &[usize; 4], left: usize) -> usize
-    requires { Ranked lengths.now at.now left }
-    ensures { result ≡ rank (nth lengths.now) (nth at.now) left }
+// The number of a place among those of the first `left` dimensions, one dimension at a time.
+pub fn rank(lengths: [usize; 4], at: [usize; 4], left: usize) -> usize
+    requires { Ranked lengths at left }
+    ensures { result ≡ rank (nth lengths) (nth at) left }
 {
     if left == 0 {
         return 0;
     }
     let j = left - 1;
-    let r = rank_of(lengths, at, j);
-    r * lengths[j] + at[j]
+    rank(lengths, at, j) * lengths[j] + at[j]
 }
 
-// The same of arrays by value.
-pub fn rank(lengths: [usize; 4], at: [usize; 4], left: usize) -> usize
-    requires { Ranked lengths at left }
-    ensures { result ≡ rank (nth lengths) (nth at) left }
-{
-    rank_of(&lengths, &at, left)
-}
-
-// The inverse: adds the place of number n to the place `at`.
-pub fn add_place(lengths: &[usize; 4], at: &mut [usize; 4], n: usize, left: usize)
-    requires { (length at.old ≡ 4) × Places lengths.now at.old left }
-    ensures { (length at.new ≡ 4) × Placed lengths.now at.old n left at.new }
-{
-    if left == 0 {
-        return;
-    }
-    let j = left - 1;
-    let m = lengths[j];
-    at[j] += n % m;
-    add_place(lengths, at, n / m, j);
-}
-
-// The same of arrays by value: the place of number n, added to `from`.
+// The inverse, by the same recursion: the place of number n, added to the place `from`.
 pub fn place(lengths: [usize; 4], from: [usize; 4], n: usize, left: usize) -> [usize; 4]
     requires { Places lengths from left }
     ensures { Placed lengths from n left result }
 {
+    if left == 0 {
+        return from;
+    }
+    let j = left - 1;
+    let length = lengths[j];
     let mut at = from;
-    add_place(&lengths, &mut at, n, left);
-    at
+    at[j] += n % length;
+    place(lengths, at, n / length, j)
 }
 
 // The product of the first `left` counts.
-pub fn product_of(counts: &[usize; 4], left: usize) -> usize
-    requires { Countable counts.now left }
-    ensures { result ≡ product (nth counts.now) left }
-{
-    if left == 0 {
-        return 1;
-    }
-    let j = left - 1;
-    let r = product_of(counts, j);
-    r * counts[j]
-}
-
-// The same of an array by value.
 pub fn product(counts: [usize; 4], left: usize) -> usize
     requires { Countable counts left }
     ensures { result ≡ product (nth counts) left }
 {
-    product_of(&counts, left)
+    let mut product = 1;
+    for count in &counts[..left] {
+        product *= *count;
+    }
+    product
 }
 
 // Tiles along each dimension: up to the one that holds the last cell.
@@ -127,8 +109,7 @@ fn across_of(nest: Nest) -> [usize; 4]
     ensures { Has result (tile_count nest) nest.dimensions }
 {
     let mut across = [0; 4];
-    let n = nest.dimensions;
-    for j in 0..n {
+    for j in 0..nest.dimensions {
         across[j] = tile_along(nest.lengths[j] - 1, nest.tiling[j]) + 1;
     }
     across
@@ -156,103 +137,23 @@ fn ways_of(nest: Nest, route: Route) -> usize
     }
 }
 
-pub fn sizes_of(nest: Nest, route: Route) -> Sizes
+fn sizes_of(nest: Nest, route: Route) -> Sizes
     requires { Accepted nest }
     ensures { Sized nest result × (result.route ≡ route) }
 {
-    let lengths = nest.lengths;
-    let counts = nest.counts;
     let across = across_of(nest);
-    let cells = product(lengths, nest.dimensions);
+    let cells = product(nest.lengths, nest.dimensions);
     let tiles = product(across, nest.dimensions);
-    let processors = product(counts, nest.spread);
+    let processors = product(nest.counts, nest.spread);
     let ways = ways_of(nest, route);
     Sizes {
-        cells: cells,
-        tiles: tiles,
-        processors: processors,
-        route: route,
-        ways: ways,
-        across: across,
+        cells,
+        tiles,
+        processors,
+        route,
+        ways,
+        across,
     }
-}
-
-pub fn cell_of(nest: Nest, cell: usize) -> Cell
-    requires { Accepted nest × (cell < cells nest) }
-    ensures { Located nest cell result }
-{
-    let lengths = nest.lengths;
-    let at = place(lengths, [0; 4], cell, nest.dimensions);
-    Cell {
-        number: cell,
-        place: at,
-    }
-}
-
-// Puts a tile's place into `at`.
-pub fn put_tile(nest: Nest, sizes: Sizes, tile: usize, at: &mut [usize; 4])
-    requires { Sized nest sizes }
-    ensures { (length at.new ≡ 4) × Has at.new (tile_place nest tile) nest.dimensions }
-{
-    let across = sizes.across;
-    *at = [0; 4];
-    add_place(&across, at, tile, nest.dimensions);
-}
-
-pub fn place_of_tile(nest: Nest, sizes: Sizes, tile: usize) -> [usize; 4]
-    requires { Sized nest sizes }
-    ensures { Has result (tile_place nest tile) nest.dimensions }
-{
-    let mut at = [0; 4];
-    put_tile(nest, sizes, tile, &mut at);
-    at
-}
-
-// The tile's place of a cell's: the quotient in each dimension.
-fn quotients(nest: Nest, at: [usize; 4]) -> [usize; 4]
-    requires { Accepted nest × ((j : ℕ) → j < nest.dimensions → get_or at j 0 < 1024) }
-    ensures { Has result (λ j. get_or at j 0 / tile_length nest j) nest.dimensions }
-{
-    let mut tile = at;
-    let n = nest.dimensions;
-    for j in 0..n {
-        tile[j] = tile_along(at[j], nest.tiling[j]);
-    }
-    tile
-}
-
-pub fn tile_of(nest: Nest, sizes: Sizes, cell: usize) -> usize
-    requires { Sized nest sizes × (cell < cells nest) }
-    ensures { (result ≡ box_tile_of nest cell) × (result < box_tiles nest) }
-{
-    let c = cell_of(nest, cell);
-    let at = c.place;
-    let tile = quotients(nest, at);
-    let across = sizes.across;
-    rank(across, tile, nest.dimensions)
-}
-
-// Makes a tile's place its processor's: the remainder in each spread dimension.
-fn remainders(nest: Nest, at: &mut [usize; 4])
-    requires { Accepted nest × (length at.old ≡ 4) }
-    ensures { Has at.new (λ j. get_or at.old j 0 % get_or nest.counts j 0) nest.spread }
-{
-    let counts = nest.counts;
-    let n = nest.spread;
-    for j in 0..n {
-        at[j] %= counts[j];
-    }
-}
-
-pub fn processor_of(nest: Nest, sizes: Sizes, tile: usize) -> usize
-    requires { Sized nest sizes × (tile < box_tiles nest) }
-    ensures { (result ≡ processor_of nest tile) × (result < processors nest) }
-{
-    let mut at = [0; 4];
-    put_tile(nest, sizes, tile, &mut at);
-    remainders(nest, &mut at);
-    let counts = nest.counts;
-    rank_of(&counts, &at, nest.spread)
 }
 
 // A processor's tiles along a dimension, in a spread one each `count`-th; `rest` is its number over the dimensions before.
@@ -270,154 +171,203 @@ fn share_of(across: usize, count: usize, processor: usize, spread: bool) -> Shar
     }
     let first = processor % count;
     Share {
-        first: first,
+        first,
         stride: count,
         tiles: (across - 1 + count - first) / count,
         rest: processor / count,
     }
 }
 
-// How many tiles a processor has: the product of its shares.
-pub fn tile_count(nest: Nest, sizes: Sizes, processor: usize) -> usize
-    requires { Sized nest sizes }
-    ensures { (result ≡ length (tiles_of (box_plan sizes.route nest) processor)) × (result ≤ 16384) }
-{
-    if processor >= sizes.processors {
-        return 0;
+impl Layout {
+    pub fn of(nest: Nest, route: Route) -> Self
+        requires accepted { Accepted nest }
+        requires routed { nest.bounds ≢ 0 → route ≡ Direct }
+        ensures { (result.nest ≡ nest) × (result.sizes.route ≡ route) }
+    {
+        let sizes = sizes_of(nest, route);
+        Layout { nest, sizes }
     }
-    let counts = nest.counts;
-    let across = sizes.across;
-    let spread = nest.spread;
-    let m = nest.dimensions;
-    let mut j = m;
-    let mut rest = processor;
-    let mut n = 1;
-    while j > 0 {
-        j -= 1;
-        let share = share_of(across[j], counts[j], rest, j < spread);
-        n *= share.tiles;
-        rest = share.rest;
-    }
-    n
-}
 
-// Its tile after so many finished ones: in each dimension the place among its share, from the last dimension on.
-pub fn tile_at(nest: Nest, sizes: Sizes, processor: usize, finished: usize) -> usize
-    requires { Sized nest sizes × (finished < length (tiles_of (box_plan sizes.route nest) processor)) }
-    ensures { (result ≡ get_or (tiles_of (box_plan sizes.route nest) processor) finished 0) × (result < box_tiles nest) }
-{
-    let counts = nest.counts;
-    let across = sizes.across;
-    let spread = nest.spread;
-    let m = nest.dimensions;
-    let mut j = m;
-    let mut rest = processor;
-    let mut left = finished;
-    let mut weight = 1;
-    let mut tile = 0;
-    while j > 0 {
-        j -= 1;
-        let share = share_of(across[j], counts[j], rest, j < spread);
-        tile += (share.first + left % share.tiles * share.stride) * weight;
-        rest = share.rest;
-        left = left / share.tiles;
-        weight *= across[j];
-    }
-    tile
-}
-
-// The box of a tile's cells; an edge tile ends where the nest does.
-pub fn bounds_of(nest: Nest, sizes: Sizes, tile: usize) -> Bounds
-    requires { Sized nest sizes × (tile < box_tiles nest) }
-    ensures { Bounded nest result × (result.tile ≡ tile) }
-{
-    let ends = nest.lengths;
-    let tiling = nest.tiling;
-    let mut corner = [0; 4];
-    put_tile(nest, sizes, tile, &mut corner);
-    let mut lengths = [0; 4];
-    let n = nest.dimensions;
-    for j in 0..n {
-        let k = tiling[j];
-        let first = corner[j] * k;
-        corner[j] = first;
-        lengths[j] = least(k, ends[j] - first);
-    }
-    let size = product_of(&lengths, nest.dimensions);
-    Bounds {
-        tile: tile,
-        corner: corner,
-        lengths: lengths,
-        size: size,
-    }
-}
-
-// The q-th cell of the box.
-pub fn cell_in(nest: Nest, bounds: Bounds, q: usize) -> Cell
-    requires { Accepted nest × (Bounded nest bounds × (q < bounds.size)) }
-    ensures { Located nest (box_cell nest bounds.tile q) result }
-{
-    let inner = bounds.lengths;
-    let lengths = nest.lengths;
-    let mut at = bounds.corner;
-    add_place(&inner, &mut at, q, nest.dimensions);
-    let number = rank_of(&lengths, &at, nest.dimensions);
-    Cell {
-        number: number,
-        place: at,
-    }
-}
-
-// How a way moves a tile's place: by a direction's components, or by one in a spread dimension.
-pub fn along_of(nest: Nest, sizes: Sizes, way: usize) -> [usize; 4]
-    requires { Sized nest sizes × (way < ways sizes.route nest) }
-    ensures { Has result (along sizes.route nest way) nest.dimensions }
-{
-    let route = sizes.route;
-    match route {
-        Route::Direct => place([2; 4], [0; 4], way + 1, nest.spread),
-        Route::Indirect => {
-            let mut at = [0; 4];
-            at[way] = 1;
-            at
+    pub fn cell_of(&self, cell: usize) -> Cell
+        requires { cell < cells self.now.nest }
+        ensures { Located self.now.nest cell result }
+    {
+        Cell {
+            number: cell,
+            place: place(self.nest.lengths, [0; 4], cell, self.nest.dimensions),
         }
     }
-}
 
-// How far the taker is from the sender along a way: the same from every tile.
-fn step_of(nest: Nest, sizes: Sizes, way: usize) -> usize
-    requires { Sized nest sizes × (way < ways sizes.route nest) }
-    ensures { (result ≡ tile_at nest (along sizes.route nest way)) × (result ≤ 65536) }
-{
-    let at = along_of(nest, sizes, way);
-    let across = sizes.across;
-    rank(across, at, nest.dimensions)
-}
+    pub fn place_of_tile(&self, tile: usize) -> [usize; 4]
+        ensures { Has result (tile_place self.now.nest tile) self.now.nest.dimensions }
+    {
+        place(self.sizes.across, [0; 4], tile, self.nest.dimensions)
+    }
 
-// The tile at an end of a slot: 0 the sender, else the taker.
-pub fn end_of(nest: Nest, sizes: Sizes, slot: usize, side: usize) -> usize
-    requires { Sized nest sizes × (slot < slots sizes.route nest) }
-    ensures { result ≡ end_at sizes.route nest side slot }
-{
-    let sender = slot / sizes.ways;
-    if side == 0 {
-        return sender;
+    // The tile's place of a cell's: the quotient in each dimension.
+    fn quotients(&self, at: [usize; 4]) -> [usize; 4]
+        requires { (j : ℕ) → j < self.now.nest.dimensions → get_or at j 0 < 1024 }
+        ensures { Has result (λ j. get_or at j 0 / tile_length self.now.nest j) self.now.nest.dimensions }
+    {
+        let mut tile = at;
+        for j in 0..self.nest.dimensions {
+            tile[j] = tile_along(at[j], self.nest.tiling[j]);
+        }
+        tile
     }
-    sender + step_of(nest, sizes, slot % sizes.ways)
-}
 
-// How far the tile at that end is from the sender, along each way.
-pub fn steps_of(nest: Nest, sizes: Sizes, side: usize) -> [usize; 8]
-    requires { Sized nest sizes }
-    ensures { Stepped sizes.route nest side result }
-{
-    let mut steps = [0; 8];
-    if side == 0 {
-        return steps;
+    pub fn tile_of(&self, cell: usize) -> usize
+        requires { cell < cells self.now.nest }
+        ensures { (result ≡ box_tile_of self.now.nest cell) × (result < box_tiles self.now.nest) }
+    {
+        let tile = self.quotients(self.cell_of(cell).place);
+        rank(self.sizes.across, tile, self.nest.dimensions)
     }
-    let n = sizes.ways;
-    for w in 0..n {
-        steps[w] = step_of(nest, sizes, w);
+
+    // The processor's place of a tile's: the remainder in each spread dimension.
+    fn remainders(&self, at: [usize; 4]) -> [usize; 4]
+        ensures { Has result (λ j. get_or at j 0 % get_or self.now.nest.counts j 0) self.now.nest.spread }
+    {
+        let mut processor = at;
+        for j in 0..self.nest.spread {
+            processor[j] = at[j] % self.nest.counts[j];
+        }
+        processor
     }
-    steps
+
+    pub fn processor_of(&self, tile: usize) -> usize
+        requires { tile < box_tiles self.now.nest }
+        ensures { (result ≡ processor_of self.now.nest tile) × (result < processors self.now.nest) }
+    {
+        let at = self.remainders(self.place_of_tile(tile));
+        rank(self.nest.counts, at, self.nest.spread)
+    }
+
+    // How many tiles a processor has: the product of its shares.
+    pub fn tile_count(&self, processor: usize) -> usize
+        ensures { (result ≡ length (tiles_of (box_plan self.now.sizes.route self.now.nest) processor)) × (result ≤ 16384) }
+    {
+        if processor >= self.sizes.processors {
+            return 0;
+        }
+        let mut rest = processor;
+        let mut n = 1;
+        for j in (0..self.nest.dimensions).rev() {
+            let share = share_of(
+                self.sizes.across[j],
+                self.nest.counts[j],
+                rest,
+                j < self.nest.spread,
+            );
+            n *= share.tiles;
+            rest = share.rest;
+        }
+        n
+    }
+
+    // Its tile after so many finished ones: in each dimension the place among its share, from the last dimension on.
+    pub fn tile_at(&self, processor: usize, finished: usize) -> usize
+        requires { finished < length (tiles_of (box_plan self.now.sizes.route self.now.nest) processor) }
+        ensures { (result ≡ get_or (tiles_of (box_plan self.now.sizes.route self.now.nest) processor) finished 0) × (result < box_tiles self.now.nest) }
+    {
+        let mut rest = processor;
+        let mut left = finished;
+        let mut weight = 1;
+        let mut tile = 0;
+        for j in (0..self.nest.dimensions).rev() {
+            let share = share_of(
+                self.sizes.across[j],
+                self.nest.counts[j],
+                rest,
+                j < self.nest.spread,
+            );
+            tile += (share.first + left % share.tiles * share.stride) * weight;
+            rest = share.rest;
+            left /= share.tiles;
+            weight *= self.sizes.across[j];
+        }
+        tile
+    }
+
+    // The box of a tile's cells; an edge tile ends where the nest does.
+    pub fn bounds_of(&self, tile: usize) -> Bounds
+        requires { tile < box_tiles self.now.nest }
+        ensures { Bounded self.now.nest result × (result.tile ≡ tile) }
+    {
+        let mut corner = self.place_of_tile(tile);
+        let mut lengths = [0; 4];
+        for j in 0..self.nest.dimensions {
+            let first = corner[j] * self.nest.tiling[j];
+            corner[j] = first;
+            lengths[j] = self.nest.tiling[j].min(self.nest.lengths[j] - first);
+        }
+        let size = product(lengths, self.nest.dimensions);
+        Bounds {
+            tile,
+            corner,
+            lengths,
+            size,
+        }
+    }
+
+    // The q-th cell of the box.
+    pub fn cell_in(&self, bounds: Bounds, q: usize) -> Cell
+        requires { Bounded self.now.nest bounds × (q < bounds.size) }
+        ensures { Located self.now.nest (box_cell self.now.nest bounds.tile q) result }
+    {
+        let at = place(bounds.lengths, bounds.corner, q, self.nest.dimensions);
+        Cell {
+            number: rank(self.nest.lengths, at, self.nest.dimensions),
+            place: at,
+        }
+    }
+
+    // How a way moves a tile's place: by a direction's components, or by one in a spread dimension.
+    pub fn along_of(&self, way: usize) -> [usize; 4]
+        requires { way < ways self.now.sizes.route self.now.nest }
+        ensures { Has result (along self.now.sizes.route self.now.nest way) self.now.nest.dimensions }
+    {
+        match self.sizes.route {
+            Route::Direct => place([2; 4], [0; 4], way + 1, self.nest.spread),
+            Route::Indirect => {
+                let mut at = [0; 4];
+                at[way] = 1;
+                at
+            }
+        }
+    }
+
+    // How far the taker is from the sender along a way: the same from every tile.
+    fn step_of(&self, way: usize) -> usize
+        requires { way < ways self.now.sizes.route self.now.nest }
+        ensures { (result ≡ tile_at self.now.nest (along self.now.sizes.route self.now.nest way)) × (result ≤ 65536) }
+    {
+        rank(self.sizes.across, self.along_of(way), self.nest.dimensions)
+    }
+
+    // The tile at an end of a slot: 0 the sender, else the taker.
+    pub fn end_of(&self, slot: usize, side: usize) -> usize
+        requires { slot < slots self.now.sizes.route self.now.nest }
+        ensures { result ≡ end_at self.now.sizes.route self.now.nest side slot }
+    {
+        let sender = slot / self.sizes.ways;
+        if side == 0 {
+            return sender;
+        }
+        sender + self.step_of(slot % self.sizes.ways)
+    }
+
+    // How far the tile at that end is from the sender, along each way.
+    pub fn steps_of(&self, side: usize) -> [usize; 8]
+        ensures { Stepped self.now.sizes.route self.now.nest side result }
+    {
+        let mut steps = [0; 8];
+        if side == 0 {
+            return steps;
+        }
+        for w in 0..self.sizes.ways {
+            steps[w] = self.step_of(w);
+        }
+        steps
+    }
 }

@@ -12,7 +12,7 @@ use lib.Dec.{ltb, leb}
 use borrow.Author.Tests.{ltb-true, ltb-false, eqb-true, eqb-false, le-leb, lt-ltb}
 use Rattle.base.specs.Tests.{◌and◌, every, some, keep}
 use Rattle.base.specs.Numbers.{first_of}
-use Rattle.base.proofs.Tests.{both, neither, true_not, not-true, not-false, is_false, and_true, never_both, every_at, none_some, pick_true}
+use Rattle.base.proofs.Tests.{both, neither, true_not, not-true, not-false, is_false, and_true, never_both, every_at, some_one, none_some, pick_true}
 use Rattle.base.proofs.Select.{keep_same, keep_few}
 use Rattle.base.proofs.Numbers.{none_first}
 use Rattle.nest.specs.declared.Nest.{Nest}
@@ -313,7 +313,7 @@ module _ (bytes : List ℕ) (n m e : ℕ) where
         manned = s.manned;
         near = near_in x p.tiling;
         component_most = λ d j. small_component (4 * d + j) (dec_lt (4 * d + j) (4 * e));
-        moves = moves_in x p.distances;
+        moves = λ e l. let m = moves_in x p.distances e l in some_one _ x.dimensions m.0 m.1 (le-leb _ _ m.2);
         weight_most = weight_below b;
         side_most = λ k. omega (arith, side_small f k);
         bounded_low = λ k l. rw sizes_are.0 (bounded_small f k (rw sizes_are.3 at l));

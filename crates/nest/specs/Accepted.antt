@@ -1,7 +1,7 @@
 -- For contracts below the calls: no reader needs it.
 -- What every accepted nest has, and all that the layers above use of it.
 -- Follows from lines 2 to 8 of document 01, "Numbers a call gives", and 20 of document 02, W-209.
-use Rattle.std.specs.Prelude.{ℕ, ◌≤◌, ◌<◌, ◌≡◌, true}
+use Rattle.std.specs.Prelude.{ℕ, ◌≤◌, ◌<◌, ◌≡◌, true, leb}
 use Rattle.base.specs.Tests.{some}
 use Rattle.nest.specs.declared.Nest.{Nest}
 use Rattle.nest.specs.Nest.{length_of, tile_length, processor_count, component, weight, side, bounded, earlier, slope, bound_offset, cells, processors}
@@ -22,7 +22,7 @@ pub record Accepted (x : Nest) : Type 0 where
   pub manned : (j : ℕ) → j < x.spread → 1 ≤ processor_count x j
   pub near : (e j : ℕ) → e < x.distances → j < x.dimensions → component x e j ≤ tile_length x j
   pub component_most : (e j : ℕ) → component x e j ≤ 1024
-  pub moves : (e : ℕ) → e < x.distances → (j : ℕ) × (j < x.dimensions) × (1 ≤ component x e j)
+  pub moves : (e : ℕ) → e < x.distances → some (λ j. leb 1 (component x e j)) x.dimensions ≡ true
   pub weight_most : (e : ℕ) → weight x e < 65536
   pub side_most : (k : ℕ) → side x k ≤ 1
   pub bounded_low : (k : ℕ) → k < x.bounds → bounded x k < x.dimensions

@@ -1,12 +1,14 @@
 -- Read this.
 -- A recipe's bytes: records and fields, the nest they give, the reader's lines, what reading answers.
 -- Renders document 01, "The recipe" and "Numbers a call gives", lines 1 to 8; of document 02, W-203, W-205, W-207, W-209.
-use Rattle.std.specs.Prelude.{ℕ, ◌+◌, ◌*◌, ◌-◌, ◌/◌, ◌%◌, Bool, List, [], ◌∷◌, length, get_or, eqb, ltb, leb}
+use Rattle.std.specs.Prelude.{ℕ, ◌≡◌, ◌+◌, ◌*◌, ◌-◌, ◌/◌, ◌%◌, Bool, List, [], ◌∷◌, length, get_or, eqb, ltb, leb, Result, IfOk}
 use Rattle.base.specs.Tests.{◌and◌, ◌or◌, not, pick, every, some, keep, those, tabulate}
 use Rattle.base.specs.Numbers.{Line, line, first_of}
 use Rattle.base.specs.Bytes.{half, word}
+use Rattle.base.specs.Lists.{Bytes}
+use Rattle.base.specs.declared.refusal.Refusal.{Refusal}
+use Rattle.base.specs.Refusals.{number_of}
 use Rattle.nest.specs.declared.Nest.{Nest}
-use Rattle.nest.specs.declared.Reading.{Reading}
 use Rattle.nest.specs.Nest.{length_of, tile_length, processor_count, component, cells, processors}
 use Rattle.nest.specs.Shape.{in_shape, tiles}
 
@@ -170,6 +172,8 @@ nest_lines needless x =
 unfoldable pub read_lines : List ℕ → List Line
 read_lines bytes = line 1 (ragged bytes) ∷ line 2 (stray_record bytes) ∷ nest_lines (needlessly_wide bytes) (nest_of bytes)
 
-abbrev pub reading_of : List ℕ → Reading
-reading_of bytes =
-    record { number = first_of (read_lines bytes); nest = pick (eqb (first_of (read_lines bytes)) 0) (nest_of bytes) (nest_by [] 0 0 0) }
+-- what reading answers: the nest, or the refusal of the first line that is true
+pub record Reads (bytes : List ℕ) (answer : Result Nest Refusal) : Type 0 where
+  pub number : number_of answer ≡ first_of (read_lines bytes)
+  pub nest : IfOk answer (λ x. x ≡ nest_of bytes)
+  pub bytes_are : IfOk answer (λ _. Bytes bytes)

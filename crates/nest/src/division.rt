@@ -25,8 +25,8 @@ pub fn tile_along(component: usize, length: usize) -> usize
     requires { (component < 1024) × ((1 ≤ length) × (length < 65536)) }
     ensures { result ≡ component / length }
 {
-    let s = split(component as u16, length as u16);
-    base::half_index(s.tile)
+    let tiled = split(component as u16, length as u16);
+    usize::from(tiled.tile)
 }
 
 // Its place in that tile.
@@ -35,7 +35,7 @@ pub fn place_along(component: usize, length: usize) -> usize
     ensures { result ≡ component % length }
 {
     let divided = split(component as u16, length as u16);
-    base::half_index(divided.rest)
+    usize::from(divided.rest)
 }
 
 // How many tiles there are along a dimension: up to the one that holds the last cell.

@@ -1,4 +1,4 @@
-// A nest by value and what reading gives; and a nest's rows: the cells of each that are in the shape, and the tiles that hold one.
+// A nest by value, and its rows: the cells of each that are in the shape, and the tiles that hold one.
 #![tactic(auto)]
 
 ghost use Rattle.std.specs.Prelude.{◌≡◌, ℕ, ◌+◌, ◌*◌, ◌/◌, ◌<◌, ◌≤◌, length, get_or, replicate, leb};
@@ -48,13 +48,6 @@ pub struct Nest {
     pub offsets: [u16; 4],
     pub shift: u64,
     pub boundary: u64,
-}
-
-// What reading gives: 0 and the nest, or the number of the line that refuses the bytes.
-#[derive(Clone, Copy)]
-pub struct Reading {
-    pub number: u32,
-    pub nest: Nest,
 }
 
 // Components of the last dimension: from the first up to the second, or none.
@@ -157,29 +150,18 @@ fn cut(nest: Nest, at: &[usize; 4], k: usize, s: Interval) -> Interval
 }
 
 // The cells of a row that are in the shape: one span.
-fn span_of(nest: Nest, at: &[usize; 4]) -> Interval
-    requires { Framed nest × Narrow nest at.now }
-    ensures { Spans nest at.now result }
-{
-    let last = nest.dimensions - 1;
-    let n = nest.bounds;
-    let lengths = nest.lengths;
-    let mut left = Interval {
-        from: 0,
-        to: lengths[last],
-    };
-    for k in 0..n {
-        left = cut(nest, at, k, left);
-    }
-    left
-}
-
-// The same, of a place by value.
 pub fn span(nest: Nest, at: [usize; 4]) -> Interval
     requires { Framed nest × Narrow nest at }
     ensures { Spans nest at result }
 {
-    span_of(nest, &at)
+    let mut left = Interval {
+        from: 0,
+        to: nest.lengths[nest.dimensions - 1],
+    };
+    for k in 0..nest.bounds {
+        left = cut(nest, &at, k, left);
+    }
+    left
 }
 
 // Writes the place of number n over the first `left` dimensions: the inverse of a rank, by the same recursion.
@@ -196,22 +178,13 @@ fn put_place(lengths: &[usize; 4], at: &mut [usize; 4], n: usize, left: usize)
     put_place(lengths, at, n / m, j);
 }
 
-// Writes the place of a row's first cell, over zeros.
-fn put_row(nest: Nest, q: usize, at: &mut [usize; 4])
-    requires { Framed nest × (at.old ≡ replicate 4 0) }
-    ensures { Row nest q at.new }
-{
-    let lengths = nest.lengths;
-    put_place(&lengths, at, q, nest.dimensions - 1);
-}
-
 // The place of a row's first cell.
 pub fn row_place(nest: Nest, q: usize) -> [usize; 4]
     requires { Framed nest }
     ensures { Row nest q result }
 {
     let mut at = [0usize; 4];
-    put_row(nest, q, &mut at);
+    put_place(&nest.lengths, &mut at, q, nest.dimensions - 1);
     at
 }
 
@@ -220,8 +193,7 @@ pub fn row_count(nest: Nest) -> usize
     requires { Framed nest }
     ensures { result * length_of nest (last nest) ≡ cells nest }
 {
-    let lengths = nest.lengths;
-    product_of(lengths, nest.dimensions - 1)
+    product_of(nest.lengths, nest.dimensions - 1)
 }
 
 // ---- the tiles that hold a cell of a row
@@ -245,9 +217,7 @@ fn tile_at(nest: Nest, at: &[usize; 4]) -> usize
     requires { (Framed nest × Tiled nest) × InBox nest at.now }
     ensures { result ≡ tile_at nest (λ j. spot at.now j / tile_length nest j) }
 {
-    let lengths = nest.lengths;
-    let tiling = nest.tiling;
-    tile_rank(&lengths, &tiling, at, nest.dimensions)
+    tile_rank(&nest.lengths, &nest.tiling, at, nest.dimensions)
 }
 
 // Marks the places from one up to another.
@@ -265,13 +235,11 @@ pub fn mark_row(nest: Nest, q: usize, marks: &mut [u8])
     requires { (Framed nest × Tiled nest) × ((q * length_of nest (last nest) < cells nest) × (box_tiles nest ≤ length marks.old)) }
     ensures { RowMarked nest q marks.old marks.new }
 {
-    let mut at = [0usize; 4];
-    put_row(nest, q, &mut at);
-    let s = span_of(nest, &at);
+    let at = row_place(nest, q);
+    let s = span(nest, at);
     if s.from < s.to {
         let first = tile_at(nest, &at);
-        let tiling = nest.tiling;
-        let length = tiling[nest.dimensions - 1];
+        let length = nest.tiling[nest.dimensions - 1];
         let from = tile_along(s.from, length);
         let to = tile_along(s.to - 1, length);
         mark(marks, first + from, first + to + 1);

@@ -2,9 +2,10 @@
 -- What the calls answer, line by line.
 use mathlib.Core.Path.{◌≡◌, refl, sym, ap, ap₂, ◌∙◌}
 use mathlib.Core.Bool.{Bool, true, false}
+use mathlib.Core.Logic.{◌≢◌}
 use mathlib.Core.List.{List, [], ◌∷◌, ◌++◌}
-use Prim.Native.Nat.{ℕ, zero, suc, ◌+◌, ◌-◌, ◌*◌, ◌^◌, ◌≤◌, ◌<◌}
-use native.Mathlib.Nat.{zero-add, sub-zero}
+use Prim.Native.Nat.{ℕ, zero, suc, ◌+◌, ◌*◌, ◌^◌, ◌≤◌, ◌<◌}
+use native.Mathlib.Nat.{zero-add}
 use native.Mathlib.Omega.{arith}
 use borrow.Author.Tests.{eq-eqb, ne_eqb, lt-ltb, le-ltb, ltb-false, eqb-true}
 use lib.ListN.{length, take, drop}
@@ -18,9 +19,12 @@ use Rattle.base.proofs.Numbers.{first_nil, first_true, first_false, none_first}
 use Rattle.packets.specs.Crc.{crc32}
 use Rattle.packets.specs.Packet.{word_bytes, words_bytes, magic, packet_length, head_words, body_of, encode_packet, word_at, double_at, count_of, header_of}
 use Rattle.packets.specs.Packet.{words_of, unfit, damaged, stale}
-use Rattle.packets.specs.Calls.{Put, written_of, written_by, write_call, Read, no_header, read_of, read_by, read_lines, read_call}
+use Rattle.packets.specs.Calls.{Put, written_of, written_by, write_call, no_header, read_of, read_by, read_lines, read_call}
 use Rattle.packets.specs.declared.Header.{Header}
-use Rattle.packets.specs.declared.Reading.{Reading}
+use Rattle.std.specs.Prelude.{Ok, Err}
+use Rattle.base.specs.Refusals.{code}
+use Rattle.base.specs.declared.refusal.Refusal.{Refusal}
+use Rattle.base.proofs.Codes.{code_some}
 use Rattle.packets.proofs.Bytes.{les_append, length_les, length_le, length_body, put_join}
 
 -- the code's "not equal" is the library's
@@ -31,9 +35,9 @@ not_same false = refl
 
 -- ---- so many words in so many bytes
 
-pub unfit_many : (n m : ℕ) → 285 < n → true ≡ unfit n m
+pub unfit_many : (n m : ℕ) → 285 < n → ltb 285 n ≡ unfit n m
 unfolding unfit
-unfit_many n m h = sym (or_left _ (lt-ltb 285 n h))
+unfit_many n m h = lt-ltb 285 n h ∙ sym (or_left _ (lt-ltb 285 n h))
 
 pub unfit_long : (n m : ℕ) → n ≤ 285 → (t : Bool) → t ≡ mathlib.Core.Bool.not (eqb m (56 + 4 * n + 4)) → t ≡ unfit n m
 unfolding unfit ◌or◌
@@ -98,9 +102,9 @@ pub damaged_unfit : (p : List ℕ) (n : ℕ) → n ≡ count_of p → unfit n (l
 unfolding damaged
 damaged_unfit p n k h = sym (or_left _ (ap (λ (x : ℕ). unfit x (length p)) (sym k) ∙ h))
 
-pub damaged_magic : (p : List ℕ) (m : ℕ) → m ≡ word_at p 0 → (m ≡ magic → ⊥) → true ≡ damaged p
+pub damaged_magic : (p : List ℕ) (m : ℕ) → m ≡ word_at p 0 → (m ≡ magic → ⊥) → mathlib.Core.Bool.not (eqb m magic) ≡ damaged p
 unfolding damaged
-damaged_magic p m k h = sym (or_right (unfit (count_of p) (length p)) (or_left _ (not-false (ne_eqb (word_at p 0) magic (λ e. h (k ∙ e))))))
+damaged_magic p m k h = not_same _ ∙ not-false (ne_eqb m magic h) ∙ sym (or_right (unfit (count_of p) (length p)) (or_left _ (not-false (ne_eqb (word_at p 0) magic (λ e. h (k ∙ e))))))
 
 -- the check word alone is left to be tested
 pub damaged_check : (p : List ℕ) (n c w m : ℕ) (t : Bool) → n ≡ count_of p → unfit n (length p) ≡ false → m ≡ word_at p 0 → m ≡ magic
@@ -141,9 +145,9 @@ is_whole p w =
 
 -- ---- stale
 
-pub stale_recipe : (p : List ℕ) (f n w : ℕ) → w ≡ double_at p 1 → (w ≡ f → ⊥) → true ≡ stale f n p
+pub stale_recipe : (p : List ℕ) (f n w : ℕ) → w ≡ double_at p 1 → (w ≡ f → ⊥) → mathlib.Core.Bool.not (eqb w f) ≡ stale f n p
 unfolding stale
-stale_recipe p f n w k h = sym (or_left _ (not-false (ne_eqb (double_at p 1) f (λ e. h (k ∙ e)))))
+stale_recipe p f n w k h = not_same _ ∙ not-false (ne_eqb w f h) ∙ sym (or_left _ (not-false (ne_eqb (double_at p 1) f (λ e. h (k ∙ e)))))
 
 -- the run alone is left to be tested
 pub stale_run : (p : List ℕ) (f n v w : ℕ) (t : Bool) → v ≡ double_at p 1 → v ≡ f → w ≡ double_at p 3 → t ≡ mathlib.Core.Bool.not (eqb w n) → t ≡ stale f n p
@@ -182,31 +186,22 @@ readable f n p room z =
 
 -- ---- reading: the answer
 
-pub part_crc : (p : List ℕ) (n c : ℕ) → c ≡ crc32 (take (n - 0) (drop 0 p)) → c ≡ crc32 (take n p)
-part_crc p n c e = rw (sub-zero n) at e
+pub refused_as : (r : Refusal) (f n : ℕ) (p ws : List ℕ) → code r ≡ first_of (read_lines f n p (length ws)) → read_of (Err r) ws ≡ read_call f n p ws
+unfolding read_call
+refused_as r f n p ws e = go (code r) (code_some r) ∙ ap (λ (x : ℕ). read_by x p ws) e
+  where
+    go : (x : ℕ) → x ≢ 0 → record { number = x; header = no_header; count = 0; words = ws } ≡ read_by x p ws
+    go zero h = absurd (h refl)
+    go (suc x) h = refl
 
-unfoldable pub made : ℕ → Header → ℕ → List ℕ → Read
-made a h c l = record { number = a; header = h; count = c; words = l }
-
-made_same : {a b c d : ℕ} {h g : Header} {l m : List ℕ} → a ≡ b → h ≡ g → c ≡ d → l ≡ m → made a h c l ≡ made b g d m
-made_same p q r s = rw (p, q, r, s)
-
-refused_made : (x : ℕ) (p ws : List ℕ) → (x ≡ 0 → ⊥) → made x no_header 0 ws ≡ read_by x p ws
-unfolding made
-refused_made zero p ws y = absurd (y refl)
-refused_made (suc x) p ws y = refl
-
-pub refused_as : (r : Reading) (f n : ℕ) (p ws : List ℕ) (k : ℕ) → (r.number ≡ k) × (r.header ≡ no_header) × (r.count ≡ 0)
-    → k ≡ first_of (read_lines f n p (length ws)) → (k ≡ 0 → ⊥) → read_of r ws ≡ read_call f n p ws
-unfolding read_call made
-refused_as r f n p ws k is e z = made_same is.0 is.1 is.2 refl ∙ refused_made k p ws z ∙ ap (λ (x : ℕ). read_by x p ws) e
-
-pub read_all : (f n : ℕ) (p ws out : List ℕ) (h : Header) (count k : ℕ) → 0 ≡ first_of (read_lines f n p (length ws))
-    → h ≡ header_of p → count ≡ count_of p → k ≡ count → out ≡ tabulate (λ i. word_at p (14 + i)) k ++ drop k ws
-    → made 0 h count out ≡ read_call f n p ws
-unfolding read_call made words_of
-read_all f n p ws out h count k z eh ec ek eo =
-    made_same refl eh ec (eo ∙ ap (λ (x : ℕ). tabulate (λ i. word_at p (14 + i)) x ++ drop x ws) (ek ∙ ec)) ∙ ap (λ (x : ℕ). read_by x p ws) z
+pub read_all : (f n : ℕ) (p ws out : List ℕ) (h : Header) (count : ℕ) → 0 ≡ first_of (read_lines f n p (length ws))
+    → h ≡ header_of p → count ≡ count_of p → out ≡ tabulate (λ i. word_at p (14 + i)) count ++ drop count ws
+    → read_of (Ok (record { header = h; count = count })) out ≡ read_call f n p ws
+unfolding read_call words_of
+read_all f n p ws out h count z eh ec eo =
+    ap₂ (λ (g : Header) (o : List ℕ). read_of (Ok (record { header = g; count = count })) o) eh eo
+    ∙ ap (λ (x : ℕ). read_of (Ok (record { header = header_of p; count = x })) (tabulate (λ i. word_at p (14 + i)) x ++ drop x ws)) ec
+    ∙ ap (λ (x : ℕ). read_by x p ws) z
 
 -- two words side by side
 pub double_words : (p : List ℕ) (i a b r : ℕ) → a ≡ word p (4 * i) → b ≡ word p (4 * i + 4) → r ≡ a + 2 ^ 32 * b → r ≡ double_at p i

@@ -6,9 +6,11 @@ use Prim.Native.Nat.{ℕ, suc, ◌+◌, ◌*◌, ◌/◌, ◌%◌, ◌^◌, ◌�
 use native.Mathlib.Nat.{add-zero}
 use native.Mathlib.Numerals.{add-one}
 use native.Mathlib.Omega.{arith}
-use lib.ListN.{length, get_or, take, drop, set, length-append, length-set, length-take, length-drop, drop_of_length-le}
-use lib.Seq.{take-suc, take-suc-set, take_all, drop-cons, set_at, append_snoc}
+use borrow.Rule.Slice.PartMut.{put_mid, same_len_mid}
+use lib.ListN.{length, get_or, take, drop, set, length-append, length-take, length-drop, drop_of_length-le}
+use lib.Seq.{take-suc, take_all, drop-cons, set_at, append_snoc}
 use lib.Bits.{bit_xor}
+use Rattle.std.proofs.lemmas.Slice.{take-put_mid}
 use Rattle.base.specs.Tests.{tabulate}
 use Rattle.base.proofs.Tests.{length_tabulate}
 use Rattle.packets.specs.Crc.{feed, feed_all, crc32}
@@ -71,26 +73,12 @@ mix_end bs i r t h e = rw (drop_of_length-le bs h) at e
 
 -- ---- bytes put behind others
 
-put_one : (l f : List ℕ) (n m a : ℕ) → m ≡ suc n → n < length l → take n l ≡ f → take m (set l n a) ≡ f ++ (a ∷ [])
-put_one l f n m a k h e = rw k (take-suc-set l n a h ∙ ap (λ (x : List ℕ). x ++ (a ∷ [])) e)
-
-front_four : (s : List ℕ) (n a b c d : ℕ) → n + 4 ≤ length s
-    → take (n + 4) (set (set (set (set s n a) (n + 1) b) (n + 2) c) (n + 3) d) ≡ take n s ++ (a ∷ b ∷ c ∷ d ∷ [])
-front_four s n a b c d h =
-    put_one (set (set (set s n a) (n + 1) b) (n + 2) c) (((take n s ++ (a ∷ [])) ++ (b ∷ [])) ++ (c ∷ [])) (n + 3) (n + 4) d (omega arith)
-    (simp length-set (omega arith))
-    (put_one (set (set s n a) (n + 1) b) ((take n s ++ (a ∷ [])) ++ (b ∷ [])) (n + 2) (n + 3) c (omega arith) (simp length-set (omega arith))
-    (put_one (set s n a) (take n s ++ (a ∷ [])) (n + 1) (n + 2) b (omega arith) (simp length-set (omega arith))
-    (put_one s (take n s) n (n + 1) a (omega arith) (omega arith) refl)))
-    ∙ simp append_assoc
-
-pub put_four : (s : List ℕ) (n w : ℕ) → n + 4 ≤ length s
-    → Put s n (word_bytes w) (set (set (set (set s n (w % 256)) (n + 1) (w / 256 % 256)) (n + 2) (w / 65536 % 256)) (n + 3) (w / 16777216 % 256))
-unfolding word_bytes
-put_four s n w h =
+pub put_four : (s bs : List ℕ) (n k w : ℕ) → n + 4 ≤ length s → k ≡ 4 → bs ≡ word_bytes w → Put s n (word_bytes w) (put_mid n k s bs)
+put_four s bs n k w h e is =
+    let long : length bs ≡ 4 = ap length is ∙ length_le w in
     record {
-      long = simp length-set;
-      front = front_four s n (w % 256) (w / 256 % 256) (w / 65536 % 256) (w / 16777216 % 256) h;
+      long = same_len_mid n k s bs (simp (length-take, length-drop) (omega arith));
+      front = take-put_mid n k s bs (n + length (word_bytes w)) (omega (arith, length_le w)) (omega arith) ∙ ap (λ (l : List ℕ). take n s ++ l) is;
     }
 
 pub put_join : {a b c : List ℕ} {n : ℕ} {bs cs : List ℕ} → Put a n bs b → Put b (n + length bs) cs c → Put a n (bs ++ cs) c

@@ -3,39 +3,51 @@
 use mathlib.Core.Path.{◌≡◌, refl, sym, ap, ap₂, ◌∙◌}
 use mathlib.Core.Bool.{Bool, true, false}
 use mathlib.Core.List.{List, [], ◌∷◌}
-use Prim.Native.Nat.{ℕ, zero, suc, ◌+◌, ◌-◌, ◌*◌, ◌/◌, ◌%◌, ◌^◌, ◌≤◌, ◌<◌}
-use native.Mathlib.Nat.{one-mul, mod-eq_of_lt}
-use native.Mathlib.Numerals.{add-one}
+use mir.Val.{bool_byte}
+use Prim.Native.Nat.{ℕ, zero, suc, ◌+◌, ◌*◌, ◌/◌, ◌%◌, ◌^◌, ◌≤◌, ◌<◌, min, max}
+use native.Mathlib.Nat.{add-zero, zero-add}
 use native.Mathlib.Omega.{arith}
 use borrow.Author.Tests.{eq-eqb, ne_eqb, eqb-true, lt-ltb, le-ltb, ltb-false}
+use borrow.Rule.Slice.PartMut.{put_mid}
 use lib.ListN.{length}
-use lib.Seq.{take-length}
 use lib.Dec.{eqb, ltb}
-use lib.Pow.{pow-lt}
 use lib.Bits.{bit_or}
-use Rattle.base.specs.Tests.{not, pick, one, every}
-use Rattle.base.specs.Lists.{sublist, put}
+use Rattle.base.specs.Tests.{not, pick, one}
+use Rattle.base.specs.Lists.{put}
 use Rattle.base.specs.Numbers.{line, first_of}
-use Rattle.base.proofs.Tests.{both, and_true, and_false, and_no, not-false, every_more, every_not}
+use Rattle.base.proofs.Tests.{both, and_true, and_false, and_no, not-false, is_true, never_both, same_test, every_at, every_all}
 use Rattle.base.proofs.Numbers.{first_true, first_false, none_first}
+use Rattle.std.specs.List.{list_all, range_with_len}
+use Rattle.std.proofs.lemmas.List.Folds.{list_all_at}
+use Rattle.std.proofs.lemmas.List.FromFn.{length-range_with_len, get_or-range_with_len}
+use Rattle.base.specs.Refusals.{code}
+use Rattle.base.specs.declared.refusal.Refusal.{Refusal}
+use Rattle.base.proofs.Codes.{code_some}
 use Rattle.packets.specs.Cut.{chunks_of, Chunk, Assembly, assembly, there, complete, chunk_length, fits, placed, take_lines, Taking}
 use Rattle.packets.specs.Cut.{taking_by, take_chunk_call, taking_of}
 use Rattle.packets.proofs.Assembling.{few, ends, placed_again, fits_below, no_line, no_lines}
 
 -- ---- how many
 
-pub chunks_none : (n : ℕ) → n ≡ 0 → 1 ≡ chunks_of n
+pub chunks_by : (n m r : ℕ) → m ≡ max n 1 → r ≡ m / 285 + min 1 (m % 285) → r ≡ chunks_of n
 unfolding chunks_of
-chunks_none n e = sym (ap (λ (x : ℕ). suc ((x - 1) / 285)) e)
-
-pub chunks_some : (n : ℕ) → (n - 1) / 285 + 1 ≡ chunks_of n
-unfolding chunks_of
-chunks_some n = add-one ((n - 1) / 285)
+chunks_by n m r e f = omega arith
 
 -- ---- bits
 
-pub one_shl : (k : ℕ) → k < 64 → (1 * 2 ^ k) % 2 ^ 64 ≡ 2 ^ k
-one_shl k h = ap (λ (x : ℕ). x % 2 ^ 64) (one-mul (2 ^ k)) ∙ mod-eq_of_lt (pow-lt h)
+all_true : (f : ℕ → Bool) (a n : ℕ) → ((i : ℕ) → i < n → f (a + i) ≡ true) → list_all f (range_with_len a n) ≡ true
+all_true f a zero h = refl
+all_true f a (suc n) h =
+    let here : f a ≡ true = ap f (sym (add-zero a)) ∙ h 0 (omega arith) in
+    rw here (all_true f (a + 1) n (λ i l. ap f (let k : a + 1 + i ≡ a + suc i = omega arith in k) ∙ h (suc i) (omega arith)))
+
+pub complete_by : (mask n : ℕ) → list_all (there mask) (range_with_len 0 n) ≡ complete n mask
+unfolding complete
+complete_by mask n =
+    same_test (λ h. every_all (there mask) n (λ i l. is_true (λ e. never_both h
+    (list_all_at (there mask) (range_with_len 0 n) i 0 (omega (arith, length-range_with_len 0 n))
+    (ap (there mask) (get_or-range_with_len 0 n i 0 l ∙ zero-add i) ∙ e)))))
+    (λ h. all_true (there mask) 0 n (λ i l. ap (there mask) (zero-add i) ∙ every_at (there mask) n h i l))
 
 -- ---- the number
 
@@ -96,20 +108,25 @@ fitting c n z =
 pub placed_same : (k : ℕ) (ws area : List ℕ) (mask : ℕ) → there mask k ≡ true → assembly area mask ≡ placed k ws (assembly area mask)
 placed_same k ws area mask e = sym (placed_again k ws (assembly area mask) e)
 
-pub placed_new : (k a : ℕ) (ws area out : List ℕ) (mask r : ℕ) → there mask k ≡ false → a ≡ k → out ≡ put area (a * 285) (sublist ws 0 (length ws))
-    → r ≡ bit_or mask (2 ^ k) → assembly out r ≡ placed k ws (assembly area mask)
-unfolding placed pick sublist
-placed_new k a ws area out mask r e ea eo er =
-    ap₂ assembly (eo ∙ ap₂ (λ (x : ℕ) (l : List ℕ). put area (x * 285) l) ea (take-length ws)) er
+pub placed_new : (k n : ℕ) (ws ys area : List ℕ) (mask r : ℕ) → there mask k ≡ false → n ≡ length ws → ys ≡ ws
+    → r ≡ bit_or mask (2 ^ k) → assembly (put_mid (k * 285) n area ys) r ≡ placed k ws (assembly area mask)
+unfolding placed pick put
+placed_new k n ws ys area mask r e en ey er =
+    ap₂ assembly (ap₂ (λ (x : ℕ) (l : List ℕ). put_mid (k * 285) x area l) en ey) er
     ∙ sym (ap (λ (t : Bool). pick t (assembly area mask) (assembly (put area (k * 285) ws) (bit_or mask (2 ^ k)))) e)
 
 -- ---- taken in
 
+pub byte_one : (b : Bool) → bool_byte b ≡ one b
+unfolding one
+byte_one true = refl
+byte_one false = refl
+
 module _ (c : Chunk) (area : List ℕ) (mask : ℕ) where
-  pub taken_refused : (n : ℕ) → n ≡ first_of (take_lines c (length area)) → (n ≡ 0 → ⊥)
+  pub taken_refused : (r : Refusal) (n : ℕ) → n ≡ code r → code r ≡ first_of (take_lines c (length area))
       → taking_of (record { number = n; whole = 0; mask = mask }) area ≡ take_chunk_call c (assembly area mask)
   unfolding take_chunk_call
-  taken_refused n e h = go n h ∙ ap (λ (x : ℕ). taking_by x c (assembly area mask)) e
+  taken_refused r n en e = go n (λ z. code_some r (sym en ∙ z)) ∙ ap (λ (x : ℕ). taking_by x c (assembly area mask)) (en ∙ e)
     where
       go : (x : ℕ) → (x ≡ 0 → ⊥) → taking_of (record { number = x; whole = 0; mask = mask }) area ≡ taking_by x c (assembly area mask)
       go zero k = absurd (k refl)
@@ -126,14 +143,3 @@ module _ (c : Chunk) (area : List ℕ) (mask : ℕ) where
     where
       taking : ℕ → Assembly → Taking
       taking x a = record { number = 0; whole = x; after = a }
-
-pub some_missing : (mask n k : ℕ) → k < n → there mask k ≡ false → false ≡ complete n mask
-unfolding complete
-some_missing mask n k h e = sym (every_not (there mask) n k h e)
-
-pub one_more : (mask k : ℕ) → every (there mask) k ≡ true → there mask k ≡ true → every (there mask) (k + 1) ≡ true
-one_more mask k e f = rw (add-one k) (every_more (there mask) k e f)
-
-pub all_there : (mask n k : ℕ) → k ≤ n → n ≤ k → every (there mask) k ≡ true → true ≡ complete n mask
-unfolding complete
-all_there mask n k h l e = let z : k ≡ n = omega arith in sym (rw z at e)

@@ -16,7 +16,6 @@ use Rattle.packets.specs.Laws.{PacketsHold}
 use Rattle.packets.proofs.Xor.{xor_cancel, xor_cancel_left}
 use Rattle.packets.proofs.Shifts.{shifts_one}
 use Rattle.packets.proofs.Bytes.{feed_append}
-use Rattle.packets.proofs.Answers.{made}
 use Rattle.packets.proofs.RoundTrip.{feed_all_lt, crc_lt, byte_words, le_bytes, low_half, double_lt, encode_bytes, encode_length, whole, decode_encode}
 use Rattle.packets.proofs.RoundTrip.{decode_other, read_write, encode_one, decode_exact, decode_ways}
 use Rattle.packets.proofs.Bursts.{feed_le, burst_damaged, byte_damaged, damaged_refused}
@@ -72,7 +71,6 @@ routes recipe a b f h k e =
 -- ---- all of it
 
 pub packets_hold : PacketsHold
-unfolding made
 packets_hold =
     record {
       ways = decode_ways;

@@ -26,7 +26,7 @@ use Rattle.packets.specs.declared.Header.{Header}
 use Rattle.packets.proofs.Shifts.{shifts_lt}
 use Rattle.packets.proofs.Bytes.{les_append, les_one, length_le, length_body}
 use Rattle.packets.proofs.Words.{word_four, word_les, les_words, tabulate_add, tabulate_list}
-use Rattle.packets.proofs.Answers.{Whole, whole_is, is_whole, fit_is, write_done, made, read_all, number_none}
+use Rattle.packets.proofs.Answers.{Whole, whole_is, is_whole, fit_is, write_done, read_all, number_none}
 
 -- ---- a check word is a word
 
@@ -250,12 +250,13 @@ module _ (h : Header) (ws : List ℕ) (fit : Fit h ws) where
 
   -- reading after writing gives back what was written
   pub read_write : (space area : List ℕ) → length space ≡ packet_length (length ws) → length ws ≤ length area
-      → read_call h.fingerprint h.run (write_call h ws space).space area ≡ made 0 h (length ws) (ws ++ drop (length ws) area)
+      → read_call h.fingerprint h.run (write_call h ws space).space area
+      ≡ record { number = 0; header = h; count = length ws; words = ws ++ drop (length ws) area }
   read_write space area k l =
       rw (ap (λ (x : Written). x.space) (sym (write_done h ws space (encode_packet h ws) (fit_is (length ws) (length space) fit.count k) refl)))
-      (sym (read_all h.fingerprint h.run (encode_packet h ws) area (ws ++ drop (length ws) area) h (length ws) (length ws)
+      (sym (read_all h.fingerprint h.run (encode_packet h ws) area (ws ++ drop (length ws) area) h (length ws)
       (number_none h.fingerprint h.run (encode_packet h ws) (length area) whole fresh (omega (arith, count_is)))
-      (sym header_is) (sym count_is) refl (ap (λ (x : List ℕ). x ++ drop (length ws) area) (sym own_words))))
+      (sym header_is) (sym count_is) (ap (λ (x : List ℕ). x ++ drop (length ws) area) (sym own_words))))
 
 -- two packets with the same bytes are the same packet
 pub encode_one : (h g : Header) (ws vs : List ℕ) → Fit h ws → Fit g vs → encode_packet h ws ≡ encode_packet g vs → (h ≡ g) × (ws ≡ vs)

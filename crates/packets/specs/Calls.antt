@@ -1,8 +1,10 @@
 -- Read this.
 -- What `write` and `read` answer: a number, 0 or that of the first true line, and what is written then. Numbers 26 and 27 are of specs/Packet.antt,
 -- 9 is document 01's, "Numbers a call gives".
-use Rattle.std.specs.Prelude.{◌≡◌, ℕ, zero, suc, ◌+◌, List, [], ◌∷◌, ◌++◌, length, take, drop, ltb}
+use Rattle.std.specs.Prelude.{◌≡◌, ℕ, zero, suc, ◌+◌, List, [], ◌∷◌, ◌++◌, length, take, drop, ltb, Result, Ok, Err}
 use Rattle.base.specs.Numbers.{Line, line, first_of}
+use Rattle.base.specs.Refusals.{code}
+use Rattle.base.specs.declared.refusal.Refusal.{Refusal}
 use Rattle.packets.specs.Packet.{encode_packet, count_of, header_of, words_of, unfit, decode_lines}
 use Rattle.packets.specs.declared.Header.{Header}
 use Rattle.packets.specs.declared.Reading.{Reading}
@@ -38,8 +40,9 @@ abbrev pub no_header : Header
 no_header =
     record { fingerprint = 0; run = 0; life = 0; kind = 0; sender = 0; taker = 0; item = 0; chunk = 0; chunks = 0 }
 
-abbrev pub read_of : Reading → List ℕ → Read
-read_of r ws = record { number = r.number; header = r.header; count = r.count; words = ws }
+abbrev pub read_of : Result Reading Refusal → List ℕ → Read
+read_of (Ok r) ws = record { number = 0; header = r.header; count = r.count; words = ws }
+read_of (Err r) ws = record { number = code r; header = no_header; count = 0; words = ws }
 
 -- with space for so many words
 abbrev pub read_lines : ℕ → ℕ → List ℕ → ℕ → List Line

@@ -2,19 +2,21 @@
 // the check word, specs/Fingerprint.antt what recipe and route are known by, specs/Calls.antt what the calls answer, specs/Laws.antt what is proved.
 #![tactic(auto)]
 
-ghost use Rattle.std.specs.Prelude.{◌≡◌, ◌++◌, ◌+◌, ◌*◌, ◌/◌, ◌%◌, ◌^◌, ◌≤◌, length, drop};
+ghost use Rattle.std.specs.Prelude.{◌≡◌, ◌++◌, ◌+◌, ◌*◌, ◌/◌, ◌%◌, ◌^◌, ◌≤◌, length, drop, IfOk};
 ghost use Rattle.base.specs.Tests.{tabulate};
 ghost use Rattle.base.specs.Numbers.{first_of};
+ghost use Rattle.base.specs.Refusals.{number_of};
 ghost use Rattle.packets.specs.Crc.{crc32};
 ghost use Rattle.packets.specs.Fingerprint.{fingerprint_of};
-ghost use Rattle.packets.specs.Packet.{word_bytes, words_bytes, head_words, word_at, double_at, header_of, unfit, damaged, stale};
-ghost use Rattle.packets.specs.Calls.{Put, no_header, written_of, write_call, read_of, read_lines, read_call};
+ghost use Rattle.packets.specs.Packet.{word_bytes, words_bytes, head_words, word_at, double_at, count_of, header_of, unfit, damaged, stale};
+ghost use Rattle.packets.specs.Calls.{Put, written_of, write_call, read_of, read_lines, read_call};
 
 pub mod chunks; // chunks.rt: a message in several packets
 pub mod hash; // hash.rt: FNV-1a
 pub mod crc_table; // crc_table.rt: CRC-32's register after bytes, by table
 
-use base::{refusals, word_at, word_index, word_wide};
+use base::refusal::Refusal;
+use base::word_at;
 
 // What a packet says of the words that it brings.
 #[derive(Clone, Copy)]
@@ -30,10 +32,9 @@ pub struct Header {
     pub chunks: u32,
 }
 
-// 0, a packet's header and how many words it brings. Or a refusal, and zeros.
+// A packet's header, and how many words it brings.
 #[derive(Clone, Copy)]
 pub struct Reading {
-    pub number: u32,
     pub header: Header,
     pub count: u32,
 }
@@ -72,19 +73,19 @@ pub fn fingerprint(recipe: &[u8], route: u32) -> u64
 fn double(low: u32, high: u32) -> u64
     ensures { result ≡ low + 2 ^ 32 * high }
 {
-    word_wide(low) + 4294967296 * word_wide(high)
+    u64::from(low) + (u64::from(high) << 32)
 }
 
 fn low_word(x: u64) -> u32
     ensures { result ≡ x % 2 ^ 32 }
 {
-    (x % 4294967296) as u32
+    (x & 0xFFFF_FFFF) as u32
 }
 
 fn high_word(x: u64) -> u32
     ensures { result ≡ x / 2 ^ 32 }
 {
-    (x / 4294967296) as u32
+    (x >> 32) as u32
 }
 
 // ---- writing
@@ -93,20 +94,15 @@ fn put_word(space: &mut [u8], at: usize, word: u32)
     requires { at + 4 ≤ length space.old }
     ensures { Put space.old at (word_bytes word) space.new }
 {
-    space[at] = (word % 256) as u8;
-    space[at + 1] = (word / 256 % 256) as u8;
-    space[at + 2] = (word / 65536 % 256) as u8;
-    space[at + 3] = (word / 16777216 % 256) as u8;
+    space[at..at + 4].copy_from_slice(&word.to_le_bytes());
 }
 
 fn put_words(space: &mut [u8], at: usize, words: &[u32])
     requires { at + 4 * length words.now ≤ length space.old }
     ensures { Put space.old at (words_bytes words.now) space.new }
 {
-    let mut i: usize = 0;
-    while i < words.len() {
-        put_word(space, at + 4 * i, words[i]);
-        i += 1;
+    for (i, &word) in words.iter().enumerate() {
+        put_word(space, at + 4 * i, word);
     }
 }
 
@@ -136,26 +132,23 @@ fn put_header(space: &mut [u8], header: Header, count: u32)
 fn is_unfit(count: usize, length: usize) -> bool
     ensures { result ≡ unfit count length }
 {
-    if MOST_WORDS < count {
-        return true;
-    }
-    length != WORDS_AT + 4 * count + 4
+    count > MOST_WORDS || length != WORDS_AT + 4 * count + 4
 }
 
 // A packet into a space of exactly its length, four bytes for each word and 60. Else 9, as where there are too many words, and nothing is written.
-pub fn write(header: Header, words: &[u32], space: &mut [u8]) -> u32
-    ensures { written_of result space.new ≡ write_call header words.now space.old }
+pub fn write(header: Header, words: &[u32], space: &mut [u8]) -> Result<(), Refusal>
+    ensures { written_of (number_of result) space.new ≡ write_call header words.now space.old }
 {
     let count = words.len();
     if is_unfit(count, space.len()) {
-        return refusals::AREA;
+        return Err(Refusal::Area);
     }
     put_header(space, header, count as u32);
     put_words(space, WORDS_AT, words);
     let end = WORDS_AT + 4 * count;
-    let check = crc(&space[0..end]);
+    let check = crc(&space[..end]);
     put_word(space, end, check);
-    0
+    Ok(())
 }
 
 // ---- reading
@@ -193,91 +186,60 @@ fn is_damaged(packet: &[u8]) -> bool
     if length < 60 {
         return true;
     }
-    let count = word_index(word_at(packet, COUNT_AT));
+    let count = word_at(packet, COUNT_AT) as usize;
     if is_unfit(count, length) {
         return true;
     }
-    if word_at(packet, 0) != MAGIC {
-        return true;
-    }
     let end = WORDS_AT + 4 * count;
-    let check = crc(&packet[0..end]);
-    word_at(packet, end) != check
+    word_at(packet, 0) != MAGIC || word_at(packet, end) != crc(&packet[..end])
 }
 
 fn is_stale(packet: &[u8], fingerprint: u64, run: u64) -> bool
     requires { 60 ≤ length packet.now }
     ensures { result ≡ stale fingerprint run packet.now }
 {
-    if double_at(packet, 1) != fingerprint {
-        return true;
-    }
-    double_at(packet, 3) != run
+    double_at(packet, 1) != fingerprint || double_at(packet, 3) != run
 }
 
-// The first true line, with space for so many words.
-fn number_of(fingerprint: u64, run: u64, packet: &[u8], room: usize) -> u32
-    ensures { result ≡ first_of (read_lines fingerprint run packet.now room) }
+// How many words a packet brings, or the first true line, with space for so many words.
+fn readable(fingerprint: u64, run: u64, packet: &[u8], room: usize) -> Result<u32, Refusal>
+    ensures number { number_of result ≡ first_of (read_lines fingerprint run packet.now room) }
+    ensures count { IfOk result (λ n. n ≡ count_of packet.now) }
 {
     if is_damaged(packet) {
-        return refusals::DAMAGED;
+        return Err(Refusal::Damaged);
     }
     if is_stale(packet, fingerprint, run) {
-        return refusals::STALE;
+        return Err(Refusal::Stale);
     }
-    let count = word_index(word_at(packet, COUNT_AT));
-    if room < count {
-        return refusals::AREA;
+    let count = word_at(packet, COUNT_AT);
+    if room < count as usize {
+        return Err(Refusal::Area);
     }
-    0
+    Ok(count)
 }
 
 fn take_words(packet: &[u8], count: usize, words: &mut [u32])
     requires { (4 * (15 + count) ≤ length packet.now) × (count ≤ length words.old) }
     ensures { words.new ≡ tabulate (λ i. word_at packet.now (14 + i)) count ++ drop count words.old }
 {
-    let mut i: usize = 0;
-    while i < count {
+    for i in 0..count {
         words[i] = word_at(packet, WORDS_AT + 4 * i);
-        i += 1;
-    }
-}
-
-fn refusal(number: u32) -> Reading
-    ensures { (result.number ≡ number) × (result.header ≡ no_header) × (result.count ≡ 0) }
-{
-    Reading {
-        number,
-        header: Header {
-            fingerprint: 0,
-            run: 0,
-            life: 0,
-            kind: 0,
-            sender: 0,
-            taker: 0,
-            item: 0,
-            chunk: 0,
-            chunks: 0,
-        },
-        count: 0,
     }
 }
 
 // Bytes as they came: 26 where they are damaged, 27 where they are of another recipe, route or run, 9 where their words are more than there is space for.
-// At 0 the words are written from the first place on.
-pub fn read(fingerprint: u64, run: u64, packet: &[u8], words: &mut [u32]) -> Reading
+// Where they are read the words are written, from the first place on.
+pub fn read(
+    fingerprint: u64,
+    run: u64,
+    packet: &[u8],
+    words: &mut [u32],
+) -> Result<Reading, Refusal>
     ensures { read_of result words.new ≡ read_call fingerprint run packet.now words.old }
 {
-    let number = number_of(fingerprint, run, packet, words.len());
-    if number != 0 {
-        return refusal(number);
-    }
-    let count = word_at(packet, COUNT_AT);
-    take_words(packet, word_index(count), words);
+    let count = readable(fingerprint, run, packet, words.len())?;
+    take_words(packet, count as usize, words);
     let header = header_of(packet);
-    Reading {
-        number: 0,
-        header,
-        count,
-    }
+    Ok(Reading { header, count })
 }

@@ -1,5 +1,5 @@
 -- Rows by the window: its test, where in a row a distance puts cells into it, a row counted and unpacked.
-use Prim.Native.Nat.{ℕ, ◌+◌, ◌*◌, ◌-◌, ◌≤◌, ◌<◌, min}
+use Prim.Native.Nat.{ℕ, ◌+◌, ◌*◌, ◌-◌, ◌≤◌, ◌<◌, min, max}
 use mathlib.Core.Path.{◌≡◌, refl, sym, ap, ◌∙◌}
 use mathlib.Core.Logic.{◌⊎◌, inl, inr}
 use mathlib.Core.Bool.{Bool, true, false}
@@ -13,8 +13,9 @@ use lib.Seq.{get_or-set_same, get_or-set_other, take-add, length-take-le}
 use lib.Dec.{ltb}
 use borrow.Author.Tests.{lt-ltb, le-ltb, ltb-true, le-leb}
 use Rattle.base.specs.Tests.{◌or◌, every, some}
-use Rattle.base.specs.Lists.{sublist, unpack}
-use Rattle.base.proofs.Tests.{and_left, and_no, or_left, never_both, same_test, every_at, every_all, every_not, length_tabulate}
+use Rattle.base.specs.Lists.{sublist, put, pack, unpack}
+use Rattle.base.proofs.Copies.{part_row}
+use Rattle.base.proofs.Tests.{and_left, or_left, never_both, same_test, every_at, every_all, every_not, length_tabulate}
 use Rattle.nest.specs.declared.Nest.{Nest}
 use Rattle.nest.specs.Accepted.{Accepted}
 use Rattle.nest.specs.Nest.{component}
@@ -24,7 +25,7 @@ use Rattle.layout.proofs.Loops.{Sofar, sofar_end}
 use Rattle.layout.proofs.CellRows.{every_last}
 use Rattle.parcels.specs.declared.Sending.{Sending}
 use Rattle.parcels.specs.declared.Window.{Window}
-use Rattle.parcels.specs.Windows.{last, window_of, RowEnd, DistanceEnds, is_read, Leading, carries}
+use Rattle.parcels.specs.Windows.{last, window_of, RowEnd, DistanceEnds, is_read, Leading, carries, row_parcel, RowPacked}
 use Rattle.parcels.specs.Sendings.{found, RowEnds}
 use Rattle.parcels.proofs.Walks.{Measuring, Unpacking, found_mono, unpack_append}
 use Rattle.parcels.proofs.Packing.{row_run, row_all}
@@ -70,14 +71,10 @@ module _ (x : Nest) (ok : Accepted x) (w : Window) (i : List ℕ) (e : ℕ) (com
     d_is : get_or components (4 * e + last x) 0 ≡ component x e (last x)
     d_is = ap (λ (z : List ℕ). get_or z (4 * e + last x) 0) g.is
 
-    pub end_none : get_or w.high (last x) 0 < get_or components (4 * e + last x) 0 → RowEnd x (window_of w) (λ j. get_or i j 0) e 0
-    end_none b = none_below (λ k h. goes_on k h all
-        ∙ and_no _ _ (le-ltb (k (last x) + component x e (last x)) (get_or w.high (last x) 0) (omega (arith, d_is))))
-
     -- the window is open at the start of the row
-    pub end_some : get_or w.low (last x) 0 ≡ 0 → get_or components (4 * e + last x) 0 ≤ get_or w.high (last x) 0
+    pub end_some : get_or w.low (last x) 0 ≡ 0
         → RowEnd x (window_of w) (λ j. get_or i j 0) e (get_or w.high (last x) 0 - get_or components (4 * e + last x) 0)
-    end_some o b = record {
+    end_some o = record {
       is = λ k h. below (k (last x))
           ∙ sym (goes_on k h all ∙ and_left _ _ (le-leb (get_or w.low (last x) 0) (k (last x) + component x e (last x)) (omega arith)));
     }
@@ -154,7 +151,7 @@ module _ (ends : List ℕ) (n a : ℕ) where
           (f y ∙ ap (λ (t : Bool). t or ltb (a + y) (get_or ends e 0)) (s.is y));
     }
 
-    pub highest_turn : (m' : ℕ) → ((m < get_or ends e 0) × (m' ≡ get_or ends e 0)) ⊎ ((get_or ends e 0 ≤ m) × (m' ≡ m))
+    highest_turn : (m' : ℕ) → ((m < get_or ends e 0) × (m' ≡ get_or ends e 0)) ⊎ ((get_or ends e 0 ≤ m) × (m' ≡ m))
         → Highest ends n a m' (e + 1)
     highest_turn m' (inl (l, q)) = rw q (step (get_or ends e 0) (λ y. go y (dec_lt (a + y) (get_or ends e 0))) (omega (arith, s.most)))
       where
@@ -166,6 +163,13 @@ module _ (ends : List ℕ) (n a : ℕ) where
         go : (y : ℕ) → Dec (a + y < m) → ltb (a + y) m ≡ (ltb (a + y) m or ltb (a + y) (get_or ends e 0))
         go y (yes k) = lt-ltb (a + y) m k ∙ sym (or_left _ (lt-ltb (a + y) m k))
         go y (no k) = or_no (ltb (a + y) m) _ (le-ltb (a + y) (get_or ends e 0) (omega arith))
+
+    pub highest_more : (m' : ℕ) → m' ≡ max m (get_or ends e 0) → Highest ends n a m' (e + 1)
+    highest_more m' q = go (dec_lt m (get_or ends e 0))
+      where
+        go : Dec (m < get_or ends e 0) → Highest ends n a m' (e + 1)
+        go (yes k) = highest_turn m' (inl (k, omega arith))
+        go (no k) = highest_turn m' (inr (omega arith, omega arith))
 
   pub run_end : (m e w r : ℕ) → Highest ends n a m e → n ≤ e → r ≡ min w (m - a) → Leading ends n a w r
   run_end m e w r s h q =
@@ -205,6 +209,17 @@ module _ (x : Nest) (z : Sending) (first c a w : ℕ) (ends : List ℕ) (f : Row
               ∙ ap (λ (k : List ℕ). unpack memory₀ k (take count words ++ take n (drop count words))) (sym run_all)
               ∙ ap (unpack memory₀ (found x z (first + w))) (sym (take-add count n words));
         }
+
+    pub pack_run : (memory words words' : List ℕ) (count : ℕ) → c + n ≤ length memory
+        → words' ≡ put words count (sublist memory c n) → RowPacked ends x.distances c a w memory words count words' (count + n)
+    pack_run memory words words' count h e =
+        record {
+          count_is = ap (λ (m : ℕ). count + m) (sym (ap length row ∙ length_tabulate _ n));
+          is = e ∙ ap (put words count) (part_row memory c n h ∙ ap (pack memory) (sym row));
+        }
+      where
+        row : row_parcel ends x.distances c a w ≡ row_of c n
+        row = row_run ends x.distances c a w n p
 
     -- what the run takes of the words is there
     pub run_room : (count : ℕ) → count ≡ length (found x z first) → count + n ≤ length (found x z (z.rows * z.width))

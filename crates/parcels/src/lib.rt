@@ -7,14 +7,13 @@ ghost use Rattle.base.specs.Lists.{pack, unpack};
 ghost use Rattle.nest.specs.Accepted.{Accepted};
 ghost use Rattle.nest.specs.Nest.{tile_count, cells};
 ghost use Rattle.plan.specs.Messages.{slots, slot_parcel};
-ghost use Rattle.layout.specs.Sizes.{Sized};
 ghost use Rattle.layout.specs.Places.{nth};
 ghost use Rattle.layout.specs.CellRows.{Given};
 ghost use Rattle.parcels.specs.Twins.{two_before};
-ghost use Rattle.parcels.specs.Windows.{window_of, RowEnd, DistanceEnds, Leading, carries, Unchanged, InBlock, Alike, RowRoom, RowPacked};
+ghost use Rattle.parcels.specs.Windows.{RowRoom, RowPacked, window_of, RowEnd, DistanceEnds, Leading, carries, Unchanged, InBlock, Alike};
 ghost use Rattle.parcels.specs.Sendings.{earlier, later, box_at, window_at, Boxed, Windowed, Headed, Idle, BoxOfRows, Sends, RowAt};
 
-use layout::Sizes;
+use layout::Layout;
 use nest::Nest;
 use plan::Route;
 
@@ -60,28 +59,14 @@ fn carry(component: usize, distance: usize, low: usize, high: usize) -> bool
     ensures { result ≡ carries low high (component + distance) }
 {
     let moved = component + distance;
-    if moved < low {
-        return false;
-    }
-    moved < high
+    low <= moved && moved < high
 }
 
 // 1 where the test is true, else 0.
 pub fn one(test: bool) -> usize
     ensures { result ≡ one test }
 {
-    if test { 1 } else { 0 }
-}
-
-// The tile before, where the test is true and there is one.
-fn back(at: usize, test: bool) -> usize
-    ensures { result ≡ at - one test }
-{
-    let n = one(test);
-    if at < n {
-        return 0;
-    }
-    at - n
+    usize::from(test)
 }
 
 // In how many of the first dimensions a tile is like the one before it only if that one has another before it: on the indirect
@@ -123,7 +108,7 @@ fn end_of(at: usize, tiling: usize, length: usize) -> usize
     requires { (at ≤ 1025) × (tiling ≤ 1024) }
     ensures { result ≡ min (at * tiling + tiling) length }
 {
-    base::least(at * tiling + tiling, length)
+    (at * tiling + tiling).min(length)
 }
 
 // The box of a slot's cells: the tile's and, in dimensions below `earlier`, those of the tile before it.
@@ -131,21 +116,17 @@ fn block_of(nest: Nest, at: [usize; 4], earlier: usize) -> Block
     requires { Accepted nest × ((j : ℕ) → j < nest.dimensions → get_or at j 0 < tile_count nest j) }
     ensures { Boxed nest (box_at nest (nth at) earlier) result }
 {
-    let mut corner = [0; 4];
-    let mut lengths = [0; 4];
+    // copied out: a struct that is indexed by a variable is copied whole at each call
     let tiling = nest.tiling;
     let ends = nest.lengths;
-    let n = nest.dimensions;
-    for j in 0..n {
-        let k = tiling[j];
-        let first = back(at[j], j < earlier) * k;
+    let mut corner = [0; 4];
+    let mut lengths = [0; 4];
+    for j in 0..nest.dimensions {
+        let first = at[j].saturating_sub(one(j < earlier)) * tiling[j];
         corner[j] = first;
-        lengths[j] = end_of(at[j], k, ends[j]) - first;
+        lengths[j] = end_of(at[j], tiling[j], ends[j]) - first;
     }
-    Block {
-        corner: corner,
-        lengths: lengths,
-    }
+    Block { corner, lengths }
 }
 
 // The window: in a spread dimension the tile that the way leads to and, from `later` on, the one after it; else the whole nest,
@@ -163,17 +144,12 @@ fn window_of(
     let tiling = nest.tiling;
     let mut low = [0; 4];
     let mut high = lengths;
-    let n = nest.spread;
-    for j in 0..n {
-        let k = tiling[j];
+    for j in 0..nest.spread {
         let to = at[j] + ahead[j];
-        low[j] = to * k;
-        high[j] = end_of(to + one(j >= later), k, lengths[j]);
+        low[j] = to * tiling[j];
+        high[j] = end_of(to + one(j >= later), tiling[j], lengths[j]);
     }
-    Window {
-        low: low,
-        high: high,
-    }
+    Window { low, high }
 }
 
 // Below which last component distance e puts a cell of the row of a place into the window; 0 if nowhere.
@@ -189,18 +165,12 @@ pub fn end_in_row(
     ensures { RowEnd nest (window_of window) (nth at.now) e result }
 {
     let last = nest.dimensions - 1;
-    let low = window.low;
-    let high = window.high;
     for j in 0..last {
-        if !carry(at[j], components[4 * e + j], low[j], high[j]) {
+        if !carry(at[j], components[4 * e + j], window.low[j], window.high[j]) {
             return 0;
         }
     }
-    let d = components[4 * e + last];
-    if high[last] < d {
-        return 0;
-    }
-    high[last] - d
+    window.high[last].saturating_sub(components[4 * e + last])
 }
 
 // That of each distance.
@@ -210,8 +180,7 @@ fn ends_of(nest: Nest, components: &[usize; 32], window: Window, at: &[usize; 4]
     ensures { DistanceEnds nest (window_of window) (nth at.now) result }
 {
     let mut ends = [0; 8];
-    let n = nest.distances;
-    for e in 0..n {
+    for e in 0..nest.distances {
         ends[e] = end_in_row(nest, components, window, at, e);
     }
     ends
@@ -223,12 +192,10 @@ fn run_of(ends: &[usize; 8], n: usize, component: usize, width: usize) -> usize
     ensures { Leading ends.now n component width result }
 {
     let mut end = component;
-    for e in 0..n {
-        if end < ends[e] {
-            end = ends[e];
-        }
+    for last in &ends[..n] {
+        end = end.max(*last);
     }
-    base::least(width, end - component)
+    width.min(end - component)
 }
 
 // For how many components, `from` and those after it, the carry test stays as it is.
@@ -261,13 +228,9 @@ fn rows_alike(
     let component = at[j];
     let low = window.low[j];
     let high = window.high[j];
-    let n = nest.distances;
     let mut rows = block.corner[j] + block.lengths[j] - component;
-    for e in 0..n {
-        rows = base::least(
-            rows,
-            unchanged(component + components[4 * e + j], low, high),
-        );
+    for e in 0..nest.distances {
+        rows = rows.min(unchanged(component + components[4 * e + j], low, high));
     }
     rows
 }
@@ -289,10 +252,7 @@ pub fn beyond_last(across: [usize; 4], at: [usize; 4], ahead: [usize; 4], n: usi
 fn hops(ahead: usize, count: usize) -> bool
     ensures { result ≡ (eqb ahead 1 and ltb 1 count) }
 {
-    if ahead == 1 {
-        return count > 1;
-    }
-    false
+    ahead == 1 && count > 1
 }
 
 // Whether a way does.
@@ -309,43 +269,46 @@ pub fn leaves(counts: [usize; 4], ahead: [usize; 4], n: usize) -> bool
 }
 
 // Whether a slot is to be looked at no further: the way leads beyond the last tile, or to the same processor.
-fn idle(nest: Nest, sizes: Sizes, slot: usize, at: [usize; 4], ahead: [usize; 4]) -> bool
-    requires { Sized nest sizes × Headed sizes.route nest slot at ahead }
-    ensures { Idle sizes.route nest slot result }
+fn idle(layout: &Layout, slot: usize, at: [usize; 4], ahead: [usize; 4]) -> bool
+    requires { Headed layout.now.sizes.route layout.now.nest slot at ahead }
+    ensures { Idle layout.now.sizes.route layout.now.nest slot result }
 {
-    let across = sizes.across;
-    let counts = nest.counts;
-    if beyond_last(across, at, ahead, nest.spread) {
-        return true;
-    }
-    !leaves(counts, ahead, nest.spread)
+    beyond_last(layout.sizes.across, at, ahead, layout.nest.spread)
+        || !leaves(layout.nest.counts, ahead, layout.nest.spread)
 }
 
 // What is found once for all rows of a slot's box.
-pub fn sending_of(
-    nest: Nest,
-    sizes: Sizes,
-    slot: usize,
-    at: [usize; 4],
-    ahead: [usize; 4],
-) -> Sending
-    requires { Sized nest sizes × Headed sizes.route nest slot at ahead }
-    ensures { Sends sizes.route nest slot result }
+pub fn sending_of(layout: &Layout, slot: usize, at: [usize; 4], ahead: [usize; 4]) -> Sending
+    requires { Headed layout.now.sizes.route layout.now.nest slot at ahead }
+    ensures { Sends layout.now.sizes.route layout.now.nest slot result }
 {
-    let route = sizes.route;
-    let way = slot % sizes.ways;
-    let block = block_of(nest, at, earlier_of(route, way));
-    let whole = nest.lengths;
-    let window = window_of(nest, whole, at, ahead, later_of(route, way));
-    let last = nest.dimensions - 1;
-    let lengths = block.lengths;
-    let rows = layout::product(lengths, last);
+    let way = slot % layout.sizes.ways;
+    let block = block_of(layout.nest, at, earlier_of(layout.sizes.route, way));
+    let window = window_of(
+        layout.nest,
+        layout.nest.lengths,
+        at,
+        ahead,
+        later_of(layout.sizes.route, way),
+    );
+    let last = layout.nest.dimensions - 1;
+    let rows = layout::product(block.lengths, last);
     Sending {
-        block: block,
-        window: window,
-        rows: rows,
-        width: lengths[last],
+        block,
+        window,
+        rows,
+        width: block.lengths[last],
     }
+}
+
+// That of a slot whose tile and way are looked at here.
+fn sending_at(layout: &Layout, slot: usize) -> Sending
+    requires { slot < slots layout.now.sizes.route layout.now.nest }
+    ensures { Sends layout.now.sizes.route layout.now.nest slot result }
+{
+    let at = layout.place_of_tile(slot / layout.sizes.ways);
+    let ahead = layout.along_of(slot % layout.sizes.ways);
+    sending_of(layout, slot, at, ahead)
 }
 
 // Row r of the box.
@@ -355,40 +318,37 @@ pub fn row_at(nest: Nest, components: &[usize; 32], sending: Sending, r: usize) 
 {
     let last = nest.dimensions - 1;
     let block = sending.block;
-    let lengths = block.lengths;
-    let corner = block.corner;
-    let mut at = corner;
-    layout::add_place(&lengths, &mut at, r, last);
+    let at = layout::place(block.lengths, block.corner, r, last);
     let ends = ends_of(nest, components, sending.window, &at);
     let component = at[last];
     let run = run_of(&ends, nest.distances, component, sending.width);
     let alike = rows_alike(nest, components, sending.window, block, at);
     Row {
         place: at,
-        component: component,
-        ends: ends,
-        run: run,
-        alike: alike,
+        component,
+        ends,
+        run,
+        alike,
     }
 }
 
 // How many cells a slot's parcel has.
-pub fn parcel_length(nest: Nest, sizes: Sizes, slot: usize) -> usize
-    requires { Sized nest sizes × (slot < slots sizes.route nest) }
-    ensures { (result ≡ length (slot_parcel sizes.route nest slot)) × (result ≤ 16384) }
+pub fn parcel_length(layout: &Layout, slot: usize) -> usize
+    requires { slot < slots layout.now.sizes.route layout.now.nest }
+    ensures { (result ≡ length (slot_parcel layout.now.sizes.route layout.now.nest slot)) × (result ≤ 16384) }
 {
-    let at = layout::place_of_tile(nest, sizes, slot / sizes.ways);
-    let ahead = layout::along_of(nest, sizes, slot % sizes.ways);
-    if idle(nest, sizes, slot, at, ahead) {
+    let at = layout.place_of_tile(slot / layout.sizes.ways);
+    let ahead = layout.along_of(slot % layout.sizes.ways);
+    if idle(layout, slot, at, ahead) {
         return 0;
     }
-    let sending = sending_of(nest, sizes, slot, at, ahead);
-    let components = nest.components;
-    let rows = sending.rows;
+    let sending = sending_of(layout, slot, at, ahead);
+    let components = layout.nest.components;
     let mut count = 0;
     let mut r = 0;
-    while r < rows {
-        let row = row_at(nest, &components, sending, r);
+    // from row to row by as many as are alike
+    while r < sending.rows {
+        let row = row_at(layout.nest, &components, sending, r);
         count += row.alike * row.run;
         r += row.alike;
     }
@@ -427,37 +387,31 @@ fn pack_row(
 }
 
 // The words of a slot's parcel, row by row: rows alike that have none of it are passed over at once.
-pub fn pack(nest: Nest, sizes: Sizes, slot: usize, words: &mut [u32], memory: &[u32])
-    requires { Sized nest sizes × ((slot < slots sizes.route nest) × ((length memory.now ≡ cells nest)
-        × ((length words.old ≡ length (slot_parcel sizes.route nest slot)) × (0 < length words.old)))) }
-    ensures { words.new ≡ pack memory.now (slot_parcel sizes.route nest slot) }
+pub fn pack(layout: &Layout, slot: usize, words: &mut [u32], memory: &[u32])
+    requires { (slot < slots layout.now.sizes.route layout.now.nest) × ((length memory.now ≡ cells layout.now.nest)
+        × ((length words.old ≡ length (slot_parcel layout.now.sizes.route layout.now.nest slot)) × (0 < length words.old))) }
+    ensures { words.new ≡ pack memory.now (slot_parcel layout.now.sizes.route layout.now.nest slot) }
 {
-    let at = layout::place_of_tile(nest, sizes, slot / sizes.ways);
-    let ahead = layout::along_of(nest, sizes, slot % sizes.ways);
-    let sending = sending_of(nest, sizes, slot, at, ahead);
-    let components = nest.components;
-    let rows = sending.rows;
-    let width = sending.width;
-    let lengths = nest.lengths;
+    let sending = sending_at(layout, slot);
+    let components = layout.nest.components;
     let mut count = 0;
     let mut r = 0;
-    while r < rows {
-        let row = row_at(nest, &components, sending, r);
+    // by one row, or over as many as have none
+    while r < sending.rows {
+        let row = row_at(layout.nest, &components, sending, r);
         if row.run == 0 {
             r += row.alike;
             continue;
         }
-        let ends = row.ends;
-        let place = row.place;
-        let number = layout::rank(lengths, place, nest.dimensions);
+        let number = layout::rank(layout.nest.lengths, row.place, layout.nest.dimensions);
         count = pack_row(
             words,
             memory,
-            &ends,
-            nest.distances,
+            &row.ends,
+            layout.nest.distances,
             number,
             row.component,
-            width,
+            sending.width,
             count,
         );
         r += 1;
@@ -465,27 +419,23 @@ pub fn pack(nest: Nest, sizes: Sizes, slot: usize, words: &mut [u32], memory: &[
 }
 
 // Each word of a slot's parcel to its cell, row by row.
-pub fn unpack(nest: Nest, sizes: Sizes, slot: usize, memory: &mut [u32], words: &[u32])
-    requires { Sized nest sizes × ((slot < slots sizes.route nest) × ((length memory.old ≡ cells nest)
-        × ((length words.now ≡ length (slot_parcel sizes.route nest slot)) × (0 < length words.now)))) }
-    ensures { memory.new ≡ unpack memory.old (slot_parcel sizes.route nest slot) words.now }
+pub fn unpack(layout: &Layout, slot: usize, memory: &mut [u32], words: &[u32])
+    requires { (slot < slots layout.now.sizes.route layout.now.nest) × ((length memory.old ≡ cells layout.now.nest)
+        × ((length words.now ≡ length (slot_parcel layout.now.sizes.route layout.now.nest slot)) × (0 < length words.now))) }
+    ensures { memory.new ≡ unpack memory.old (slot_parcel layout.now.sizes.route layout.now.nest slot) words.now }
 {
-    let at = layout::place_of_tile(nest, sizes, slot / sizes.ways);
-    let ahead = layout::along_of(nest, sizes, slot % sizes.ways);
-    let sending = sending_of(nest, sizes, slot, at, ahead);
-    let components = nest.components;
-    let rows = sending.rows;
-    let lengths = nest.lengths;
+    let sending = sending_at(layout, slot);
+    let components = layout.nest.components;
     let mut count = 0;
     let mut r = 0;
-    while r < rows {
-        let row = row_at(nest, &components, sending, r);
+    // by one row, or over as many as have none
+    while r < sending.rows {
+        let row = row_at(layout.nest, &components, sending, r);
         if row.run == 0 {
             r += row.alike;
             continue;
         }
-        let place = row.place;
-        let number = layout::rank(lengths, place, nest.dimensions);
+        let number = layout::rank(layout.nest.lengths, row.place, layout.nest.dimensions);
         base::copy_part(memory, words, number, count, row.run);
         count += row.run;
         r += 1;

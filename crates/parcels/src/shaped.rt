@@ -9,7 +9,6 @@ ghost use Rattle.plan.specs.declared.Route.TheVariants.{Direct};
 ghost use Rattle.plan.specs.Messages.{ways};
 ghost use Rattle.layout.specs.Regions.{Region};
 ghost use Rattle.plan.specs.Shaped.{shaped_parcel};
-ghost use Rattle.layout.specs.Sizes.{Sized};
 ghost use Rattle.layout.specs.Places.{nth, Has};
 ghost use Rattle.layout.specs.CellRows.{Given};
 ghost use Rattle.parcels.specs.Windows.{window_of, RowEnd};
@@ -18,7 +17,7 @@ ghost use Rattle.parcels.specs.shaped.Runs.{RunIs, reaches_place, comes_shaped, 
 ghost use Rattle.parcels.specs.shaped.Parcels.{Farthest, Near, Rows, RowRuns};
 
 use crate::{Block, Sending, Window};
-use layout::Sizes;
+use layout::Layout;
 use nest::{Interval, Nest};
 
 // A row: the place of its first cell, and the runs in it that hold a slot's cells, each from one last component on, below another.
@@ -28,16 +27,6 @@ pub struct Reached {
     pub starts: [usize; 8],
     pub ends: [usize; 8],
     pub runs: usize,
-}
-
-// What is left of a number less another.
-fn less(a: usize, b: usize) -> usize
-    ensures { result ≡ a - b }
-{
-    if a < b {
-        return 0;
-    }
-    a - b
 }
 
 // The row that distance e reaches from the row of a place, as the place of one of its cells.
@@ -76,12 +65,9 @@ fn reach_of(
     let far = nest::span(nest, to);
     let last = nest.dimensions - 1;
     let d = components[4 * e + last];
-    let from = base::greater(own.from, less(far.from, d));
-    let most = base::least(own.to, limit);
-    let end = base::least(most, less(far.to, d));
     Interval {
-        from: from,
-        to: end,
+        from: own.from.max(far.from.saturating_sub(d)),
+        to: own.to.min(limit).min(far.to.saturating_sub(d)),
     }
 }
 
@@ -98,11 +84,10 @@ fn runs_of(
     requires by_index { ((j : ℕ) → j < nest.dimensions → get_or at j 0 < 1024) × Spans nest at own }
     ensures { (result.place ≡ at) × RunsAre nest (nth at) (comes_shaped nest (window_of window)) result.runs result.starts result.ends }
 {
-    let n = nest.distances;
     let mut starts = [0; 8];
     let mut ends = [0; 8];
     let mut runs = 0;
-    for e in 0..n {
+    for e in 0..nest.distances {
         let limit = crate::end_in_row(nest, components, window, &at, e);
         let run = reach_of(nest, components, at, own, limit, e);
         if run.from < run.to {
@@ -113,9 +98,9 @@ fn runs_of(
     }
     Reached {
         place: at,
-        starts: starts,
-        ends: ends,
-        runs: runs,
+        starts,
+        ends,
+        runs,
     }
 }
 
@@ -126,9 +111,7 @@ pub fn row_of(nest: Nest, components: &[usize; 32], rows: Sending, r: usize) -> 
     ensures { RowRuns nest rows r result.place result.runs result.starts result.ends }
 {
     let block = rows.block;
-    let lengths = block.lengths;
-    let corner = block.corner;
-    let at = layout::place(lengths, corner, r, nest.dimensions - 1);
+    let at = layout::place(block.lengths, block.corner, r, nest.dimensions - 1);
     let own = nest::span(nest, at);
     runs_of(nest, components, rows.window, at, own)
 }
@@ -138,12 +121,9 @@ pub fn farthest(nest: Nest) -> [usize; 4]
     requires { Accepted nest }
     ensures { Farthest nest result }
 {
-    let components = nest.components;
-    let n = 4 * nest.distances;
-    let mut most = [0; 4];
-    for i in 0..n {
-        let j = i % 4;
-        most[j] = base::greater(most[j], components[i]);
+    let mut most = [0_usize; 4];
+    for (i, component) in nest.components[..4 * nest.distances].iter().enumerate() {
+        most[i % 4] = most[i % 4].max(*component);
     }
     most
 }
@@ -153,115 +133,91 @@ fn near(nest: Nest, sending: Sending, most: [usize; 4]) -> Sending
     requires { Accepted nest × (BoxOfRows nest sending × Farthest nest most) }
     ensures { Near nest sending result }
 {
-    let window = sending.window;
-    let low = window.low;
-    let block = sending.block;
-    let from = block.corner;
-    let sides = block.lengths;
-    let n = nest.dimensions;
+    let low = sending.window.low;
+    let from = sending.block.corner;
+    let sides = sending.block.lengths;
     let mut corner = [0; 4];
     let mut lengths = [0; 4];
-    for j in 0..n {
-        let before = less(less(low[j], most[j]), from[j]);
-        let over = base::least(before, sides[j] - 1);
+    for j in 0..nest.dimensions {
+        let before = low[j].saturating_sub(most[j]).saturating_sub(from[j]);
+        let over = before.min(sides[j] - 1);
         corner[j] = from[j] + over;
         lengths[j] = sides[j] - over;
     }
-    let rows = layout::product(lengths, n - 1);
-    let left = Block {
-        corner: corner,
-        lengths: lengths,
-    };
+    let rows = layout::product(lengths, nest.dimensions - 1);
     Sending {
-        block: left,
-        window: window,
-        rows: rows,
+        block: Block { corner, lengths },
+        window: sending.window,
+        rows,
         width: sending.width,
     }
 }
 
 // The rows that hold the cells of a tile of the box and a way: `at` is the tile's place, `most` how far the distances go.
-fn rows_of(
-    nest: Nest,
-    sizes: Sizes,
-    most: [usize; 4],
-    tile: usize,
-    at: [usize; 4],
-    way: usize,
-) -> Sending
-    requires sized { Sized nest sizes × ((sizes.route ≡ Direct) × ((tile < box_tiles nest) × (way < ways Direct nest))) }
-    requires farthest { Farthest nest most × Has at (tile_place nest tile) nest.dimensions }
-    ensures { Rows nest tile (way + 1) result }
+fn rows_of(layout: &Layout, most: [usize; 4], tile: usize, at: [usize; 4], way: usize) -> Sending
+    requires sized { (layout.now.sizes.route ≡ Direct) × ((tile < box_tiles layout.now.nest) × (way < ways Direct layout.now.nest)) }
+    requires farthest { Farthest layout.now.nest most × Has at (tile_place layout.now.nest tile) layout.now.nest.dimensions }
+    ensures { Rows layout.now.nest tile (way + 1) result }
 {
-    let slot = tile * sizes.ways + way;
-    let ahead = layout::along_of(nest, sizes, way);
-    let sending = crate::sending_of(nest, sizes, slot, at, ahead);
-    near(nest, sending, most)
+    let slot = tile * layout.sizes.ways + way;
+    let ahead = layout.along_of(way);
+    let sending = crate::sending_of(layout, slot, at, ahead);
+    near(layout.nest, sending, most)
 }
 
 // How many cells of the shape in a tile of the box some distance puts into the shape, along a way.
-pub fn count_of(
-    nest: Nest,
-    sizes: Sizes,
-    most: [usize; 4],
-    tile: usize,
-    at: [usize; 4],
-    way: usize,
-) -> usize
-    requires sized { Sized nest sizes × ((sizes.route ≡ Direct) × ((tile < box_tiles nest) × (way < ways Direct nest))) }
-    requires farthest { Farthest nest most × Has at (tile_place nest tile) nest.dimensions }
-    ensures { (result ≡ length (shaped_parcel nest tile (way + 1))) × (result ≤ 16384) }
+pub fn count_of(layout: &Layout, most: [usize; 4], tile: usize, at: [usize; 4], way: usize) -> usize
+    requires sized { (layout.now.sizes.route ≡ Direct) × ((tile < box_tiles layout.now.nest) × (way < ways Direct layout.now.nest)) }
+    requires farthest { Farthest layout.now.nest most × Has at (tile_place layout.now.nest tile) layout.now.nest.dimensions }
+    ensures { (result ≡ length (shaped_parcel layout.now.nest tile (way + 1))) × (result ≤ 16384) }
 {
-    let rows = rows_of(nest, sizes, most, tile, at, way);
-    let components = nest.components;
-    let n = rows.rows;
-    let last = nest.dimensions - 1;
+    let rows = rows_of(layout, most, tile, at, way);
+    let components = layout.nest.components;
+    let last = layout.nest.dimensions - 1;
     let mut count = 0;
-    for r in 0..n {
-        let row = row_of(nest, &components, rows, r);
-        let place = row.place;
-        let starts = row.starts;
-        let ends = row.ends;
-        count += runs::count_row(&starts, &ends, row.runs, place[last], rows.width);
+    for r in 0..rows.rows {
+        let row = row_of(layout.nest, &components, rows, r);
+        count += runs::count_row(
+            &row.starts,
+            &row.ends,
+            row.runs,
+            row.place[last],
+            rows.width,
+        );
     }
     count
 }
 
 // The rows that hold the cells of a tile of the box and a way, whose place and distances are looked at here.
-pub fn rows_at(nest: Nest, sizes: Sizes, tile: usize, way: usize) -> Sending
-    requires { Sized nest sizes × ((sizes.route ≡ Direct) × ((tile < box_tiles nest) × (way < ways Direct nest))) }
-    ensures { Rows nest tile (way + 1) result }
+pub fn rows_at(layout: &Layout, tile: usize, way: usize) -> Sending
+    requires { (layout.now.sizes.route ≡ Direct) × ((tile < box_tiles layout.now.nest) × (way < ways Direct layout.now.nest)) }
+    ensures { Rows layout.now.nest tile (way + 1) result }
 {
-    let at = layout::place_of_tile(nest, sizes, tile);
-    rows_of(nest, sizes, farthest(nest), tile, at, way)
+    let at = layout.place_of_tile(tile);
+    rows_of(layout, farthest(layout.nest), tile, at, way)
 }
 
 // The words of a slot's parcel, row by row.
-pub fn pack(nest: Nest, sizes: Sizes, tile: usize, way: usize, words: &mut [u32], memory: &[u32])
-    requires sized { Sized nest sizes × ((sizes.route ≡ Direct) × ((tile < box_tiles nest) × (way < ways Direct nest))) }
-    requires memory_len { (length memory.now ≡ cells nest) × (length words.old ≡ length (shaped_parcel nest tile (way + 1))) }
-    ensures { words.new ≡ pack memory.now (shaped_parcel nest tile (way + 1)) }
+pub fn pack(layout: &Layout, tile: usize, way: usize, words: &mut [u32], memory: &[u32])
+    requires sized { (layout.now.sizes.route ≡ Direct) × ((tile < box_tiles layout.now.nest) × (way < ways Direct layout.now.nest)) }
+    requires memory_len { (length memory.now ≡ cells layout.now.nest) × (length words.old ≡ length (shaped_parcel layout.now.nest tile (way + 1))) }
+    ensures { words.new ≡ pack memory.now (shaped_parcel layout.now.nest tile (way + 1)) }
 {
-    let rows = rows_at(nest, sizes, tile, way);
-    let components = nest.components;
-    let lengths = nest.lengths;
-    let n = rows.rows;
-    let last = nest.dimensions - 1;
+    let rows = rows_at(layout, tile, way);
+    let components = layout.nest.components;
+    let last = layout.nest.dimensions - 1;
     let mut count = 0;
-    for r in 0..n {
-        let row = row_of(nest, &components, rows, r);
-        let place = row.place;
-        let starts = row.starts;
-        let ends = row.ends;
-        let number = layout::rank(lengths, place, nest.dimensions);
+    for r in 0..rows.rows {
+        let row = row_of(layout.nest, &components, rows, r);
+        let number = layout::rank(layout.nest.lengths, row.place, layout.nest.dimensions);
         count = runs::row_words::pack_row(
             words,
             memory,
-            &starts,
-            &ends,
+            &row.starts,
+            &row.ends,
             row.runs,
             number,
-            place[last],
+            row.place[last],
             rows.width,
             count,
         );
@@ -269,31 +225,26 @@ pub fn pack(nest: Nest, sizes: Sizes, tile: usize, way: usize, words: &mut [u32]
 }
 
 // Each word of a slot's parcel to its cell, row by row.
-pub fn unpack(nest: Nest, sizes: Sizes, tile: usize, way: usize, memory: &mut [u32], words: &[u32])
-    requires sized { Sized nest sizes × ((sizes.route ≡ Direct) × ((tile < box_tiles nest) × (way < ways Direct nest))) }
-    requires memory_len { (length memory.old ≡ cells nest) × (length words.now ≡ length (shaped_parcel nest tile (way + 1))) }
-    ensures { memory.new ≡ unpack memory.old (shaped_parcel nest tile (way + 1)) words.now }
+pub fn unpack(layout: &Layout, tile: usize, way: usize, memory: &mut [u32], words: &[u32])
+    requires sized { (layout.now.sizes.route ≡ Direct) × ((tile < box_tiles layout.now.nest) × (way < ways Direct layout.now.nest)) }
+    requires memory_len { (length memory.old ≡ cells layout.now.nest) × (length words.now ≡ length (shaped_parcel layout.now.nest tile (way + 1))) }
+    ensures { memory.new ≡ unpack memory.old (shaped_parcel layout.now.nest tile (way + 1)) words.now }
 {
-    let rows = rows_at(nest, sizes, tile, way);
-    let components = nest.components;
-    let lengths = nest.lengths;
-    let n = rows.rows;
-    let last = nest.dimensions - 1;
+    let rows = rows_at(layout, tile, way);
+    let components = layout.nest.components;
+    let last = layout.nest.dimensions - 1;
     let mut count = 0;
-    for r in 0..n {
-        let row = row_of(nest, &components, rows, r);
-        let place = row.place;
-        let starts = row.starts;
-        let ends = row.ends;
-        let number = layout::rank(lengths, place, nest.dimensions);
+    for r in 0..rows.rows {
+        let row = row_of(layout.nest, &components, rows, r);
+        let number = layout::rank(layout.nest.lengths, row.place, layout.nest.dimensions);
         count = runs::row_words::unpack_row(
             memory,
             words,
-            &starts,
-            &ends,
+            &row.starts,
+            &row.ends,
             row.runs,
             number,
-            place[last],
+            row.place[last],
             rows.width,
             count,
         );

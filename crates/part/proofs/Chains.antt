@@ -7,10 +7,13 @@ use mathlib.Core.List.{List}
 use native.Mathlib.Nat.{zero-mul, mul-le-mul_right, mul-add-div_right, mul-add-mod_self_right, div-eq_of_lt, mod-eq_of_lt, mod-lt, div-le_self, one-mul}
 use native.Mathlib.Decide.{dec_lt, ℕ_discrete}
 use native.Mathlib.Omega.{arith}
-use lib.ListN.{length, get_or, take, drop, set, length-set}
-use lib.Seq.{get_or-set_same, get_or-set_other}
+use lib.ListN.{length, get_or, take, drop}
 use lib.Dec.{eqb}
 use borrow.Rule.Slice.PartMut.{put_mid}
+use Rattle.std.specs.Prelude.{Option, None, Some}
+use Rattle.std.specs.Option.{option_eq}
+use Rattle.std.proofs.lemmas.Bool.{eqb-true}
+use Rattle.std.specs.List.{CopiedTo, SameBelow}
 use Rattle.base.specs.Tests.{one, tabulate}
 use Rattle.base.specs.Lists.{In, put}
 use Rattle.base.proofs.Tests.{tabulate_at}
@@ -39,12 +42,12 @@ use Rattle.plan.proofs.ShapedParcels.{parcel_crossed, shaped_taker_column}
 use Rattle.layout.proofs.CellRows.{row_next}
 use Rattle.stages.proofs.Parts.{back, mid_length}
 use Rattle.layout.specs.declared.Sizes.{Sizes}
-use Rattle.layout.specs.Sizes.{Sized, along}
+use Rattle.layout.specs.Sizes.{Sized, along, Routed}
 use Rattle.layout.specs.Places.{Has}
 use Rattle.tables.specs.declared.scans.MessageSlot.{MessageSlot}
-use Rattle.tables.specs.Tables.{Routed, FoundIn}
+use Rattle.tables.specs.Tables.{FoundIn}
 use Rattle.network.specs.Apart.{sender_at, taker_at}
-use Rattle.part.specs.Marking.{ahead_of, side_of, Sided, Repeated}
+use Rattle.part.specs.Marking.{ahead_of, side_of, Sided}
 
 -- ---- a slot's message
 
@@ -174,16 +177,15 @@ module _ (x : Nest) (ok : Accepted x) (t u : ℕ) (same : t / tile_count x (last
 
 -- ---- the tiles passed
 
--- the bytes of the first so many tiles are told, and `known` is the chain of the last of them, or no chain
-pub record SidesTo (r : Route) (x : Nest) (b : ℕ) (sides : List ℕ) (tile known : ℕ) : Type 0 where
+-- the bytes of the first so many tiles are told, and `known` is the chain of the last of them
+pub record SidesTo (r : Route) (x : Nest) (b : ℕ) (sides : List ℕ) (tile : ℕ) (known : Option ℕ) : Type 0 where
   pub long : length sides ≡ 7168
   pub each : (s : ℕ) → s < tile * ways r x → get_or sides s 0 ≡ side_of r x b (box_tile x (s / ways r x)) (s % ways r x)
-  pub behind : known < box_tiles x → (1 ≤ tile) × (known ≡ box_tile x (tile - 1) / tile_count x (last x))
+  pub behind : (k : ℕ) → known ≡ Some k → (1 ≤ tile) × (k ≡ box_tile x (tile - 1) / tile_count x (last x))
 
 module _ (r : Route) (x : Nest) (b : ℕ) where
-  pub sides_start : (sides : List ℕ) (known : ℕ) → length sides ≡ 7168 → known ≡ box_tiles x → SidesTo r x b sides 0 known
-  sides_start sides known h e =
-      record { long = h; each = λ s l. absurd (omega (arith, l, zero-mul (ways r x))); behind = λ l. absurd (omega (arith, l, e)) }
+  pub sides_start : (sides : List ℕ) → length sides ≡ 7168 → SidesTo r x b sides 0 None
+  sides_start sides h = record { long = h; each = λ s l. absurd (omega (arith, l, zero-mul (ways r x))); behind = λ k e. cc }
 
   slot_tile_lem : (t w : ℕ) → w < ways r x → (t * ways r x + w) / ways r x ≡ t
   slot_tile_lem t w h = omega (arith, mul-add-div_right {m = ways r x} (omega arith) t w, div-eq_of_lt h)
@@ -191,15 +193,15 @@ module _ (r : Route) (x : Nest) (b : ℕ) where
   slot_way : (t w : ℕ) → w < ways r x → (t * ways r x + w) % ways r x ≡ w
   slot_way t w h = mul-add-mod_self_right t (ways r x) w ∙ mod-eq_of_lt h
 
-  module _ (ok : Accepted x) (sides : List ℕ) (tile known : ℕ) (g : SidesTo r x b sides tile known) (chain : ℕ)
+  module _ (ok : Accepted x) (sides : List ℕ) (tile : ℕ) (known : Option ℕ) (g : SidesTo r x b sides tile known) (chain : ℕ)
       (is : chain ≡ box_tile x tile / tile_count x (last x)) where
     next : (new : List ℕ) → length new ≡ 7168 → ((s : ℕ) → s < tile * ways r x → get_or new s 0 ≡ get_or sides s 0)
-        → ((w : ℕ) → w < ways r x → get_or new (tile * ways r x + w) 0 ≡ side_of r x b (box_tile x tile) w) → SidesTo r x b new (tile + 1) chain
+        → ((w : ℕ) → w < ways r x → get_or new (tile * ways r x + w) 0 ≡ side_of r x b (box_tile x tile) w) → SidesTo r x b new (tile + 1) (Some chain)
     next new h old row =
         record {
           long = h;
           each = λ s l. go s (omega (arith, l, more)) (dec_lt s (tile * ways r x));
-          behind = λ l. let e : tile + 1 - 1 ≡ tile = omega arith in (omega arith, rw e is);
+          behind = λ k q. let e : tile + 1 - 1 ≡ tile = omega arith in let same : chain ≡ k = cc in (omega arith, sym same ∙ rw e is);
         }
       where
         more : (tile + 1) * ways r x ≡ tile * ways r x + ways r x
@@ -219,25 +221,27 @@ module _ (r : Route) (x : Nest) (b : ℕ) where
 
     module _ (n : ℕ) (we : n ≡ ways r x) (room : tile * n + n ≤ 7168) where
       -- by the code's numbers: those of the tile before, of the same chain
-      pub sides_copied : (new : List ℕ) → chain ≡ known → box_tile x tile < box_tiles x → Repeated (tile * n) n sides new
-          → SidesTo r x b new (tile + 1) chain
-      sides_copied new same low c =
-          let first = g.behind (omega (arith, same, is, low, div-le_self (box_tile x tile) (tile_count x (last x)))) in
+      pub sides_copied : (new : List ℕ) → known ≡ Some chain → length new ≡ length sides
+          → CopiedTo sides new (tile * n - n) (tile * n) (tile * n - (tile * n - n)) → SameBelow sides new (tile * n)
+          → SidesTo r x b new (tile + 1) (Some chain)
+      sides_copied new same long copied front =
+          let first = g.behind chain same in
           let e : tile ≡ tile - 1 + 1 = omega (arith, first.0) in
-          let chains : box_tile x tile / tile_count x (last x) ≡ box_tile x (tile - 1) / tile_count x (last x) = sym is ∙ same ∙ first.1 in
+          let chains : box_tile x tile / tile_count x (last x) ≡ box_tile x (tile - 1) / tile_count x (last x) = sym is ∙ first.1 in
           let more : tile * n ≡ (tile - 1) * n + n = ap (λ (i : ℕ). i * n) e ∙ row_next n (tile - 1) tile in
-          next new (c.long ∙ g.long) (λ s l. c.front s (omega (arith, l, ap (λ (i : ℕ). tile * i) we)))
+          next new (long ∙ g.long) (λ s l. front s 0 (omega (arith, l, ap (λ (i : ℕ). tile * i) we)))
           (λ w l.
           let k : w < n = omega (arith, l, we) in
-          let at : tile * n - n + w ≡ (tile - 1) * ways r x + w = omega (arith, more, ap (λ (i : ℕ). (tile - 1) * i) we) in
-          ap (λ (i : ℕ). get_or new (tile * i + w) 0) (sym we) ∙ c.each w k ∙ ap (λ (i : ℕ). get_or sides i 0) at
+          let at : tile * n - n + (tile * n + w - tile * n) ≡ (tile - 1) * ways r x + w = omega (arith, more, ap (λ (i : ℕ). (tile - 1) * i) we) in
+          ap (λ (i : ℕ). get_or new (tile * i + w) 0) (sym we)
+          ∙ copied (tile * n + w) 0 (omega arith) (omega (arith, more, k)) ∙ ap (λ (i : ℕ). get_or sides i 0) at
           ∙ g.each ((tile - 1) * ways r x + w) (omega (arith, l, more, ap (λ (i : ℕ). (tile - 1) * i) we, ap (λ (i : ℕ). tile * i) we, we))
           ∙ ap (λ (t : ℕ). side_of r x b (box_tile x t) (((tile - 1) * ways r x + w) % ways r x)) (slot_tile_lem (tile - 1) w l)
           ∙ ap (side_of r x b (box_tile x (tile - 1))) (slot_way (tile - 1) w l)
           ∙ sym (chain_side x ok (box_tile x tile) (box_tile x (tile - 1)) chains r b w))
 
       pub sides_put : (row : List ℕ) (u : ℕ) → u ≡ box_tile x tile → length row ≡ length (take (tile * n + n - tile * n) (drop (tile * n) sides))
-          → row ≡ tabulate (side_of r x b u) (ways r x) → SidesTo r x b (put_mid (tile * n) (tile * n + n - tile * n) sides row) (tile + 1) chain
+          → row ≡ tabulate (side_of r x b u) (ways r x) → SidesTo r x b (put_mid (tile * n) (tile * n + n - tile * n) sides row) (tile + 1) (Some chain)
       sides_put row u at long e =
           let fits : tile * n + n ≤ length sides = omega (arith, room, g.long) in
           let rows : length row ≡ n = long ∙ mid_length sides (tile * n) n fits in
@@ -250,40 +254,9 @@ module _ (r : Route) (x : Nest) (b : ℕ) where
           ∙ put_same sides (tile * n) row end w (omega (arith, l, rows, we)) ∙ ap (λ (ws : List ℕ). get_or ws w 0) e
           ∙ tabulate_at (side_of r x b u) (ways r x) w l ∙ ap (λ (t : ℕ). side_of r x b t w) at))
 
-  pub sides_done : (sides : List ℕ) (tile known tiles : ℕ) → SidesTo r x b sides tile known → tiles ≤ tile
+  pub sides_done : (sides : List ℕ) (tile : ℕ) (known : Option ℕ) (tiles : ℕ) → SidesTo r x b sides tile known → tiles ≤ tile
       → Sided r x b (tiles * ways r x) sides
   sides_done sides tile known tiles g h = record { each = λ s l. g.each s (omega (arith, l, mul-le-mul_right (ways r x) h)) }
-
--- ---- words that are those before them
-
-pub record RepeatedTo (at n : ℕ) (old new : List ℕ) (w : ℕ) : Type 0 where
-  pub long : length new ≡ length old
-  pub low : w ≤ n
-  pub each : (i : ℕ) → i < w → get_or new (at + i) 0 ≡ get_or old (at - n + i) 0
-  pub front : (i : ℕ) → i < at → get_or new i 0 ≡ get_or old i 0
-
-module _ (at n : ℕ) (old : List ℕ) where
-  pub repeat_start : RepeatedTo at n old old 0
-  repeat_start = record { long = refl; low = omega arith; each = λ i l. absurd (omega arith); front = λ i l. refl }
-
-  module _ (new : List ℕ) (w : ℕ) (g : RepeatedTo at n old new w) where
-    pub repeat_next : n ≤ at → at + n ≤ length old → w < n → RepeatedTo at n old (set new (at + w) (get_or new (at - n + w) 0)) (w + 1)
-    repeat_next h room l =
-        record {
-          long = length-set new (at + w) _ ∙ g.long;
-          low = omega arith;
-          each = λ i k. go i (omega arith) (ℕ_discrete i w);
-          front = λ i k. get_or-set_other new (at + w) i (get_or new (at - n + w) 0) 0 (λ e. omega arith) ∙ g.front i k;
-        }
-      where
-        go : (i : ℕ) → i ≤ w → Dec (i ≡ w) → get_or (set new (at + w) (get_or new (at - n + w) 0)) (at + i) 0 ≡ get_or old (at - n + i) 0
-        go i k (yes e) =
-            rw e (get_or-set_same new (at + w) (get_or new (at - n + w) 0) 0 (omega (arith, g.long, room, l)) ∙ g.front (at - n + w) (omega (arith, h, l)))
-        go i k (no e) =
-            get_or-set_other new (at + w) (at + i) (get_or new (at - n + w) 0) 0 (λ q. e (omega (arith, q))) ∙ g.each i (omega (arith, e, k))
-
-    pub repeat_done : n ≤ w → Repeated at n old new
-    repeat_done h = record { long = g.long; each = λ i l. g.each i (omega arith); front = g.front }
 
 -- ---- by the numbers of the code
 
@@ -346,10 +319,10 @@ module _ (r : Route) (x : Nest) (z : Sizes) (s : Sized x z) where
   pub chain_is : (t u : ℕ) → u ≡ box_tile x t → u / get_or z.across (last x) 0 ≡ box_tile x t / tile_count x (last x)
   chain_is t u e = ap (λ (i : ℕ). u / i) (s.across (last x) last_low) ∙ ap (λ (i : ℕ). i / tile_count x (last x)) e
 
-  pub same_chain : (b : ℕ) (sides : List ℕ) (tile known : ℕ) → SidesTo r x b sides tile known → (u : ℕ) → u ≡ box_tile x tile → u < box_tiles x
-      → u / get_or z.across (last x) 0 ≡ known → 1 ≤ tile
-  same_chain b sides tile known g u e low same =
-      (g.behind (omega (arith, low, same, div-le_self u (get_or z.across (last x) 0)))).0
+-- what the test tells of the chain known
+pub known_is : (known : Option ℕ) (chain : ℕ) → option_eq eqb known (Some chain) ≡ true → known ≡ Some chain
+known_is None chain e = cc
+known_is (Some k) chain e = ap Some (eqb-true k chain e)
 
 pub across_some : (x : Nest) (z : Sizes) → Sized x z → 0 < get_or z.across (last x) 0
 unfolding tile_count

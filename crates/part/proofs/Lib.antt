@@ -1,5 +1,4 @@
 pub mod Words
-pub mod Slotted
 pub mod Slots
 pub mod Handling
 pub mod Chains

@@ -33,8 +33,7 @@ use Rattle.plan.proofs.ShapedSound.{sound}
 use Rattle.plan.proofs.ShapedTiles.{box_tile_tile_of}
 use Rattle.plan.proofs.Tiles.{tile_place_box_tile_of, processor_of_same}
 use Rattle.layout.specs.declared.Sizes.{Sizes}
-use Rattle.layout.specs.Sizes.{Sized}
-use Rattle.tables.specs.Tables.{Routed}
+use Rattle.layout.specs.Sizes.{Sized, Routed}
 use Rattle.network.specs.Own.{owns}
 use Rattle.part.specs.Marking.{row_cells, Shown, Alike}
 use Rattle.part.proofs.Rows.{wide_some}

@@ -13,7 +13,7 @@ use Rattle.plan.specs.Shaped.{plan_of}
 use Rattle.tables.specs.scans.Scans.{Lengths, Summing}
 use Rattle.tables.proofs.scans.Laws as scans
 use Rattle.tables.specs.Tables.{FoundIn}
-use Rattle.part.proofs.Slotted.{Slotted}
+use Rattle.tables.proofs.Slotted.{Slotted}
 
 -- the slots before s are passed: so many messages with so many words
 pub record Past (lens : List ℕ) (n s m o : ℕ) : Type 0 where
@@ -32,7 +32,7 @@ Met w m m' = ((w ≢ 0) × (m' ≡ m + 1)) ⊎ ((w ≡ 0) × (m' ≡ m))
 module _ (r : Route) (x : Nest) (lens : List ℕ) (n s m o : ℕ) (g : Past lens n s m o) (t : Slotted r x lens n) where
   module _ (l : s < n) (w : ℕ) (e : w ≡ get_or lens s 0) where
     pub here : w ≢ 0 → FoundIn r x m (record { slot = s; number = m; offset = o; words = w })
-    here h = t.found m _ (λ f i. scans.found f n s m o w (g.sums f i) l (e ∙ i.each s l) (scans.positive w h))
+    here h = t.found m _ (scans.found t.slot n s m o w (g.sums t.slot t.lengths) l (e ∙ t.lengths.each s l) (scans.positive w h))
 
     pub short : w ≤ 16384
     short = omega (arith, e, t.sheet.short s l)
@@ -53,4 +53,4 @@ module _ (r : Route) (x : Nest) (lens : List ℕ) (n s m o : ℕ) (g : Past lens
   pub past_all : n ≤ s → m ≡ count (plan_of r x)
   past_all k =
       let z : s ≡ n = omega (arith, g.low) in
-      (g.sums t.slot t.lengths).number ∙ ap (λ (i : ℕ). length (messages_of t.slot i)) z ∙ sym t.counts
+      (g.sums t.slot t.lengths).number ∙ ap (λ (i : ℕ). length (messages_of t.slot i)) z ∙ sym (ap (λ (ms : List Message). length ms) t.all)

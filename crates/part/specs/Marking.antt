@@ -1,7 +1,7 @@
 -- For contracts below the calls: no reader needs it.
 -- What the code that marks cells and counts messages goes by: rows of the box, rows that lie in the same tiles, the processors at a slot's ends.
 -- No sentence of document 01.
-use Rattle.std.specs.Prelude.{ℕ, ◌+◌, ◌*◌, ◌-◌, ◌/◌, ◌%◌, ◌≤◌, ◌<◌, ◌≡◌, ◌⊎◌, List, length, get_or, eqb}
+use Rattle.std.specs.Prelude.{ℕ, ◌+◌, ◌*◌, ◌/◌, ◌%◌, ◌≤◌, ◌<◌, ◌≡◌, ◌⊎◌, List, length, get_or, eqb}
 use Rattle.base.specs.Tests.{one, pick}
 use Rattle.nest.specs.declared.Nest.{Nest}
 use Rattle.nest.specs.Nest.{length_of, tile_length, processor_count}
@@ -41,9 +41,3 @@ side_of r x b t w = one (eqb (processor_of x t) b) + 2 * one (eqb (ahead_of r x 
 -- so for each of the first n slots of the table
 pub record Sided (r : Route) (x : Nest) (b n : ℕ) (sides : List ℕ) : Type 0 where
   pub each : (s : ℕ) → s < n → get_or sides s 0 ≡ side_of r x b (box_tile x (s / ways r x)) (s % ways r x)
-
--- the n words from place `at` on are those before them
-pub record Repeated (at n : ℕ) (before after : List ℕ) : Type 0 where
-  pub long : length after ≡ length before
-  pub each : (w : ℕ) → w < n → get_or after (at + w) 0 ≡ get_or before (at - n + w) 0
-  pub front : (i : ℕ) → i < at → get_or after i 0 ≡ get_or before i 0

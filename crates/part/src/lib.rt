@@ -10,24 +10,24 @@ ghost use Rattle.nest.specs.Accepted.{Accepted};
 ghost use Rattle.nest.specs.Nest.{processor_count, cells, box_tiles, processors};
 ghost use Rattle.nest.specs.Places.{rank};
 ghost use Rattle.plan.specs.Messages.{ways};
-ghost use Rattle.plan.specs.Shaped.{box_tile, plan_of};
-ghost use Rattle.layout.specs.Sizes.{Sized};
-ghost use Rattle.tables.specs.Tables.{Routed, Tabled, FoundIn};
+ghost use Rattle.plan.specs.Shaped.{box_tile};
+ghost use Rattle.layout.specs.Laid.{plan_of_layout};
+ghost use Rattle.tables.specs.Tables.{FoundIn};
+ghost use Rattle.tables.specs.Given.{plan_of_table};
 ghost use Rattle.network.specs.Apart.{taker_at};
 ghost use Rattle.network.specs.Own.{owns, keeps, handles};
 ghost use Rattle.rank_index.specs.Ranks.{marked_cells, rank_at, spread_out, Counted};
 ghost use Rattle.part.specs.Part.{rank_of, mail_at, Listed};
-ghost use Rattle.part.specs.Marking.{row_cells, Shown, Alike, side_of, Sided, Repeated};
+ghost use Rattle.part.specs.Marking.{row_cells, Shown, Alike, side_of, Sided};
 
 use crate::sides::is_taker;
-use base::{half_index, least, zero_bytes};
-use layout::Sizes;
+use layout::Layout;
 use nest::division::place_along;
 use nest::{MOST_CELLS, MOST_MESSAGES, Nest};
 use rank_index::{BLOCKS, rank};
+use tables::Table;
 use tables::message_cells::cells_of;
 use tables::scans::MessageSlot;
-use tables::{TABLE_WORDS, tiles_of};
 
 pub mod sides; // sides.rt: what one byte tells of a message: whose ends it has, and how far it is
 
@@ -68,25 +68,26 @@ fn rows_alike(nest: Nest, q: usize, most: usize) -> usize
     let j = nest.dimensions - 2;
     let a = at[j];
     let k = nest.tiling[j];
-    let left = least(nest.lengths[j] - a, k - place_along(a, k));
-    least(left, most)
+    let left = (nest.lengths[j] - a).min(k - place_along(a, k));
+    left.min(most)
 }
 
 // Marks the cells of the processor's tiles: by rows that have one processor.
-pub fn mark_own(nest: Nest, sizes: Sizes, b: usize, marks: &mut [u8])
-    requires { Sized nest sizes × (Routed nest sizes × ((b < processors nest) × (length marks.old ≡ cells nest))) }
-    ensures { marks.new ≡ tabulate (λ c. one (owns (plan_of sizes.route nest) b c)) (cells nest) }
+pub fn mark_own(layout: &Layout, b: usize, marks: &mut [u8])
+    requires { (b < processors layout.now.nest) × (length marks.old ≡ cells layout.now.nest) }
+    ensures { marks.new ≡ tabulate (λ c. one (owns (plan_of_layout layout.now) b c)) (cells layout.now.nest) }
 {
-    zero_bytes(marks);
-    let width = nest.lengths[nest.dimensions - 1];
-    let rows = nest::row_count(nest);
+    marks.fill(0);
+    let width = layout.nest.lengths[layout.nest.dimensions - 1];
+    let rows = nest::row_count(layout.nest);
     let mut q = 0;
+    // from one stretch of rows with one processor to the next, each as long as it is
     while q < rows {
-        let end = q + rows_alike(nest, q, rows - q);
-        let tile = layout::tile_of(nest, sizes, q * width);
-        let processor = layout::processor_of(nest, sizes, tile);
+        let end = q + rows_alike(layout.nest, q, rows - q);
+        let tile = layout.tile_of(q * width);
+        let processor = layout.processor_of(tile);
         if processor == b {
-            mark_rows(nest, q, end, marks);
+            mark_rows(layout.nest, q, end, marks);
         }
         q = end;
     }
@@ -116,66 +117,49 @@ fn same_as(a: usize, b: usize) -> u8
 }
 
 // The bytes of a tile's slots.
-fn put_sides(nest: Nest, sizes: Sizes, b: usize, tile: usize, row: &mut [u8])
-    requires { Sized nest sizes × ((tile < box_tiles nest) × (length row.old ≡ ways sizes.route nest)) }
-    ensures { row.new ≡ tabulate (side_of sizes.route nest b tile) (ways sizes.route nest) }
+fn put_sides(layout: &Layout, b: usize, tile: usize, row: &mut [u8])
+    requires { (tile < box_tiles layout.now.nest) × (length row.old ≡ ways layout.now.sizes.route layout.now.nest) }
+    ensures { row.new ≡ tabulate (side_of layout.now.sizes.route layout.now.nest b tile) (ways layout.now.sizes.route layout.now.nest) }
 {
-    let at = layout::place_of_tile(nest, sizes, tile);
-    let from = same_as(layout::processor_of(nest, sizes, tile), b);
-    let mut w = 0;
-    while w < row.len() {
-        let along = layout::along_of(nest, sizes, w);
-        row[w] = from + 2 * same_as(ahead_of(nest, at, along), b);
-        w += 1;
-    }
-}
-
-// Those of the tile before it.
-fn copy_sides(sides: &mut [u8], at: usize, n: usize)
-    requires { (n ≤ at) × ((at + n ≤ length sides.old) × (length sides.old ≤ 16384)) }
-    ensures { Repeated at n sides.old sides.new }
-{
-    let before = at - n;
-    let mut w = 0;
-    while w < n {
-        sides[at + w] = sides[before + w];
-        w += 1;
+    let at = layout.place_of_tile(tile);
+    let from = same_as(layout.processor_of(tile), b);
+    for (w, side) in row.iter_mut().enumerate() {
+        let along = layout.along_of(w);
+        *side = from + 2 * same_as(ahead_of(layout.nest, at, along), b);
     }
 }
 
 // A tile's number in the box.
-pub fn box_tile(nest: Nest, sizes: Sizes, lens: &[u16; TABLE_WORDS], tile: usize) -> usize
-    requires { (Sized nest sizes × Tabled nest sizes lens.now) × (tile < (plan_of sizes.route nest).tiles) }
-    ensures { (result ≡ box_tile nest tile) × (result < box_tiles nest) }
+pub fn box_tile(table: &Table, tile: usize) -> usize
+    requires { tile < (plan_of_table table.now).tiles }
+    ensures { (result ≡ box_tile table.now.layout.nest tile) × (result < box_tiles table.now.layout.nest) }
 {
-    if nest.bounds == 0 {
+    if table.layout.nest.bounds == 0 {
         return tile;
     }
-    tables::shaped_table::box_of(nest, lens, tile)
+    tables::shaped_table::box_of(table.layout.nest, &table.lens, tile)
 }
 
 // For each slot which of its ends are the processor's, looked up once a chain.
-fn fill_sides(nest: Nest, sizes: Sizes, lens: &[u16; TABLE_WORDS], b: usize, sides: &mut [u8])
-    requires { (Sized nest sizes × Tabled nest sizes lens.now) × (length sides.old ≡ 7168) }
-    ensures { Sided sizes.route nest b ((plan_of sizes.route nest).tiles * sizes.ways) sides.new }
+fn fill_sides(table: &Table, b: usize, sides: &mut [u8])
+    requires { length sides.old ≡ 7168 }
+    ensures { Sided table.now.layout.sizes.route table.now.layout.nest b ((plan_of_table table.now).tiles * table.now.layout.sizes.ways) sides.new }
 {
-    let ways = sizes.ways;
-    let across = sizes.across[nest.dimensions - 1];
-    let tiles = tiles_of(nest, sizes, lens);
-    let mut known = sizes.tiles;
-    let mut tile = 0;
-    while tile < tiles {
-        let number = box_tile(nest, sizes, lens, tile);
+    let ways = table.layout.sizes.ways;
+    let across = table.layout.sizes.across[table.layout.nest.dimensions - 1];
+    let tiles = table.tiles_of();
+    let mut known = None;
+    for tile in 0..tiles {
+        let number = box_tile(table, tile);
         let chain = number / across;
         let from = tile * ways;
-        if chain == known {
-            copy_sides(sides, from, ways);
+        if known == Some(chain) {
+            sides.copy_within(from - ways..from, from);
         } else {
             let end = from + ways;
-            put_sides(nest, sizes, b, number, &mut sides[from..end]);
+            put_sides(&table.layout, b, number, &mut sides[from..end]);
         }
-        known = chain;
-        tile += 1;
+        known = Some(chain);
     }
 }
 
@@ -186,101 +170,79 @@ fn mark_cells(marks: &mut [u8], cells: &[u16])
     requires { (c : ℕ) → In c cells.now → c < length marks.old }
     ensures { marks.new ≡ set_all marks.old cells.now 1 }
 {
-    let mut i = 0;
-    while i < cells.len() {
-        let c = half_index(cells[i]);
-        marks[c] = 1;
-        i += 1;
+    for &c in cells {
+        marks[usize::from(c)] = 1;
     }
 }
 
 // Marks the cells of a message, by their list.
-fn mark_held(
-    nest: Nest,
-    sizes: Sizes,
-    lens: &[u16; TABLE_WORDS],
-    place: MessageSlot,
-    list: &mut [u16],
-    marks: &mut [u8],
-)
-    requires sized { (Sized nest sizes × Tabled nest sizes lens.now) × FoundIn sizes.route nest place.number place }
-    requires list_len { (length list.old ≡ place.words) × (length marks.old ≡ cells nest) }
-    ensures { marks.new ≡ set_all marks.old (held_by (plan_of sizes.route nest) place.number) 1 }
+fn mark_held(table: &Table, place: MessageSlot, list: &mut [u16], marks: &mut [u8])
+    requires sized { FoundIn table.now.layout.sizes.route table.now.layout.nest place.number place }
+    requires list_len { (length list.old ≡ place.words) × (length marks.old ≡ cells table.now.layout.nest) }
+    ensures { marks.new ≡ set_all marks.old (held_by (plan_of_table table.now) place.number) 1 }
 {
-    cells_of(nest, sizes, lens, place, list);
+    cells_of(&table.layout, &table.lens, place, list);
     mark_cells(marks, list);
 }
 
 // The same where one of the processor's tiles takes the message, by its slot's byte; the list has room for all of a message's cells.
 fn mark_brought(
-    nest: Nest,
-    sizes: Sizes,
-    lens: &[u16; TABLE_WORDS],
+    table: &Table,
     place: MessageSlot,
     b: usize,
     side: u8,
     list: &mut [u16],
     marks: &mut [u8],
 )
-    requires sized { (Sized nest sizes × Tabled nest sizes lens.now) × FoundIn sizes.route nest place.number place }
-    requires side_value { side ≡ side_of sizes.route nest b (box_tile nest (place.slot / ways sizes.route nest)) (place.slot % ways sizes.route nest) }
-    requires words_in_bounds { (place.words ≤ length list.old) × (length marks.old ≡ cells nest) }
+    requires sized { FoundIn table.now.layout.sizes.route table.now.layout.nest place.number place }
+    requires side_value { side ≡ side_of table.now.layout.sizes.route table.now.layout.nest b (box_tile table.now.layout.nest (place.slot / ways table.now.layout.sizes.route table.now.layout.nest)) (place.slot % ways table.now.layout.sizes.route table.now.layout.nest) }
+    requires words_in_bounds { (place.words ≤ length list.old) × (length marks.old ≡ cells table.now.layout.nest) }
     ensures { marks.new
-        ≡ pick (eqb (taker_at (plan_of sizes.route nest) place.number) b)
-        (set_all marks.old (held_by (plan_of sizes.route nest) place.number) 1) marks.old }
+        ≡ pick (eqb (taker_at (plan_of_table table.now) place.number) b)
+        (set_all marks.old (held_by (plan_of_table table.now) place.number) 1) marks.old }
 {
     if is_taker(side) {
         let words = place.words;
-        mark_held(nest, sizes, lens, place, &mut list[0..words], marks);
+        mark_held(table, place, &mut list[0..words], marks);
     }
 }
 
 // Marks the cells that messages to the processor's tiles bring, where its own are marked.
-fn mark_messages(
-    nest: Nest,
-    sizes: Sizes,
-    lens: &[u16; TABLE_WORDS],
-    b: usize,
-    sides: &[u8],
-    list: &mut [u16],
-    marks: &mut [u8],
-)
-    requires sized { (Sized nest sizes × Tabled nest sizes lens.now) × (length list.old ≡ 16384) }
-    requires sides_len { (length sides.now ≡ 7168) × Sided sizes.route nest b ((plan_of sizes.route nest).tiles * sizes.ways) sides.now }
-    requires marks_value { marks.old ≡ tabulate (λ c. one (owns (plan_of sizes.route nest) b c)) (cells nest) }
-    ensures { marks.new ≡ tabulate (λ c. one (keeps (plan_of sizes.route nest) b c)) (cells nest) }
+fn mark_messages(table: &Table, b: usize, sides: &[u8], list: &mut [u16], marks: &mut [u8])
+    requires list_len { length list.old ≡ 16384 }
+    requires sides_len { (length sides.now ≡ 7168) × Sided table.now.layout.sizes.route table.now.layout.nest b ((plan_of_table table.now).tiles * table.now.layout.sizes.ways) sides.now }
+    requires marks_value { marks.old ≡ tabulate (λ c. one (owns (plan_of_table table.now) b c)) (cells table.now.layout.nest) }
+    ensures { marks.new ≡ tabulate (λ c. one (keeps (plan_of_table table.now) b c)) (cells table.now.layout.nest) }
 {
-    let slots = tiles_of(nest, sizes, lens) * sizes.ways;
-    let mut slot = 0;
+    let slots = table.tiles_of() * table.layout.sizes.ways;
     let mut number = 0;
     let mut offset = 0;
-    while slot < slots {
-        let words = half_index(lens[slot]);
+    for slot in 0..slots {
+        let words = usize::from(table.lens[slot]);
         if words != 0 {
             let place = MessageSlot {
-                slot: slot,
-                number: number,
-                offset: offset,
-                words: words,
+                slot,
+                number,
+                offset,
+                words,
             };
-            mark_brought(nest, sizes, lens, place, b, sides[slot], list, marks);
+            mark_brought(table, place, b, sides[slot], list, marks);
             number += 1;
         }
         offset += words;
-        slot += 1;
     }
 }
 
 // Marks the cells that the processor keeps words of: these, and those that a message to one of its tiles brings.
-pub fn mark_kept(nest: Nest, sizes: Sizes, lens: &[u16; TABLE_WORDS], b: usize, marks: &mut [u8])
-    requires { (Sized nest sizes × Tabled nest sizes lens.now) × ((b < processors nest) × (length marks.old ≡ cells nest)) }
-    ensures { marks.new ≡ tabulate (λ c. one (keeps (plan_of sizes.route nest) b c)) (cells nest) }
+pub fn mark_kept(table: &Table, b: usize, marks: &mut [u8])
+    requires { (b < processors table.now.layout.nest) × (length marks.old ≡ cells table.now.layout.nest) }
+    ensures { marks.new ≡ tabulate (λ c. one (keeps (plan_of_table table.now) b c)) (cells table.now.layout.nest) }
 {
-    mark_own(nest, sizes, b, marks);
+    mark_own(&table.layout, b, marks);
     let mut sides = [0u8; MOST_MESSAGES];
-    fill_sides(nest, sizes, lens, b, &mut sides);
+    fill_sides(table, b, &mut sides);
     let mut list = [0u16; MOST_CELLS];
-    mark_messages(nest, sizes, lens, b, &sides, &mut list, marks);
+    mark_messages(table, b, &sides, &mut list, marks);
 }
 
 // ---- words, where the marked cells' ranks say
@@ -306,14 +268,12 @@ pub fn take(marks: &[u8], counts: &[u32; BLOCKS], cells: &[u16], memory: &mut [u
 {
     let mut known = 0;
     let mut at = 0;
-    let mut i = 0;
-    while i < cells.len() {
-        let c = half_index(cells[i]);
+    for (i, &cell) in cells.iter().enumerate() {
+        let c = usize::from(cell);
         at = rank_by(marks, counts, known, at, c);
         memory[at] = words[i];
         known = c + 1;
         at += 1;
-        i += 1;
     }
 }
 
@@ -324,68 +284,61 @@ pub fn give(marks: &[u8], counts: &[u32; BLOCKS], cells: &[u16], memory: &[u32],
 {
     let mut known = 0;
     let mut at = 0;
-    let mut i = 0;
-    while i < cells.len() {
-        let c = half_index(cells[i]);
+    for (i, &cell) in cells.iter().enumerate() {
+        let c = usize::from(cell);
         at = rank_by(marks, counts, known, at, c);
         words[i] = memory[at];
         known = c + 1;
         at += 1;
-        i += 1;
     }
 }
 
 // ---- messages
 
 // Whether the processor sends or takes the message, as a word, by its slot's byte.
-fn handled_one(nest: Nest, sizes: Sizes, place: MessageSlot, b: usize, side: u8) -> u32
-    requires sized { (Sized nest sizes × Routed nest sizes) × FoundIn sizes.route nest place.number place }
-    requires side_value { side ≡ side_of sizes.route nest b (box_tile nest (place.slot / ways sizes.route nest)) (place.slot % ways sizes.route nest) }
-    ensures { result ≡ one (handles (plan_of sizes.route nest) b place.number) }
+fn handled_one(layout: &Layout, place: MessageSlot, b: usize, side: u8) -> u32
+    requires sized { FoundIn layout.now.sizes.route layout.now.nest place.number place }
+    requires side_value { side ≡ side_of layout.now.sizes.route layout.now.nest b (box_tile layout.now.nest (place.slot / ways layout.now.sizes.route layout.now.nest)) (place.slot % ways layout.now.sizes.route layout.now.nest) }
+    ensures { result ≡ one (handles (plan_of_layout layout.now) b place.number) }
 {
     if side == 0 { 0 } else { 1 }
 }
 
 // For each message, and behind the last one, how many messages the processor handles before it, and how many words they have, by the slots' bytes.
 fn fill_ranks(
-    nest: Nest,
-    sizes: Sizes,
-    lens: &[u16; TABLE_WORDS],
+    table: &Table,
     b: usize,
     sides: &[u8],
     ordinals: &mut [u32; MESSAGE_ENDS],
     starts: &mut [u32; MESSAGE_ENDS],
 )
-    requires sized { (Sized nest sizes × Tabled nest sizes lens.now) × ((length sides.now ≡ 7168)
-        × Sided sizes.route nest b ((plan_of sizes.route nest).tiles * sizes.ways) sides.now) }
+    requires sides_len { (length sides.now ≡ 7168) × Sided table.now.layout.sizes.route table.now.layout.nest b ((plan_of_table table.now).tiles * table.now.layout.sizes.ways) sides.now }
     requires ordinals_len { (length ordinals.old ≡ 7169) × (length starts.old ≡ 7169) }
-    ensures { (m : ℕ) → m ≤ count (plan_of sizes.route nest) → (get_or ordinals.new m 0 ≡ rank_of (plan_of sizes.route nest) b m)
-        × (get_or starts.new m 0 ≡ mail_at (plan_of sizes.route nest) b m) }
+    ensures { (m : ℕ) → m ≤ count (plan_of_table table.now) → (get_or ordinals.new m 0 ≡ rank_of (plan_of_table table.now) b m)
+        × (get_or starts.new m 0 ≡ mail_at (plan_of_table table.now) b m) }
 {
-    let slots = tiles_of(nest, sizes, lens) * sizes.ways;
-    let mut slot = 0;
+    let slots = table.tiles_of() * table.layout.sizes.ways;
     let mut number = 0;
     let mut offset = 0;
     let mut rank = 0;
     let mut at = 0;
-    while slot < slots {
-        let words = half_index(lens[slot]);
+    for slot in 0..slots {
+        let words = usize::from(table.lens[slot]);
         ordinals[number] = rank;
         starts[number] = at;
         if words != 0 {
             let place = MessageSlot {
-                slot: slot,
-                number: number,
-                offset: offset,
-                words: words,
+                slot,
+                number,
+                offset,
+                words,
             };
-            let own = handled_one(nest, sizes, place, b, sides[slot]);
+            let own = handled_one(&table.layout, place, b, sides[slot]);
             number += 1;
             rank += own;
             at += own * (words as u32);
         }
         offset += words;
-        slot += 1;
     }
     ordinals[number] = rank;
     starts[number] = at;
@@ -393,19 +346,17 @@ fn fill_ranks(
 
 // The same of the table.
 pub fn fill_handled(
-    nest: Nest,
-    sizes: Sizes,
-    lens: &[u16; TABLE_WORDS],
+    table: &Table,
     b: usize,
     ordinals: &mut [u32; MESSAGE_ENDS],
     starts: &mut [u32; MESSAGE_ENDS],
 )
-    requires sized { (Sized nest sizes × Tabled nest sizes lens.now) × (b < processors nest) }
+    requires b_bound { b < processors table.now.layout.nest }
     requires ordinals_len { (length ordinals.old ≡ 7169) × (length starts.old ≡ 7169) }
-    ensures { (m : ℕ) → m ≤ count (plan_of sizes.route nest) → (get_or ordinals.new m 0 ≡ rank_of (plan_of sizes.route nest) b m)
-        × (get_or starts.new m 0 ≡ mail_at (plan_of sizes.route nest) b m) }
+    ensures { (m : ℕ) → m ≤ count (plan_of_table table.now) → (get_or ordinals.new m 0 ≡ rank_of (plan_of_table table.now) b m)
+        × (get_or starts.new m 0 ≡ mail_at (plan_of_table table.now) b m) }
 {
     let mut sides = [0u8; MOST_MESSAGES];
-    fill_sides(nest, sizes, lens, b, &mut sides);
-    fill_ranks(nest, sizes, lens, b, &sides, ordinals, starts);
+    fill_sides(table, b, &mut sides);
+    fill_ranks(table, b, &sides, ordinals, starts);
 }

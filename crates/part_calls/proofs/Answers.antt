@@ -1,5 +1,5 @@
 -- Each call for one processor by the line that counts.
-use Rattle.std.specs.Prelude.{◌≡◌, ℕ, zero, suc, ◌+◌, ◌-◌, ◌*◌, ◌<◌, ◌≤◌, Bool, true, false, eqb, ltb, ◌≢◌, List, [], ◌∷◌, ◌++◌, length, get_or, take, drop, set, replicate}
+use Rattle.std.specs.Prelude.{◌≡◌, ℕ, zero, suc, ◌+◌, ◌-◌, ◌*◌, ◌<◌, ◌≤◌, Bool, true, false, eqb, ltb, ◌≢◌, List, [], ◌∷◌, ◌++◌, length, get_or, take, drop, set, replicate, Ok, Err}
 use mathlib.Core.Path.{refl, sym, ap, ◌∙◌}
 use mathlib.Core.Logic.{inl, inr}
 use native.Mathlib.Omega.{arith}
@@ -9,14 +9,18 @@ use lib.ListN.{replicate-append-replicate}
 use borrow.Author.Tests.{eqb-true, eq-eqb, ne_eqb, lt-ltb, le-ltb, ltb-true}
 use Rattle.base.specs.Tests.{not}
 use Rattle.base.specs.Lists.{In, put, pack}
+use Rattle.base.specs.declared.refusal.Refusal.{Refusal}
 use Rattle.base.specs.Numbers.{Line, line, first_of}
+use Rattle.base.specs.Refusals.{code}
+use Rattle.base.proofs.Codes.{code_some}
 use Rattle.base.proofs.Tests.{both, never_both, and_true, and_false, and_no, or_right, not-true, not-false, true_not, pick_true, pick_false}
 use Rattle.base.proofs.Numbers.{first_true, first_false, none_first, first_some}
 use Rattle.base.proofs.Select.{keep_more, keep_none, keep_lt}
 use Rattle.machine.specs.Plan.{Plan, count, held_by, offset, words}
 use Rattle.machine.specs.Machine.{State, state_of, finished_of, stage_of, sent_of, place_of, fit, Answered, answered, deliver_lines, fresh}
 use Rattle.machine.proofs.Values.{offset_apart}
-use Rattle.plan.specs.Shaped.{plan_of}
+use Rattle.tables.specs.declared.Table.{Table}
+use Rattle.tables.specs.Given.{plan_of_table}
 use Rattle.engine.specs.Calls.{answer, recipe}
 use Rattle.engine.specs.Given.{zeros_after}
 use Rattle.engine.proofs.Lines.{and_right}
@@ -34,7 +38,6 @@ use Rattle.part.specs.Part.{words_of, rank_of, mail_at, part_fits}
 use Rattle.part_calls.specs.front.Calls.{from_part, to_part, lengths_of, no_lengths, lengths_if, part_sizes_call, part_fresh_call, part_post_call, part_arrive_call}
 use Rattle.part_calls.specs.declared.AreaLengths.{AreaLengths}
 use Rattle.part_calls.specs.front.Calls.{part_rows, part_messages_call, part_collected, part_collect_call}
-use Rattle.recipe.specs.declared.Recipe.{Recipe}
 use Rattle.part_calls.specs.front.Given.{OpensFor, unfit_lines}
 use Rattle.part_calls.specs.Given.{fresh_or, post_lines, posted_or, arrive_lines, arrives_or, mark_in, handed_over, MayArrive, arrived_or}
 use Rattle.part_calls.specs.Given.{collect_lines, collected_or, rows_or}
@@ -53,44 +56,48 @@ none_told (suc n) p b h = refl
 
 -- ---- past the first lines
 
-module _ (bytes : List ℕ) (route b : ℕ) (r : Recipe) (o : OpensFor bytes route b r) where
+module _ (bytes : List ℕ) (route b : ℕ) where
   -- how long the areas are
-  pub sizes_read : r.number ≢ 0 → no_lengths r.number ≡ part_sizes_call bytes route b
+  pub sizes_read : (r : Refusal) → OpensFor bytes route b (Err r) → no_lengths (code r) ≡ part_sizes_call bytes route b
   unfolding part_sizes_call
-  sizes_read h = sym (none_told r.number (recipe bytes route) b h) ∙ ap (λ (n : ℕ). lengths_if n (recipe bytes route) b) o.number
+  sizes_read r o =
+      sym (none_told (code r) (recipe bytes route) b (code_some r)) ∙ ap (λ (n : ℕ). lengths_if n (recipe bytes route) b) o.number
 
-  pub sizes_done : r.number ≡ 0 → (new : AreaLengths) → new ≡ lengths_of (plan_of r.sizes.route r.nest) b → new ≡ part_sizes_call bytes route b
+  pub sizes_done : (t : Table) → OpensFor bytes route b (Ok t) → (new : AreaLengths) → new ≡ lengths_of (plan_of_table t) b
+      → new ≡ part_sizes_call bytes route b
   unfolding part_sizes_call lengths_if
-  sizes_done z new e =
-      e ∙ ap (λ (p : Plan). lengths_of p b) (o.plan z) ∙ ap (λ (n : ℕ). lengths_if n (recipe bytes route) b) (sym z ∙ o.number)
+  sizes_done t o new e =
+      e ∙ ap (λ (p : Plan). lengths_of p b) o.board.plan ∙ ap (λ (n : ℕ). lengths_if n (recipe bytes route) b) o.number
 
   module _ (s : State) where
-    pub fresh_read : r.number ≢ 0 → answer r.number s ≡ part_fresh_call bytes route s b
+    pub fresh_read : (r : Refusal) → OpensFor bytes route b (Err r) → answer (code r) s ≡ part_fresh_call bytes route s b
     unfolding part_fresh_call
-    fresh_read h = closed bytes route b r o (λ p. line 9 (not (part_fits p b s)) ∷ []) (λ p. to_part p b (fresh p)) s h
+    fresh_read = closed bytes route b (λ p. line 9 (not (part_fits p b s)) ∷ []) (λ p. to_part p b (fresh p)) s
 
-    pub fresh_past : r.number ≡ 0 → (a : Answered State) → a ≡ fresh_or (plan_of r.sizes.route r.nest) b s → a ≡ part_fresh_call bytes route s b
+    pub fresh_past : (t : Table) → OpensFor bytes route b (Ok t) → (a : Answered State) → a ≡ fresh_or (plan_of_table t) b s
+        → a ≡ part_fresh_call bytes route s b
     unfolding part_fresh_call
-    fresh_past z a e = opened bytes route b r o (λ p. line 9 (not (part_fits p b s)) ∷ []) (λ p. to_part p b (fresh p)) s z a e
+    fresh_past = opened bytes route b (λ p. line 9 (not (part_fits p b s)) ∷ []) (λ p. to_part p b (fresh p)) s
 
     module _ (m : ℕ) where
-      pub post_read : r.number ≢ 0 → answer r.number s ≡ part_post_call bytes route s b m
+      pub post_read : (r : Refusal) → OpensFor bytes route b (Err r) → answer (code r) s ≡ part_post_call bytes route s b m
       unfolding part_post_call
-      post_read h = closed bytes route b r o (λ p. post_lines p b s m) (λ p. to_part p b (marked (from_part p b s) m)) s h
+      post_read = closed bytes route b (λ p. post_lines p b s m) (λ p. to_part p b (marked (from_part p b s) m)) s
 
-      pub post_past : r.number ≡ 0 → (a : Answered State) → a ≡ posted_or (plan_of r.sizes.route r.nest) b s m → a ≡ part_post_call bytes route s b m
+      pub post_past : (t : Table) → OpensFor bytes route b (Ok t) → (a : Answered State) → a ≡ posted_or (plan_of_table t) b s m
+          → a ≡ part_post_call bytes route s b m
       unfolding part_post_call
-      post_past z a e = opened bytes route b r o (λ p. post_lines p b s m) (λ p. to_part p b (marked (from_part p b s) m)) s z a e
+      post_past = opened bytes route b (λ p. post_lines p b s m) (λ p. to_part p b (marked (from_part p b s) m)) s
 
       module _ (ws : List ℕ) where
-        pub arrive_read : r.number ≢ 0 → answer r.number s ≡ part_arrive_call bytes route s b m ws
+        pub arrive_read : (r : Refusal) → OpensFor bytes route b (Err r) → answer (code r) s ≡ part_arrive_call bytes route s b m ws
         unfolding part_arrive_call
-        arrive_read h = closed bytes route b r o (λ p. arrive_lines p b s m ws) (λ p. to_part p b (received p (from_part p b s) m ws)) s h
+        arrive_read = closed bytes route b (λ p. arrive_lines p b s m ws) (λ p. to_part p b (received p (from_part p b s) m ws)) s
 
-        pub arrive_past : r.number ≡ 0 → (a : Answered State) → a ≡ arrives_or (plan_of r.sizes.route r.nest) b s m ws
+        pub arrive_past : (t : Table) → OpensFor bytes route b (Ok t) → (a : Answered State) → a ≡ arrives_or (plan_of_table t) b s m ws
             → a ≡ part_arrive_call bytes route s b m ws
         unfolding part_arrive_call
-        arrive_past z a e = opened bytes route b r o (λ p. arrive_lines p b s m ws) (λ p. to_part p b (received p (from_part p b s) m ws)) s z a e
+        arrive_past = opened bytes route b (λ p. arrive_lines p b s m ws) (λ p. to_part p b (received p (from_part p b s) m ws)) s
 
 -- ---- answers of the same number, and of the same words where that is 0
 
@@ -401,13 +408,13 @@ module _ (p : Plan) (b : ℕ) (low : b < p.processors) (s : State) (r : ℕ) (e 
             arrive_words
 
 -- the lengths of areas that lines 9 and 10 let pass, by what the code knows of all records that the `Flat` carries
-module _ (p : Plan) (b : ℕ) (m u t : List ℕ) (f : Flat) (room : length f.words ≡ 192) (r : ℕ)
-    (e : ((l : List ℕ) → Flattens f l → r ≡ first_of (unfit_lines p b (state_of m u l t))) × (r ≡ 0 → f.count ≡ 3)) (z : r ≡ 0) where
+module _ (p : Plan) (b : ℕ) (m u t : List ℕ) (f : Flat) (room : length f.words ≡ 192) (three : f.count ≡ 3)
+    (e : (l : List ℕ) → Flattens f l → 0 ≡ first_of (unfit_lines p b (state_of m u l t))) where
   part_lent : PartLengths p b (state_of m u (take (f.count - 0) (drop 0 f.words)) t)
   part_lent =
       let l = take (f.count - 0) (drop 0 f.words) in
       fits_are p b (state_of m u l t)
-      (unfit_none p b (state_of m u l t) r (e.0 l (part_carries f room (omega (arith, e.1 z)))) z).0
+      (unfit_none p b (state_of m u l t) 0 (e l (part_carries f room (omega (arith, three)))) refl).0
 
   pub marks_lent : length t ≡ length (handled p b)
   marks_lent = part_lent.marks
@@ -417,26 +424,26 @@ module _ (p : Plan) (b : ℕ) (m u t : List ℕ) (f : Flat) (room : length f.wor
 
 -- ---- past the first lines: the rows and collecting
 
-module _ (bytes : List ℕ) (route b : ℕ) (r : Recipe) (o : OpensFor bytes route b r) where
+module _ (bytes : List ℕ) (route b : ℕ) where
   module _ (out : List ℕ) where
     abbrev row_lines : Plan → List Line
     row_lines p = line 9 (not (eqb (length out) (7 * length (handled p b)))) ∷ []
 
-    pub messages_read : r.number ≢ 0 → answer r.number out ≡ part_messages_call bytes route b out
+    pub messages_read : (r : Refusal) → OpensFor bytes route b (Err r) → answer (code r) out ≡ part_messages_call bytes route b out
     unfolding part_messages_call
-    messages_read h = closed bytes route b r o row_lines (λ p. part_rows p b (handled p b)) out h
+    messages_read = closed bytes route b row_lines (λ p. part_rows p b (handled p b)) out
 
-    pub messages_past : r.number ≡ 0 → (a : Answered (List ℕ)) → a ≡ rows_or (plan_of r.sizes.route r.nest) b out
+    pub messages_past : (t : Table) → OpensFor bytes route b (Ok t) → (a : Answered (List ℕ)) → a ≡ rows_or (plan_of_table t) b out
         → a ≡ part_messages_call bytes route b out
     unfolding part_messages_call
-    messages_past z a e = opened bytes route b r o row_lines (λ p. part_rows p b (handled p b)) out z a e
+    messages_past = opened bytes route b row_lines (λ p. part_rows p b (handled p b)) out
 
   module _ (s : State) (grid : List ℕ) where
-    pub collect_read : r.number ≢ 0 → answer r.number grid ≡ part_collect_call bytes route s b grid
+    pub collect_read : (r : Refusal) → OpensFor bytes route b (Err r) → answer (code r) grid ≡ part_collect_call bytes route s b grid
     unfolding part_collect_call
-    collect_read h = closed bytes route b r o (λ p. collect_lines p b s grid) (λ p. part_collected p b s grid) grid h
+    collect_read = closed bytes route b (λ p. collect_lines p b s grid) (λ p. part_collected p b s grid) grid
 
-    pub collect_past : r.number ≡ 0 → (a : Answered (List ℕ)) → a ≡ collected_or (plan_of r.sizes.route r.nest) b s grid
+    pub collect_past : (t : Table) → OpensFor bytes route b (Ok t) → (a : Answered (List ℕ)) → a ≡ collected_or (plan_of_table t) b s grid
         → a ≡ part_collect_call bytes route s b grid
     unfolding part_collect_call
-    collect_past z a e = opened bytes route b r o (λ p. collect_lines p b s grid) (λ p. part_collected p b s grid) grid z a e
+    collect_past = opened bytes route b (λ p. collect_lines p b s grid) (λ p. part_collected p b s grid) grid

@@ -34,9 +34,8 @@ use Rattle.plan.specs.Shaped.{plan_of}
 use Rattle.plan.proofs.ShapedBox.{plan_of_box}
 use Rattle.plan.proofs.ShapedSound.{sound}
 use Rattle.layout.specs.declared.Sizes.{Sizes}
-use Rattle.layout.specs.Sizes.{Sized}
+use Rattle.layout.specs.Sizes.{Sized, Routed}
 use Rattle.layout.proofs.CellRows.{row_next}
-use Rattle.tables.specs.Tables.{Routed}
 use Rattle.records.specs.declared.Flat.{Flat}
 use Rattle.records.specs.Records.{Flattens}
 use Rattle.base.proofs.Stored.{Stored, store_start, store_next, stored_all}

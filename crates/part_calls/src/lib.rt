@@ -15,10 +15,11 @@ pub mod front; // front.rt: what the calls share: first lines, what is found onc
 pub mod tile; // tile.rt: a tile calculated in the part, where words of kept cells alone stand
 pub mod turn; // turn.rt: a turn on the part
 
+use base::refusal::number_of;
 use records::flat_of;
 
 // What is told of a processor's areas: the call's number, the cells of its tiles, the cells that it keeps, the words of the messages that it handles,
-// and how many these are; all 0 at a refusal.
+// and how many these are; all 0 at a refusal. An answer to C, and so no Result.
 #[repr(C)]
 #[derive(Clone, Copy)]
 pub struct AreaLengths {
@@ -33,24 +34,19 @@ pub struct AreaLengths {
 pub fn sizes(encoded: &[u8], route: u32, processor: u32) -> AreaLengths
     ensures { result ≡ part_sizes_call encoded.now route processor }
 {
-    let board = front::open(encoded, route, processor);
-    let number = board.number;
-    if number != 0 {
-        return inner::no_sizes(number);
+    match front::open(encoded, route, processor) {
+        Ok(table) => inner::sizes_of(&table, processor as usize),
+        Err(refusal) => inner::no_sizes(refusal.number()),
     }
-    inner::sizes_of(board.nest, board.sizes, processor as usize)
 }
 
 // The messages that it handles, seven words each: number, sending tile, taking tile, sending processor, taking processor, words, their place in its mail.
 pub fn messages(encoded: &[u8], route: u32, processor: u32, out: &mut [u32]) -> u32
     ensures { answer result out.new ≡ part_messages_call encoded.now route processor out.old }
 {
-    let board = front::open(encoded, route, processor);
-    let number = board.number;
-    if number != 0 {
-        number
-    } else {
-        listing::messages_part(board.nest, board.sizes, processor as usize, out)
+    match front::open(encoded, route, processor) {
+        Ok(table) => number_of(&listing::messages_part(&table, processor as usize, out)),
+        Err(refusal) => refusal.number(),
     }
 }
 
@@ -80,7 +76,7 @@ pub fn fresh(
     if number != 0 {
         number
     } else {
-        base::zero_words(progress);
+        progress.fill(0);
         0
     }
 }

@@ -2,11 +2,10 @@
 ghost use Rattle.std.specs.Prelude.{◌≡◌, ◌*◌, ◌<◌, [], ◌∷◌, length};
 ghost use Rattle.base.specs.Tests.{pick};
 ghost use Rattle.base.specs.Lists.{put};
+ghost use Rattle.base.specs.Refusals.{number_of};
 ghost use Rattle.machine.specs.Plan.{count};
 ghost use Rattle.nest.specs.Nest.{processors};
-ghost use Rattle.plan.specs.Shaped.{plan_of};
-ghost use Rattle.layout.specs.Sizes.{Sized};
-ghost use Rattle.tables.specs.Tables.{Routed};
+ghost use Rattle.tables.specs.Given.{plan_of_table};
 ghost use Rattle.engine.specs.Calls.{answer};
 ghost use Rattle.network.specs.Own.{handles, handled};
 ghost use Rattle.part.specs.Part.{rank_of};
@@ -15,12 +14,10 @@ ghost use Rattle.part_calls.specs.front.Given.{Known};
 ghost use Rattle.part_calls.specs.Given.{rows_or};
 
 use crate::front::prepare;
-use base::word_index;
-use layout::Sizes;
-use nest::Nest;
+use base::refusal::Refusal;
 use part::MESSAGE_ENDS;
 use summary::MessageLine;
-use tables::{TABLE_WORDS, nth};
+use tables::Table;
 
 // A row's words: the message's number, its line, and where its words begin in the mail.
 fn store_row(row: &mut [u32], number: u32, line: MessageLine, at: u32)
@@ -38,26 +35,24 @@ fn store_row(row: &mut [u32], number: u32, line: MessageLine, at: u32)
 
 // The row of message m, where the processor handles it.
 fn put_row(
-    nest: Nest,
-    sizes: Sizes,
-    lens: &[u16; TABLE_WORDS],
+    table: &Table,
     ordinals: &[u32; MESSAGE_ENDS],
     starts: &[u32; MESSAGE_ENDS],
     b: usize,
     m: usize,
     out: &mut [u32],
 )
-    requires known { Known nest sizes b lens.now ordinals.now starts.now × (m < count (plan_of sizes.route nest)) }
-    requires out_len { length out.old ≡ 7 * length (handled (plan_of sizes.route nest) b) }
+    requires known { Known table.now b ordinals.now starts.now × (m < count (plan_of_table table.now)) }
+    requires out_len { length out.old ≡ 7 * length (handled (plan_of_table table.now) b) }
     ensures { out.new
-        ≡ pick (handles (plan_of sizes.route nest) b m)
-        (put out.old (7 * rank_of (plan_of sizes.route nest) b m) (part_row (plan_of sizes.route nest) b m)) out.old }
+        ≡ pick (handles (plan_of_table table.now) b m)
+        (put out.old (7 * rank_of (plan_of_table table.now) b m) (part_row (plan_of_table table.now) b m)) out.old }
 {
-    let rank = word_index(ordinals[m]);
-    let next = word_index(ordinals[m + 1]);
+    let rank = ordinals[m] as usize;
+    let next = ordinals[m + 1] as usize;
     if next != rank {
-        let place = nth(nest, sizes, lens, m);
-        let line = summary::line_at(nest, sizes, lens, place);
+        let place = table.nth(m);
+        let line = summary::line_at(table, place);
         let at = 7 * rank;
         let end = at + 7;
         store_row(&mut out[at..end], m as u32, line, starts[m]);
@@ -66,39 +61,33 @@ fn put_row(
 
 // The rows of all that it handles.
 fn put_rows(
-    nest: Nest,
-    sizes: Sizes,
-    lens: &[u16; TABLE_WORDS],
+    table: &Table,
     ordinals: &[u32; MESSAGE_ENDS],
     starts: &[u32; MESSAGE_ENDS],
     messages: usize,
     b: usize,
     out: &mut [u32],
 )
-    requires known { Known nest sizes b lens.now ordinals.now starts.now × (messages ≡ count (plan_of sizes.route nest)) }
-    requires out_len { length out.old ≡ 7 * length (handled (plan_of sizes.route nest) b) }
-    ensures { out.new ≡ part_rows (plan_of sizes.route nest) b (handled (plan_of sizes.route nest) b) }
+    requires known { Known table.now b ordinals.now starts.now × (messages ≡ count (plan_of_table table.now)) }
+    requires out_len { length out.old ≡ 7 * length (handled (plan_of_table table.now) b) }
+    ensures { out.new ≡ part_rows (plan_of_table table.now) b (handled (plan_of_table table.now) b) }
 {
-    let mut m = 0;
-    while m < messages {
-        put_row(nest, sizes, lens, ordinals, starts, b, m, out);
-        m += 1;
+    for m in 0..messages {
+        put_row(table, ordinals, starts, b, m, out);
     }
 }
 
 // Line 9, then the rows.
-pub fn messages_part(nest: Nest, sizes: Sizes, b: usize, out: &mut [u32]) -> u32
-    requires { Sized nest sizes × (Routed nest sizes × (b < processors nest)) }
-    ensures { answer result out.new ≡ rows_or (plan_of sizes.route nest) b out.old }
+pub fn messages_part(table: &Table, b: usize, out: &mut [u32]) -> Result<(), Refusal>
+    requires { b < processors table.now.layout.nest }
+    ensures { answer (number_of result) out.new ≡ rows_or (plan_of_table table.now) b out.old }
 {
-    let mut lens = [0u16; TABLE_WORDS];
     let mut ordinals = [0u32; MESSAGE_ENDS];
     let mut starts = [0u32; MESSAGE_ENDS];
-    let messages = prepare(nest, sizes, b, &mut lens, &mut ordinals, &mut starts);
-    if out.len() != 7 * word_index(ordinals[messages]) {
-        9
-    } else {
-        put_rows(nest, sizes, &lens, &ordinals, &starts, messages, b, out);
-        0
+    let messages = prepare(table, b, &mut ordinals, &mut starts);
+    if out.len() != 7 * ordinals[messages] as usize {
+        return Err(Refusal::Area);
     }
+    put_rows(table, &ordinals, &starts, messages, b, out);
+    Ok(())
 }

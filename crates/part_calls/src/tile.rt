@@ -7,9 +7,9 @@ ghost use Rattle.base.specs.Lists.{store_all, pack};
 ghost use Rattle.nest.specs.Accepted.{Accepted};
 ghost use Rattle.nest.specs.Nest.{length_of};
 ghost use Rattle.nest.specs.Spans.{last, Narrow};
-ghost use Rattle.plan.specs.Shaped.{shaped_cells, shaped_value, plan_of};
-ghost use Rattle.layout.specs.Sizes.{Sized};
+ghost use Rattle.plan.specs.Shaped.{shaped_cells, shaped_value};
 ghost use Rattle.layout.specs.Places.{Located};
+ghost use Rattle.tables.specs.Given.{plan_of_table};
 ghost use Rattle.layout.specs.CellRows.{row_of};
 ghost use Rattle.values.specs.row_values.Reads.{Backs};
 ghost use Rattle.values.specs.shaped_values.Rows.{mixed_along, Readable};
@@ -18,10 +18,10 @@ ghost use Rattle.rank_index.specs.Ranks.{spread_out};
 ghost use Rattle.part.specs.Part.{all_of};
 ghost use Rattle.part_calls.specs.tile.Rows.{Marks, WorkedIn, KeptRow, KeptBehind, Behind, Behinds, WorkedRow, RowAt, StoresRow, GivenBox, GivenTile};
 
-use layout::{Cell, Sizes};
+use layout::{Cell, Layout};
 use nest::{Interval, Nest};
 use rank_index::{BLOCKS, behind, rank};
-use tables::TABLE_WORDS;
+use tables::Table;
 use values::shaped_values::{Reads, overlap, reads_of};
 
 // Cells of a row in the part: where the first stands, and its source; its last component; how many; where each distance reads, and how far back.
@@ -124,13 +124,13 @@ fn row_at(
         few,
     );
     Row {
-        first: first,
-        from: from,
-        component: component,
-        few: few,
-        firsts: firsts,
-        ends: ends,
-        backs: backs,
+        first,
+        from,
+        component,
+        few,
+        firsts,
+        ends,
+        backs,
     }
 }
 
@@ -185,20 +185,16 @@ fn store(nest: Nest, row: Row, source: &[u32], memory: &mut [u32])
     ensures { memory.new ≡ store_all (mixed_along nest.distances row.firsts row.ends row.backs nest.weights nest.boundary
         nest.shift source.now row.from row.first row.component) memory.old (row_of row.first row.few) }
 {
-    let firsts = row.firsts;
-    let ends = row.ends;
-    let backs = row.backs;
-    let weights = nest.weights;
     values::shaped_values::store_row(
         source,
         memory,
         nest.shift,
         nest.boundary,
         nest.distances,
-        &firsts,
-        &ends,
-        &backs,
-        &weights,
+        &row.firsts,
+        &row.ends,
+        &row.backs,
+        &nest.weights,
         row.from,
         row.first,
         row.component,
@@ -210,8 +206,7 @@ fn store(nest: Nest, row: Row, source: &[u32], memory: &mut [u32])
 
 // The cells of the shape in a tile of the box, row by row.
 fn calculate_box(
-    nest: Nest,
-    sizes: Sizes,
+    layout: &Layout,
     kept: &[u8],
     counts: &[u32; BLOCKS],
     owned: &[u8],
@@ -220,30 +215,28 @@ fn calculate_box(
     memory: &mut [u32],
     tile: usize,
 )
-    requires { Sized nest sizes × GivenBox nest kept.now counts.now owned.now tally.now (length source.now) (length memory.old) tile }
+    requires { GivenBox layout.now.nest kept.now counts.now owned.now tally.now (length source.now) (length memory.old) tile }
     ensures { (length memory.new ≡ length memory.old) × (spread_out kept.now memory.new
-        ≡ store_all (shaped_value nest (spread_out owned.now source.now)) (spread_out kept.now memory.old)
-        (shaped_cells nest tile)) }
+        ≡ store_all (shaped_value layout.now.nest (spread_out owned.now source.now)) (spread_out kept.now memory.old)
+        (shaped_cells layout.now.nest tile)) }
 {
-    let bounds = layout::bounds_of(nest, sizes, tile);
-    let components = nest.components;
-    let back = values::row_values::backs_of(nest, &components);
-    let last = nest.dimensions - 1;
+    let bounds = layout.bounds_of(tile);
+    let components = layout.nest.components;
+    let back = values::row_values::backs_of(layout.nest, &components);
+    let last = layout.nest.dimensions - 1;
     let lengths = bounds.lengths;
     let rows = layout::product(lengths, last);
     let width = lengths[last];
     for r in 0..rows {
-        let cell = layout::cell_in(nest, bounds, r * width);
-        let row = row_in(nest, kept, counts, owned, tally, back, cell, width);
-        store(nest, row, source, memory);
+        let cell = layout.cell_in(bounds, r * width);
+        let row = row_in(layout.nest, kept, counts, owned, tally, back, cell, width);
+        store(layout.nest, row, source, memory);
     }
 }
 
 // The words of a tile's cells in its processor's part, from the source of the processor's own cells.
 pub fn calculate(
-    nest: Nest,
-    sizes: Sizes,
-    lens: &[u16; TABLE_WORDS],
+    table: &Table,
     kept: &[u8],
     counts: &[u32; BLOCKS],
     owned: &[u8],
@@ -253,14 +246,21 @@ pub fn calculate(
     b: usize,
     tile: usize,
 )
-    requires { GivenTile nest sizes lens.now kept.now counts.now owned.now tally.now (length source.now) (length memory.old) b tile }
+    requires { GivenTile table.now kept.now counts.now owned.now tally.now (length source.now) (length memory.old) b tile }
     ensures { memory.new
-        ≡ pack (store_all ((plan_of sizes.route nest).value (source_of (plan_of sizes.route nest) b source.now))
-        (all_of (plan_of sizes.route nest) b memory.old) ((plan_of sizes.route nest).cells_of tile))
-        (kept_cells (plan_of sizes.route nest) b) }
+        ≡ pack (store_all ((plan_of_table table.now).value (source_of (plan_of_table table.now) b source.now))
+        (all_of (plan_of_table table.now) b memory.old) ((plan_of_table table.now).cells_of tile))
+        (kept_cells (plan_of_table table.now) b) }
 {
-    let number = part::box_tile(nest, sizes, lens, tile);
+    let number = part::box_tile(table, tile);
     calculate_box(
-        nest, sizes, kept, counts, owned, tally, source, memory, number,
+        &table.layout,
+        kept,
+        counts,
+        owned,
+        tally,
+        source,
+        memory,
+        number,
     );
 }

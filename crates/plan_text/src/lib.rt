@@ -3,18 +3,14 @@
 
 ghost use Rattle.std.specs.Prelude.{◌≡◌, [], ◌∷◌, ◌+◌, ◌*◌, ◌≤◌, length, take};
 ghost use Rattle.machine.specs.Plan.{count};
-ghost use Rattle.plan.specs.Shaped.{plan_of};
-ghost use Rattle.layout.specs.Sizes.{Sized};
 ghost use Rattle.layout.specs.RouteWords.{route_of};
-ghost use Rattle.tables.specs.Tables.{Tabled};
+ghost use Rattle.tables.specs.Given.{plan_of_table};
 ghost use Rattle.text.specs.Writing.{pen, write};
 ghost use Rattle.plan_text.specs.PlanText.{number_then, field, figures_text, spaced, lines_text, refused_text, plan_text, printer_text};
 
-use layout::Sizes;
-use nest::Nest;
 use std::io;
 use summary::MessageLine;
-use tables::TABLE_WORDS;
+use tables::Table;
 
 // A number of at most ten digits, and a byte behind it.
 fn put_number(space: &mut [u8], at: usize, number: u32, after: u8) -> usize
@@ -52,29 +48,15 @@ fn put_line(space: &mut [u8], at: usize, number: u32, of: MessageLine) -> usize
 }
 
 // The messages in their order.
-fn put_lines(
-    space: &mut [u8],
-    at: usize,
-    nest: Nest,
-    sizes: Sizes,
-    lens: &[u16; TABLE_WORDS],
-    messages: u32,
-) -> usize
-    requires messages_bound { (at + 66 * messages ≤ 4294967295) × (Sized nest sizes × Tabled nest sizes lens.now) }
-    requires messages_value { messages ≡ count (plan_of sizes.route nest) }
-    ensures space_after { pen result space.new ≡ write (pen at space.old) (lines_text (plan_of sizes.route nest) messages) }
+fn put_lines(space: &mut [u8], at: usize, table: &Table, messages: u32) -> usize
+    requires messages_bound { at + 66 * messages ≤ 4294967295 }
+    requires messages_value { messages ≡ count (plan_of_table table.now) }
+    ensures space_after { pen result space.new ≡ write (pen at space.old) (lines_text (plan_of_table table.now) messages) }
     ensures upper_bound { result ≤ at + 66 * messages }
 {
     let mut place = at;
-    let mut m = 0;
-    while m < messages {
-        place = put_line(
-            space,
-            place,
-            m,
-            summary::line_of(nest, sizes, lens, m as usize),
-        );
-        m += 1;
+    for m in 0..messages {
+        place = put_line(space, place, m, summary::line_of(table, m as usize));
     }
     place
 }
@@ -105,17 +87,13 @@ pub fn put_recipe(space: &mut [u8], encoded: &[u8], route: u32) -> usize
     if encoded.len() > 512 {
         return put_refused(space, 1);
     }
-    let mut lens = [0u16; TABLE_WORDS];
-    let opening = recipe::open(encoded, route, &mut lens);
-    let number = opening.number;
-    if number != 0 {
-        return put_refused(space, number);
-    }
-    let nest = opening.nest;
-    let sizes = opening.sizes;
-    let figures = summary::figures_of(nest, sizes, &lens);
+    let table = match recipe::open(encoded, route) {
+        Ok(table) => table,
+        Err(refusal) => return put_refused(space, refusal.number()),
+    };
+    let figures = summary::figures_of(&table);
     let next = put_figures(space, figures);
-    put_lines(space, next, nest, sizes, &lens, figures.messages)
+    put_lines(space, next, &table, figures.messages)
 }
 
 // The text at the front of a space that has room for every one.
@@ -149,10 +127,7 @@ pub fn print_by(rt: &impl Print, space: &mut [u8], encoded: &[u8], route: u32) -
 {
     let length = write_recipe(space, encoded, route);
     let written = hand_over(rt, &space[..length], encoded, route);
-    Printed {
-        length: length,
-        written: written,
-    }
+    Printed { length, written }
 }
 
 // The same by direct passing, with which the plan printer stays.
@@ -166,8 +141,7 @@ pub fn print_recipe(rt: &impl Print, space: &mut [u8], encoded: &[u8]) -> Printe
 // The same on any route, in a space of its own: whether all of it was written.
 pub fn print_routed(rt: &impl Print, encoded: &[u8], route: u32) -> io::Result<()> {
     let mut space = [0u8; 473159];
-    let printed = print_by(rt, &mut space, encoded, route);
-    printed.written
+    print_by(rt, &mut space, encoded, route).written
 }
 
 fn print_hop(rt: &impl Print, of: summary::HopCount) -> io::Result<()> {

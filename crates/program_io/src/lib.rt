@@ -1,75 +1,14 @@
-// Small things that the programs share: how much of an area is lent, numbers in bytes, and faults told on standard error.
+// Small things that the programs share: input read whole, and faults told on standard error.
 #![tactic(auto)]
 
 ghost use Rattle.std.specs.Prelude.{◌≡◌, ◌+◌, ◌<◌, ◌≤◌, length, IfOk};
 ghost use Rattle.program_io.specs.Counts.{IsPrefixLen};
-ghost use Rattle.program_io.specs.Bytes.{word_in};
 
+use base::refusal::Refusal;
 use std::env::FillError;
 use std::io;
 use std::io::Read;
 use std::rt::Env;
-
-// How many of the first n words there are: what `&words[..r]` asks.
-pub fn front(words: &[u32], n: usize) -> usize
-    ensures { IsPrefixLen result words.now }
-{
-    base::least(n, words.len())
-}
-
-// The same of bytes.
-pub fn front_bytes(bytes: &[u8], n: usize) -> usize
-    ensures { IsPrefixLen result bytes.now }
-{
-    base::least(n, bytes.len())
-}
-
-pub fn as_index(x: u32) -> usize
-    ensures { (result ≡ x) × (result < 4294967296) }
-{
-    x as usize
-}
-
-pub fn of_byte(x: u8) -> u32
-    ensures { result < 256 }
-{
-    x as u32
-}
-
-// The number in two bytes, the low one first; 0 where there are fewer.
-pub fn half(bytes: &[u8]) -> usize
-    ensures { result < 65536 }
-{
-    if bytes.len() < 2 {
-        return 0;
-    }
-    let low = of_byte(bytes[0]);
-    let high = of_byte(bytes[1]);
-    as_index(low + 256 * high)
-}
-
-fn byte_value(x: u8) -> u32
-    ensures { (result ≡ x) × (result < 256) }
-{
-    x as u32
-}
-
-// The number in four bytes of a record of 16, from byte at on; 0 where they are not in it.
-pub fn word(bytes: &[u8], at: usize) -> u32
-    ensures { result ≡ word_in bytes.now at }
-{
-    if at > 12 {
-        return 0;
-    }
-    if bytes.len() < 16 {
-        return 0;
-    }
-    let b0 = byte_value(bytes[at]);
-    let b1 = byte_value(bytes[at + 1]);
-    let b2 = byte_value(bytes[at + 2]);
-    let b3 = byte_value(bytes[at + 3]);
-    b0 + 256 * b1 + 65536 * b2 + 16777216 * b3
-}
 
 // ---- faults, told on standard error: what is written to standard output does not depend on them
 
@@ -90,18 +29,17 @@ pub fn read_input(rt: &(impl Input + Eprint + Alloc), space: &mut [u8]) -> usize
     ensures { IsPrefixLen result space.new }
 {
     let mut input = rt.reader();
-    let mut n: usize = 0;
-    while n < space.len() {
+    for n in 0..space.len() {
         match read_byte(&mut input, space, n) {
-            Ok(0) => break,
-            Ok(_) => n += 1,
+            Ok(0) => return n,
+            Ok(_) => {}
             Err(e) => {
                 fail(rt, "standard input", e);
                 return 0;
             }
         }
     }
-    n
+    space.len()
 }
 
 // One read of a file into the space from byte at on: how many bytes came, 0 at the file's end.
@@ -118,6 +56,7 @@ pub fn read_full(file: &mut impl Read, space: &mut [u8]) -> usize
     ensures { IsPrefixLen result space.new }
 {
     let mut n: usize = 0;
+    // each step is as long as what the read gave
     while n < space.len() {
         match read_more(file, space, n) {
             Ok(0) => break,
@@ -167,60 +106,36 @@ pub fn tell_output(rt: &(impl Eprint + Alloc), written: io::Result<()>) {
     }
 }
 
-// Lines 1 to 8 of those that a recipe is refused by.
-fn tell_first(rt: &impl Eprint, number: u32) {
-    match number {
-        1 => tell(
-            rt,
+// Number, term and meaning of a line that a recipe is refused by; no other refusal is the reader's.
+fn meaning(refusal: Refusal) -> &'static str {
+    match refusal {
+        Refusal::Ragged =>
             "1, ragged: the recipe is empty, longer than 512 bytes or no multiple of 16 bytes\n",
-        ),
-        2 => tell(
-            rt,
+        Refusal::StrayRecord =>
             "2, stray record: kind, order, count, unnamed byte, shift or bound not as the format has them\n",
-        ),
-        3 => tell(rt, "3, length: some length is 0 or above 1,024\n"),
-        4 => tell(rt, "4, too large: more than 16,384 cells\n"),
-        5 => tell(
-            rt,
+        Refusal::Length => "3, length: some length is 0 or above 1,024\n",
+        Refusal::TooLarge => "4, too large: more than 16,384 cells\n",
+        Refusal::Distance =>
             "5, distance: components all zero, the same as an earlier record's, or not zero beyond the last dimension\n",
-        ),
-        6 => tell(
-            rt,
+        Refusal::Tile =>
             "6, tile: some tile length is 0, above 1,024, or smaller than some distance there\n",
-        ),
-        7 => tell(rt, "7, boards: more than 64 processors\n"),
-        8 => tell(rt, "8, tiles: more than 1,024 tiles that hold a cell\n"),
-        _ => {}
-    }
-}
-
-// The lines that came later.
-fn tell_later(rt: &impl Eprint, number: u32) {
-    match number {
-        16 => tell(
-            rt,
+        Refusal::Boards => "7, boards: more than 64 processors\n",
+        Refusal::Tiles => "8, tiles: more than 1,024 tiles that hold a cell\n",
+        Refusal::SpreadOrder =>
             "16, spread order: the first dimension is not spread, or a spread one follows one that is not\n",
-        ),
-        17 => tell(rt, "17, last spread: the last dimension is spread\n"),
-        18 => tell(
-            rt,
-            "18, too wide: all components of a distance of kind 4 fit a byte\n",
-        ),
-        20 => tell(
-            rt,
-            "20, empty: no cell of the box is in the shape that the bounds leave\n",
-        ),
-        _ => {}
+        Refusal::LastSpread => "17, last spread: the last dimension is spread\n",
+        Refusal::TooWide => "18, too wide: all components of a distance of kind 4 fit a byte\n",
+        Refusal::Empty => "20, empty: no cell of the box is in the shape that the bounds leave\n",
+        _ => "",
     }
 }
 
-// Why a recipe is refused, number, term and meaning; nothing where it is not. One of more than 512 bytes is ragged to the programs.
+// Why a recipe is refused; nothing where it is not. One of more than 512 bytes is ragged to the programs.
 pub fn tell_refusal(rt: &impl Eprint, encoded: &[u8]) {
     if encoded.len() > 512 {
-        return tell_first(rt, 1);
+        return tell(rt, meaning(Refusal::Ragged));
     }
-    let reading = reader::read(encoded);
-    let number = reading.number;
-    tell_first(rt, number);
-    tell_later(rt, number);
+    if let Err(refusal) = reader::read(encoded) {
+        tell(rt, meaning(refusal));
+    }
 }

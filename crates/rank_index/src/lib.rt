@@ -5,8 +5,6 @@
 ghost use Rattle.std.specs.Prelude.{◌≡◌, ◌+◌, ◌-◌, ◌≤◌, length};
 ghost use Rattle.rank_index.specs.Ranks.{rank_at, Counted};
 
-use base::word_index;
-
 // Cells of a block.
 pub const BLOCK: usize = 64;
 
@@ -18,13 +16,11 @@ fn marks_in(marks: &[u8]) -> u32
     requires { length marks.now ≤ 16384 }
     ensures { result ≡ rank_at marks.now (length marks.now) }
 {
-    let mut c = 0;
     let mut n = 0;
-    while c < marks.len() {
-        if marks[c] == 1 {
+    for &mark in marks {
+        if mark == 1 {
             n += 1;
         }
-        c += 1;
     }
     n
 }
@@ -36,15 +32,14 @@ pub fn fill_counts(marks: &[u8], counts: &mut [u32; BLOCKS])
 {
     let blocks = marks.len() / BLOCK;
     let mut n = 0;
-    let mut q = 0;
-    while q < blocks {
+    // by number: over chunks_exact the iterator's state is left to prove
+    for q in 0..blocks {
         counts[q] = n;
         let from = q * BLOCK;
         let end = from + BLOCK;
         n += marks_in(&marks[from..end]);
-        q += 1;
     }
-    counts[q] = n;
+    counts[blocks] = n;
 }
 
 // How many cells are marked before this one; before the length, how many there are.
@@ -55,7 +50,7 @@ pub fn rank(marks: &[u8], counts: &[u32; BLOCKS], c: usize) -> usize
     let q = c / BLOCK;
     let from = q * BLOCK;
     let n = counts[q] + marks_in(&marks[from..c]);
-    word_index(n)
+    n as usize
 }
 
 // How many marked cells come before the one `ahead` of `cell`, from the one that lies `back` cells before it on; `cell` has rank `first`, and those between

@@ -2,7 +2,8 @@
 ghost use Rattle.std.specs.Prelude.{◌≡◌, ℕ, ◌+◌, ◌*◌, ◌/◌, ◌%◌, ◌<◌, ◌≤◌, length};
 ghost use Rattle.nest.specs.Reader.{component_at, weight_at, filled, narrow_at, needlessly_wide};
 
-use base::{half_at, index_wide};
+use crate::fields::table;
+use base::half_at;
 
 // ---- components and weights
 
@@ -15,7 +16,7 @@ fn component_at(encoded: &[u8], r: usize, j: usize) -> usize
     if encoded[at] == 4 {
         return half_at(encoded, at + (2 + 2 * j));
     }
-    base::byte_index(encoded[at + (2 + j)])
+    usize::from(encoded[at + (2 + j)])
 }
 
 // The components, four a distance, the first in record r.
@@ -23,11 +24,7 @@ pub fn components_of(encoded: &[u8], r: usize, e: usize) -> [usize; 32]
     requires { (r ≤ 8) × ((e ≤ 8) × (16 * (r + e) ≤ length encoded.now)) }
     ensures { result ≡ filled 32 (4 * e) (λ (i : ℕ). component_at encoded.now (r + i / 4) (i % 4)) }
 {
-    let mut values = [0usize; 32];
-    for i in 0..4 * e {
-        values[i] = component_at(encoded, r + i / 4, i % 4);
-    }
-    values
+    table(4 * e, 0, |i: usize| component_at(encoded, r + i / 4, i % 4))
 }
 
 // The weight of the distance in record r.
@@ -47,11 +44,7 @@ pub fn weights_of(encoded: &[u8], r: usize, e: usize) -> [u64; 8]
     requires { (r ≤ 8) × ((e ≤ 8) × (16 * (r + e) ≤ length encoded.now)) }
     ensures { result ≡ filled 8 e (λ (i : ℕ). weight_at encoded.now (r + i)) }
 {
-    let mut values = [0u64; 8];
-    for i in 0..e {
-        values[i] = index_wide(weight_at(encoded, r + i));
-    }
-    values
+    table(e, 0, |i: usize| weight_at(encoded, r + i) as u64)
 }
 
 // ---- line 18
@@ -61,25 +54,11 @@ fn narrow_at(encoded: &[u8], r: usize) -> bool
     requires { 16 * r + 16 ≤ length encoded.now }
     ensures { result ≡ narrow_at encoded.now r }
 {
-    if encoded[16 * r] != 4 {
-        return false;
-    }
-    for j in 0..4 {
-        if component_at(encoded, r, j) > 255 {
-            return false;
-        }
-    }
-    true
+    encoded[16 * r] == 4 && (0..4).all(|j| component_at(encoded, r, j) < 256)
 }
 
 pub fn needlessly_wide(encoded: &[u8]) -> bool
     ensures { result ≡ needlessly_wide encoded.now }
 {
-    let records = encoded.len() / 16;
-    for r in 0..records {
-        if narrow_at(encoded, r) {
-            return true;
-        }
-    }
-    false
+    (0..encoded.len() / 16).any(|r| narrow_at(encoded, r))
 }

@@ -10,10 +10,7 @@ use nest::{MOST_LENGTH, Nest};
 pub fn no_length(v: usize) -> bool
     ensures { result ≡ no_length v }
 {
-    if v == 0 {
-        return true;
-    }
-    v > MOST_LENGTH
+    v == 0 || v > MOST_LENGTH
 }
 
 // ---- line 5
@@ -22,24 +19,14 @@ fn all_zero(nest: Nest, e: usize) -> bool
     requires { e < 8 }
     ensures { result ≡ every (λ (j : ℕ). eqb (component nest e j) 0) 4 }
 {
-    for j in 0..4 {
-        if nest.components[4 * e + j] != 0 {
-            return false;
-        }
-    }
-    true
+    (0..4).all(|j| nest.components[4 * e + j] == 0)
 }
 
 fn same(nest: Nest, e: usize, f: usize) -> bool
     requires { (e < 8) × (f < 8) }
     ensures { result ≡ same nest e f }
 {
-    for j in 0..4 {
-        if nest.components[4 * e + j] != nest.components[4 * f + j] {
-            return false;
-        }
-    }
-    true
+    (0..4).all(|j| nest.components[4 * e + j] == nest.components[4 * f + j])
 }
 
 // The same as an earlier distance.
@@ -47,12 +34,7 @@ fn repeated(nest: Nest, e: usize) -> bool
     requires { e < 8 }
     ensures { result ≡ some (same nest e) e }
 {
-    for f in 0..e {
-        if same(nest, e, f) {
-            return true;
-        }
-    }
-    false
+    (0..e).any(|f| same(nest, e, f))
 }
 
 // Not zero beyond the dimensions.
@@ -60,41 +42,21 @@ fn beyond(nest: Nest, e: usize) -> bool
     requires { e < 8 }
     ensures { result ≡ beyond nest e }
 {
-    let n = nest.dimensions;
-    for j in 0..4 {
-        if n <= j {
-            if 0 < nest.components[4 * e + j] {
-                return true;
-            }
-        }
-    }
-    false
+    (0..4).any(|j| nest.dimensions <= j && 0 < nest.components[4 * e + j])
 }
 
 fn faulty(nest: Nest, e: usize) -> bool
     requires { e < 8 }
     ensures { result ≡ faulty nest e }
 {
-    if all_zero(nest, e) {
-        return true;
-    }
-    if repeated(nest, e) {
-        return true;
-    }
-    beyond(nest, e)
+    all_zero(nest, e) || repeated(nest, e) || beyond(nest, e)
 }
 
 pub fn bad_distance(nest: Nest) -> bool
     requires { nest.distances ≤ 8 }
     ensures { result ≡ bad_distance nest }
 {
-    let n = nest.distances;
-    for e in 0..n {
-        if faulty(nest, e) {
-            return true;
-        }
-    }
-    false
+    (0..nest.distances).any(|e| faulty(nest, e))
 }
 
 // ---- line 6
@@ -104,28 +66,12 @@ fn reached(nest: Nest, j: usize) -> bool
     requires { (j < 4) × (nest.distances ≤ 8) }
     ensures { result ≡ reached nest j }
 {
-    let n = nest.distances;
-    let tile = nest.tiling[j];
-    for e in 0..n {
-        if tile < nest.components[4 * e + j] {
-            return true;
-        }
-    }
-    false
+    (0..nest.distances).any(|e| nest.tiling[j] < nest.components[4 * e + j])
 }
 
 pub fn bad_tile(nest: Nest) -> bool
     requires { (nest.dimensions ≤ 4) × (nest.distances ≤ 8) }
     ensures { result ≡ bad_tile nest }
 {
-    let n = nest.dimensions;
-    for j in 0..n {
-        if no_length(nest.tiling[j]) {
-            return true;
-        }
-        if reached(nest, j) {
-            return true;
-        }
-    }
-    false
+    (0..nest.dimensions).any(|j| no_length(nest.tiling[j]) || reached(nest, j))
 }

@@ -1,16 +1,16 @@
-// The reader: a recipe's bytes to a nest by value, or the number of the first line of document 01's table that refuses it.
+// The reader: a recipe's bytes to a nest by value, or the first line of document 01's table that refuses it.
 // `read` takes any bytes. Lines 1, 2 and 18 test the bytes (`fields`, `distance_fields`), the others the nest made of them (5 and 6: `distances`).
 #![tactic(auto)]
 
-ghost use Rattle.std.specs.Prelude.{◌≡◌, [], ℕ, ◌+◌, ◌*◌, ◌<◌, ◌≤◌, length, get_or, ltb};
-ghost use Rattle.base.specs.Tests.{some, keep};
-ghost use Rattle.base.specs.Lists.{Bytes};
+ghost use Rattle.std.specs.Prelude.{◌≡◌, ℕ, ◌+◌, ◌*◌, ◌<◌, ◌≤◌, length, get_or, ltb};
+ghost use Rattle.base.specs.Tests.{◌and◌, not, some, keep};
 ghost use Rattle.base.specs.Numbers.{first_of};
+ghost use Rattle.base.specs.Refusals.{number_of};
 ghost use Rattle.nest.specs.Nest.{processor_count, cells, box_tiles};
 ghost use Rattle.nest.specs.Shape.{in_shape, tiles};
 ghost use Rattle.nest.specs.Spans.{Framed, Tiled, InRange};
-ghost use Rattle.nest.specs.Reader.{nest_by, bad_length, bad_distance, bad_tile, bad_spread, last_spread};
-ghost use Rattle.nest.specs.Reader.{bad_processors, too_many_tiles, nest_lines, reading_of};
+ghost use Rattle.nest.specs.Reader.{nest_by, is_spread, bad_length, bad_distance, bad_tile, bad_spread, last_spread};
+ghost use Rattle.nest.specs.Reader.{bad_processors, too_many_tiles, nest_lines, Reads};
 
 use crate::distance_fields::{components_of, needlessly_wide, weights_of};
 use crate::distances::{bad_distance, bad_tile, no_length};
@@ -18,40 +18,15 @@ use crate::fields::{
     bytes_of, count_distances, count_kind, halves, offsets_of, ragged, slopes_of, spread_of,
     well_formed,
 };
-use base::refusals;
+use base::refusal::Refusal;
 use nest::division::tiles_along;
 use nest::{
-    MOST_CELLS, MOST_PROCESSORS, MOST_TILES, Nest, Reading, mark_row, product_of, row_count,
-    row_place, span,
+    MOST_CELLS, MOST_PROCESSORS, MOST_TILES, Nest, mark_row, product_of, row_count, row_place, span,
 };
 
 pub mod distance_fields; // distance_fields.rt: a distance's record of either kind, and line 18
 pub mod fields; // fields.rt: the other records' fields, and lines 1 and 2
 pub mod distances; // distances.rt: lines 5 and 6: distances, and tile lengths against them
-
-// What is read where nothing is accepted.
-pub fn no_nest() -> Nest
-    ensures { result ≡ nest_by [] 0 0 0 }
-{
-    Nest {
-        dimensions: 0,
-        spread: 0,
-        distances: 0,
-        bounds: 0,
-        lengths: [0; 4],
-        tiling: [0; 4],
-        counts: [0; 4],
-        components: [0; 32],
-        weights: [0; 8],
-        sides: [0; 4],
-        bounded: [0; 4],
-        earlier: [0; 4],
-        slopes: [0; 4],
-        offsets: [0; 4],
-        shift: 0,
-        boundary: 0,
-    }
-}
 
 // ---- the nest of well-formed bytes
 
@@ -77,8 +52,8 @@ fn nest_by(encoded: &[u8], n: usize, b: usize, e: usize) -> Nest
         earlier: bytes_of(encoded, n, b, 3),
         slopes: slopes_of(encoded, n, b),
         offsets: offsets_of(encoded, n, b),
-        shift: base::byte_wide(encoded[close + 1]),
-        boundary: base::word_wide(base::word_at(encoded, close + 4)),
+        shift: u64::from(encoded[close + 1]),
+        boundary: u64::from(base::word_at(encoded, close + 4)),
     }
 }
 
@@ -88,33 +63,25 @@ fn bad_length(nest: Nest) -> bool
     requires { nest.dimensions ≤ 4 }
     ensures { result ≡ bad_length nest }
 {
-    let n = nest.dimensions;
-    for j in 0..n {
-        if no_length(nest.lengths[j]) {
-            return true;
-        }
-    }
-    false
+    (0..nest.dimensions).any(|j| no_length(nest.lengths[j]))
 }
 
 // ---- lines 16 and 17: which dimensions are spread
+
+// Dimension j is not spread and the next one is.
+fn spread_after(nest: Nest, j: usize) -> bool
+    requires { j < 3 }
+    ensures { result ≡ (not (is_spread nest j) and is_spread nest (j + 1)) }
+{
+    nest.counts[j] == 0 && nest.counts[j + 1] > 0
+}
 
 fn bad_spread(nest: Nest) -> bool
     requires { (1 ≤ nest.dimensions) × (nest.dimensions ≤ 4) }
     ensures { result ≡ bad_spread nest }
 {
-    if nest.counts[0] == 0 {
-        return true;
-    }
     let last = nest.dimensions - 1;
-    for j in 0..last {
-        if nest.counts[j] == 0 {
-            if nest.counts[j + 1] > 0 {
-                return true;
-            }
-        }
-    }
-    false
+    nest.counts[0] == 0 || (0..last).any(|j| spread_after(nest, j))
 }
 
 fn last_spread(nest: Nest) -> bool
@@ -175,13 +142,7 @@ fn marked(marks: &[u8], n: usize) -> usize
     requires { n ≤ length marks.now }
     ensures { result ≡ length (keep (λ u. ltb 0 (get_or marks.now u 0)) n) }
 {
-    let mut count: usize = 0;
-    for u in 0..n {
-        if marks[u] > 0 {
-            count += 1;
-        }
-    }
-    count
+    marks[..n].iter().filter(|&&mark| mark > 0).count()
 }
 
 // How many tiles hold a cell of the shape: each row marks its own.
@@ -214,76 +175,59 @@ fn too_many_tiles(nest: Nest) -> bool
 
 // ---- the answer
 
-// The first of the lines behind 2 that refuses the nest, or 0; `needless`: its bytes are needlessly wide, which is line 18.
-fn refused(nest: Nest, needless: bool) -> u32
+// The first of the lines behind 2 that refuses the nest, if any; `needless`: its bytes are needlessly wide, which is line 18.
+fn check_lines(nest: Nest, needless: bool) -> Result<(), Refusal>
     requires { InRange nest }
-    ensures { result ≡ first_of (nest_lines needless nest) }
+    ensures { number_of result ≡ first_of (nest_lines needless nest) }
 {
     if bad_length(nest) {
-        return refusals::LENGTH;
+        return Err(Refusal::Length);
     }
     let lengths = nest.lengths;
     if product_of(lengths, nest.dimensions) > MOST_CELLS {
-        return refusals::TOO_LARGE;
+        return Err(Refusal::TooLarge);
     }
     if needless {
-        return refusals::TOO_WIDE;
+        return Err(Refusal::TooWide);
     }
     if !has_cell(nest) {
-        return refusals::EMPTY;
+        return Err(Refusal::Empty);
     }
     if bad_distance(nest) {
-        return refusals::DISTANCE;
+        return Err(Refusal::Distance);
     }
     if bad_tile(nest) {
-        return refusals::TILE;
+        return Err(Refusal::Tile);
     }
     if bad_spread(nest) {
-        return refusals::SPREAD_ORDER;
+        return Err(Refusal::SpreadOrder);
     }
     if last_spread(nest) {
-        return refusals::LAST_SPREAD;
+        return Err(Refusal::LastSpread);
     }
     if bad_processors(nest) {
-        return refusals::BOARDS;
+        return Err(Refusal::Boards);
     }
     if too_many_tiles(nest) {
-        return refusals::TILES;
+        return Err(Refusal::Tiles);
     }
-    0
+    Ok(())
 }
 
-fn refusal(number: u32) -> Reading
-    ensures { (result.number ≡ number) × (result.nest ≡ nest_by [] 0 0 0) }
-{
-    Reading {
-        number: number,
-        nest: no_nest(),
-    }
-}
-
-// The number of the first line that is true of the bytes, or 0 and the nest that they give.
-pub fn read(encoded: &[u8]) -> Reading
-    ensures value { result ≡ reading_of encoded.now }
-    ensures bytes { result.number ≡ 0 → Bytes encoded.now }
+// The nest that the bytes give, or the first line that is true of them.
+pub fn read(encoded: &[u8]) -> Result<Nest, Refusal>
+    ensures { Reads encoded.now result }
 {
     if ragged(encoded) {
-        return refusal(1);
+        return Err(Refusal::Ragged);
     }
     let n = count_kind(encoded, 1);
     let b = count_kind(encoded, 5);
     let e = count_distances(encoded);
     if !well_formed(encoded, n, b, e) {
-        return refusal(2);
+        return Err(Refusal::StrayRecord);
     }
     let nest = nest_by(encoded, n, b, e);
-    let needless = needlessly_wide(encoded);
-    let number = refused(nest, needless);
-    if number != 0 {
-        return refusal(number);
-    }
-    Reading {
-        number: 0,
-        nest: nest,
-    }
+    check_lines(nest, needlessly_wide(encoded))?;
+    Ok(nest)
 }

@@ -1,5 +1,6 @@
 -- Laws of the lines of a call that is given a route, and the returns of `read_for`.
-use Prim.Native.Nat.{ℕ, zero, suc}
+use Prim.Native.Nat.{ℕ, zero, suc, ◌<◌}
+use Rattle.std.specs.Prelude.{Ok, Err}
 use mathlib.Core.Path.{◌≡◌, refl, sym, ap, ◌∙◌}
 use mathlib.Core.Logic.{◌≢◌}
 use mathlib.Core.Bool.{true, false}
@@ -8,27 +9,26 @@ use native.Mathlib.Omega.{arith}
 use lib.Dec.{ltb}
 use borrow.Author.Tests.{lt-ltb, ltb-false}
 use Rattle.base.specs.Tests.{◌and◌}
-use Rattle.base.specs.Lists.{Bytes}
+use Rattle.base.specs.declared.refusal.Refusal.{Refusal}
+use Rattle.base.specs.declared.refusal.Refusal.TheVariants as refusal
+use Rattle.base.proofs.Codes.{code_some}
 use Rattle.base.specs.Numbers.{Line, first_of}
 use Rattle.base.proofs.Tests.{and_true, and_false, and_no}
 use Rattle.base.proofs.Numbers.{Numbered, first_nil, first_true, first_false, none_first, first_some, first_behind, none_front, none_behind}
 use Rattle.nest.specs.declared.Nest.{Nest}
-use Rattle.nest.specs.declared.Reading.{Reading}
-use Rattle.nest.specs.Reader.{read_lines, nest_of, reading_of}
+use Rattle.nest.specs.Reader.{read_lines, nest_of, Reads}
 use Rattle.nest.specs.Accepted.{Accepted}
 use Rattle.nest.proofs.Numbered.{numbered}
-use Rattle.nest.proofs.Answers.{number_read, nest_read}
+use Rattle.nest.proofs.Answers.{refused_read}
 use Rattle.nest.proofs.Facts.{accepted}
 use Rattle.plan.specs.declared.Route.{Route}
 use Rattle.plan.specs.declared.Route.TheVariants.{Direct, Indirect}
 use Rattle.plan.specs.Shaped.{plan_of}
-use Rattle.layout.specs.declared.Sizes.{Sizes}
-use Rattle.layout.specs.Sizes.{Sized}
+use Rattle.layout.specs.declared.Layout.{Layout}
 use Rattle.layout.specs.RouteWords.{route_of}
-use Rattle.tables.specs.Tables.{Tabled}
+use Rattle.tables.specs.declared.Table.{Table}
 use Rattle.recipe.specs.Routes.{indirect, route_lines, lines_for, ReadFor}
-use Rattle.recipe.specs.Given.{Opened, WithSizes, Opens}
-use Rattle.recipe.specs.declared.Recipe.{Recipe}
+use Rattle.recipe.specs.Given.{Opened, LaidOut, LaysOut, Opens}
 
 both_numbered : (a b : List Line) → Numbered a → Numbered b → Numbered (a ++ b)
 both_numbered [] b n m = m
@@ -90,93 +90,82 @@ indirect_box bytes z = go (nest_of bytes).bounds (open_for Indirect bytes z)
 
 -- ---- the returns
 
-module _ (bytes : List ℕ) (x : Reading) (is : x ≡ reading_of bytes) (bs : x.number ≡ 0 → Bytes bytes) where
-  pub reader's : (r : Route) → x.number ≢ 0 → ReadFor r bytes x
-  reader's r h =
-      let n = number_read bytes x is in
+pub reader's : {bytes : List ℕ} {e : Refusal} (r : Route) → Reads bytes (Err e) → ReadFor r bytes (Err e)
+reader's {bytes = bytes} r is = record { number = is.number ∙ sym (refused_for r bytes (refused_read is)); nest = tt; bytes_are = tt }
+
+module _ {bytes : List ℕ} {x : Nest} (is : Reads bytes (Ok x)) where
+  passes : (r : Route) → (indirect r and ltb 0 x.bounds) ≡ false → ReadFor r bytes (Ok x)
+  passes r h =
       record {
-        number = n ∙ sym (refused_for r bytes (λ q. h (n ∙ q)));
-        nest = λ z. absurd (h z);
-        bytes_are = bs;
+        number = sym (passed_for r bytes (sym is.number) (rw is.nest at h));
+        nest = is.nest;
+        bytes_are = is.bytes_are;
       }
 
-  module _ (z : x.number ≡ 0) where
-    none : first_of (read_lines bytes) ≡ 0
-    none = sym (number_read bytes x is) ∙ z
+  pub without : (r : Route) → x.bounds ≡ 0 → ReadFor r bytes (Ok x)
+  without r e = passes r (box_open r x e)
 
-    passes : (r : Route) → (indirect r and ltb 0 (nest_of bytes).bounds) ≡ false → ReadFor r bytes x
-    passes r h =
-        record { number = z ∙ sym (passed_for r bytes none h); nest = nest_read bytes x is; bytes_are = bs }
+  pub straight : (r : Route) → Direct ≡ r → ReadFor r bytes (Ok x)
+  straight r e = rw (sym e) (passes Direct (direct_open x))
 
-    pub without : (r : Route) → x.nest.bounds ≡ 0 → ReadFor r bytes x
-    without r e = passes r (box_open r (nest_of bytes) (ap (λ (y : Nest). y.bounds) (sym (nest_read bytes x is z)) ∙ e))
-
-    pub straight : (r : Route) → Direct ≡ r → ReadFor r bytes x
-    straight r e = rw (sym e) (passes Direct (direct_open (nest_of bytes)))
-
-    pub barred : (r : Route) → Indirect ≡ r → x.nest.bounds ≢ 0 → ReadFor r bytes (record { number = 21; nest = x.nest })
-    unfolding indirect
-    barred r e h =
-        record {
-          number =
-              sym (barred_for r bytes none
-              (rw (sym e) (and_true refl (some (nest_of bytes).bounds (λ q. h (ap (λ (y : Nest). y.bounds) (nest_read bytes x is z) ∙ q))))));
-          nest = λ q. absurd (omega (arith, q));
-          bytes_are = λ q. absurd (omega (arith, q));
-        }
-      where
-        some : (n : ℕ) → n ≢ 0 → ltb 0 n ≡ true
-        some n k = lt-ltb 0 n (omega (arith, k))
+  pub barred : (r : Route) → Indirect ≡ r → 0 < x.bounds → ReadFor r bytes (Err refusal.DirectOnly)
+  unfolding indirect
+  barred r e h =
+      record {
+        number =
+            sym (barred_for r bytes (sym is.number)
+            (rw (sym e) (and_true refl (rw is.nest at (lt-ltb 0 x.bounds h)))));
+        nest = tt;
+        bytes_are = tt;
+      }
 
 -- ---- what a caller has of it
 
-module _ (r : Route) (bytes : List ℕ) (x : Reading) (is : ReadFor r bytes x) where
-  pub accepted_for : x.number ≡ 0 → Accepted x.nest
-  accepted_for z = rw (is.nest z) (accepted bytes (is.bytes_are z) (reads_for r bytes (sym is.number ∙ z)))
+pub refused_for_route : {r : Route} {bytes : List ℕ} {e : Refusal} → ReadFor r bytes (Err e) → first_of (lines_for r bytes) ≢ 0
+refused_for_route {e = e} is z = code_some e (is.number ∙ z)
+
+module _ {r : Route} {bytes : List ℕ} {x : Nest} (is : ReadFor r bytes (Ok x)) where
+  pub none_for : first_of (lines_for r bytes) ≡ 0
+  none_for = sym is.number
+
+  pub accepted_for : Accepted x
+  accepted_for = rw is.nest (accepted bytes is.bytes_are (reads_for r bytes none_for))
 
   -- on the indirect route it has no bounds
-  pub routed_for : x.number ≡ 0 → x.nest.bounds ≢ 0 → r ≡ Direct
-  routed_for z h = go r is
+  pub routed_for : x.bounds ≢ 0 → r ≡ Direct
+  routed_for h = go r is
     where
-      go : (q : Route) → ReadFor q bytes x → q ≡ Direct
+      go : (q : Route) → ReadFor q bytes (Ok x) → q ≡ Direct
       go Direct i = refl
-      go Indirect i = absurd (h (ap (λ (y : Nest). y.bounds) (i.nest z) ∙ indirect_box bytes (sym i.number ∙ z)))
+      go Indirect i = absurd (h (ap (λ (y : Nest). y.bounds) i.nest ∙ indirect_box bytes (sym i.number)))
 
 -- ---- a recipe with its counts and its table
 
-pub closed_sizes : (bytes : List ℕ) (word : ℕ) (x : Reading) → ReadFor (route_of word) bytes x → x.number ≢ 0 → (r : Recipe) → r.number ≡ x.number
-    → WithSizes bytes word r
-closed_sizes bytes word x is h r e =
+pub laid_out : (bytes : List ℕ) (word : ℕ) {x : Nest} → ReadFor (route_of word) bytes (Ok x) → (l : Layout) → l.nest ≡ x
+    → l.sizes.route ≡ route_of word → LaysOut bytes word (Ok l)
+laid_out bytes word {x = x} is l n e =
     record {
-      number = e ∙ is.number;
-      nest = λ z. absurd (h (sym e ∙ z));
-      opened = λ z. absurd (h (sym e ∙ z));
-      route = λ z. absurd (h (sym e ∙ z));
-      sized = λ z. absurd (h (sym e ∙ z));
-      routed = λ z. absurd (h (sym e ∙ z));
-    }
-
-pub read_sizes : (bytes : List ℕ) (word : ℕ) (x : Reading) → ReadFor (route_of word) bytes x → x.number ≡ 0 → (z : Sizes) → Sized x.nest z
-    → z.route ≡ route_of word → WithSizes bytes word (record { number = 0; nest = x.nest; sizes = z })
-read_sizes bytes word x is h z g e =
-    let none = sym is.number ∙ h in
-    record {
-      number = sym none;
-      nest = λ _. is.nest h;
-      opened =
-          λ _. record {
-            none = none;
-            is = ap (λ (r : Route). plan_of r x.nest) e ∙ ap (plan_of (route_of word)) (is.nest h);
+      number = is.number;
+      layout =
+          record {
+            nest = n ∙ is.nest;
+            route = e;
+            opened =
+                record {
+                  none = none_for is;
+                  is = ap (λ (r : Route). plan_of r l.nest) e ∙ ap (plan_of (route_of word)) (n ∙ is.nest);
+                };
           };
-      route = λ _. e;
-      sized = λ _. g;
-      routed = λ _ k. e ∙ routed_for (route_of word) bytes x is h k;
     }
 
-pub opens_with : (bytes : List ℕ) (word : ℕ) (r : Recipe) → WithSizes bytes word r → (lens : List ℕ) → (r.number ≡ 0 → Tabled r.nest r.sizes lens)
-    → Opens bytes word r lens
-opens_with bytes word r w lens t =
-    record { number = w.number; nest = w.nest; opened = w.opened; route = w.route; planned = λ z. (w.sized z, t z) }
+pub refused_layout : (bytes : List ℕ) (word : ℕ) {e : Refusal} → ReadFor (route_of word) bytes (Err e) → LaysOut bytes word (Err e)
+refused_layout bytes word is = record { number = is.number; layout = tt }
+
+pub refused_table : (bytes : List ℕ) (word : ℕ) {e : Refusal} → LaysOut bytes word (Err e) → Opens bytes word (Err e)
+refused_table bytes word is = record { number = is.number; layout = tt }
+
+pub opens_with : (bytes : List ℕ) (word : ℕ) (l : Layout) → LaysOut bytes word (Ok l) → (t : Table) → t.layout ≡ l → Opens bytes word (Ok t)
+opens_with bytes word l is t e = record { number = is.number; layout = rw e is.layout }
 
 -- a recipe that reads is open to the direct one
 pub direct_opened : (bytes : List ℕ) → first_of (read_lines bytes) ≡ 0 → Opened bytes 0 (plan_of Direct (nest_of bytes))

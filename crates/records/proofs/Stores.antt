@@ -1,6 +1,7 @@
 -- All records stored from their words: one record more, all of them or none, and the words that they then have.
 use Prim.Native.Nat.{ℕ, zero, suc, ◌+◌, ◌*◌, ◌≤◌, ◌<◌}
 use mathlib.Core.Path.{◌≡◌, refl, sym, ap, ◌∙◌}
+use mathlib.Core.Logic.{◌≢◌}
 use mathlib.Core.List.{List, [], ◌∷◌, ◌++◌, append_assoc, append-nil}
 use native.Mathlib.Omega.{arith}
 use native.Mathlib.Decide.{ℕ_discrete}
@@ -44,19 +45,16 @@ stored_more f n rs l =
     ∙ sym (append_assoc (records_in f n) (record_in f n ∷ []) (drop (suc n) rs)))
 
 -- all of them, or none
-pub stores_all : (f : Flat) (number c : ℕ) (rs : List Progress) → c ≡ pick (eqb number 0) (length rs) 0 → stored_to f c rs ≡ put_all number f rs
-unfolding put_all stored_to records_in
-stores_all f number c rs e = by (ℕ_discrete number 0)
-  where
-    to : (k : ℕ) → c ≡ k → stored_to f c rs ≡ records_in f k ++ drop k rs
-    to k z = ap (λ (j : ℕ). records_in f j ++ drop j rs) z
+module _ (f : Flat) (number : ℕ) (rs : List Progress) where
+  pub stores_none : number ≢ 0 → rs ≡ put_all number f rs
+  unfolding put_all
+  stores_none h = sym (pick_false _ _ _ (ne_eqb number 0 h))
 
-    by : Dec (number ≡ 0) → stored_to f c rs ≡ pick (eqb number 0) (records_in f (length rs)) rs
-    by (yes z) =
-        to (length rs) (e ∙ pick_true _ _ _ (eq-eqb number 0 z))
-        ∙ ap (λ (l : List Progress). records_in f (length rs) ++ l) (drop_of_length-le rs {i = length rs} (omega arith))
-        ∙ append-nil (records_in f (length rs)) ∙ sym (pick_true _ _ _ (eq-eqb number 0 z))
-    by (no h) = to 0 (e ∙ pick_false _ _ _ (ne_eqb number 0 h)) ∙ sym (pick_false _ _ _ (ne_eqb number 0 h))
+  pub stores_all : number ≡ 0 → stored_to f (length rs) rs ≡ put_all number f rs
+  unfolding put_all stored_to
+  stores_all z =
+      ap (λ (l : List Progress). records_in f (length rs) ++ l) (drop_of_length-le rs {i = length rs} (omega arith))
+      ∙ append-nil (records_in f (length rs)) ∙ sym (pick_true _ _ _ (eq-eqb number 0 z))
 
 -- ---- their words
 

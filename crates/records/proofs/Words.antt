@@ -1,14 +1,14 @@
 -- Laws of the words of records: their number, that `flatten` carries them, what a store changes of them, that they fix the records.
-use Prim.Native.Nat.{ℕ, zero, suc, ◌+◌, ◌*◌, ◌≤◌, ◌<◌, zero-le}
+use Prim.Native.Nat.{ℕ, zero, suc, ◌+◌, ◌*◌, ◌≤◌, ◌<◌}
 use mathlib.Core.Path.{◌≡◌, refl, sym, ap, ◌∙◌}
 use mathlib.Core.Bool.{Bool, true, false}
 use mathlib.Core.List.{List, [], ◌∷◌, ◌++◌, append_assoc, append-nil}
 use native.Mathlib.Nat.{add-zero, zero-add}
 use native.Mathlib.Omega.{arith}
 use native.Mathlib.Numerals.{add-one}
-use lib.ListN.{length, get_or, set, take, drop, replicate, length-append, length-replicate, length-set}
+use lib.ListN.{length, set, take, drop, replicate, length-append, length-replicate, length-set}
 use lib.Dec.{ltb}
-use lib.Seq.{take_all, take_at, take-suc, take-suc-set, length-take-le, sets-eq}
+use lib.Seq.{take_at, length-take-le, sets-eq}
 use Rattle.base.specs.Tests.{pick}
 use Rattle.records.specs.declared.Progress.{Progress}
 use Rattle.records.specs.declared.Flat.{Flat}
@@ -119,41 +119,6 @@ carries_flat rs f e =
         ap (λ (k : ℕ). take k (flat_of rs).words) (length_words rs)
         ∙ ap (λ (k : ℕ). take (3 * k) (flat_of rs).words) (sym (zero-add (length rs)))
         ∙ take_from rs 0 first (length-replicate {A = ℕ} 192 0) (omega (arith, l, length_words rs))
-
--- ---- the same of words: the first i of them copied
-
-pub record Copied (words kept : List ℕ) (i : ℕ) : Type 0 where
-  pub within : i ≤ length words
-  pub room : length kept ≡ 192
-  pub same : take i kept ≡ take i words
-
-pub copied_none : (words : List ℕ) → Copied words (replicate 192 0) 0
-copied_none words = record { within = zero-le; room = length-replicate {A = ℕ} 192 0; same = refl }
-
-pub copied_more : (words kept : List ℕ) (i : ℕ) → Copied words kept i → i < length words → length words ≤ 192
-    → Copied words (set kept i (get_or words i 0)) (i + 1)
-copied_more words kept i h l few = record {
-  within = omega (arith, l);
-  room = length-set kept i (get_or words i 0) ∙ h.room;
-  same =
-      ap (λ (k : ℕ). take k (set kept i (get_or words i 0))) (add-one i) ∙ take-suc-set kept i (get_or words i 0) (omega (arith, l, few, h.room))
-      ∙ ap (λ (z : List ℕ). z ++ (get_or words i 0 ∷ [])) h.same ∙ sym (take-suc words i 0 l)
-      ∙ ap (λ (k : ℕ). take k words) (sym (add-one i));
-}
-
-pub copied_all : (words kept : List ℕ) (i : ℕ) → Copied words kept i → length words ≤ i
-    → Flattens (record { words = kept; count = length words }) words
-copied_all words kept i h over = record { counted = refl; kept = λ _. all; room = h.room }
-  where
-    e : i ≡ length words
-    e = omega (arith, over, h.within)
-
-    all : take (length words) kept ≡ words
-    all = ap (λ (k : ℕ). take k kept) (sym e) ∙ h.same ∙ take_all i words over
-
-pub carries_many : (words : List ℕ) (f : Flat) → f ≡ blank (length words) → 192 < length words → Flattens f words
-carries_many words f e many =
-    rw e (record { counted = refl; kept = λ l. absurd (omega (arith, l, many)); room = length-replicate {A = ℕ} 192 0 })
 
 -- ---- one record stored, and records set to zero
 

@@ -1,8 +1,9 @@
 -- Read this.
 -- The words of the processors' records, three a record, and the stores into a slice of records.
 -- Renders document 01, "The machine": the board records.
-use Rattle.std.specs.Prelude.{ℕ, zero, suc, ◌+◌, ◌*◌, ◌≤◌, ◌≡◌, List, [], ◌∷◌, ◌++◌, length, get_or, set, take, replicate, ltb, eqb}
+use Rattle.std.specs.Prelude.{ℕ, zero, suc, ◌+◌, ◌*◌, ◌≤◌, ◌≡◌, List, [], ◌∷◌, ◌++◌, length, get_or, set, take, replicate, ltb, eqb, Result, Ok, Err}
 use Rattle.base.specs.Tests.{pick}
+use Rattle.base.specs.declared.refusal.Refusal.{Refusal}
 use Rattle.records.specs.declared.Progress.{Progress}
 use Rattle.records.specs.declared.Flat.{Flat}
 
@@ -34,10 +35,11 @@ words_at words i r = pick (ltb i 64) (set (set (set words (3 * i) r.finished) (3
 abbrev pub with_record : Flat → ℕ → Progress → Flat
 with_record f i r = record { words = words_at f.words i r; count = f.count }
 
--- ---- stores of a call that gave this number; a refusal stores nothing
+-- ---- stores of a call that answered this, or gave this number; a refusal stores nothing
 
-unfoldable pub put_at : ℕ → ℕ → Progress → List Progress → List Progress
-put_at number i r rs = pick (eqb number 0) (set rs i r) rs
+abbrev pub put_at : Result Progress Refusal → ℕ → List Progress → List Progress
+put_at (Ok r) i rs = set rs i r
+put_at (Err _) i rs = rs
 
 abbrev pub zeros : Progress
 zeros = record { finished = 0; stage = 0; sent = 0 }

@@ -1,9 +1,11 @@
 // A processor's record as a struct: the words of a slice of records, for reading, and the stores into it.
 #![tactic(auto)]
 
-ghost use Rattle.std.specs.Prelude.{◌≡◌, ◌<◌, length, eqb};
-ghost use Rattle.base.specs.Tests.{pick};
+ghost use Rattle.std.specs.Prelude.{◌≡◌, ◌<◌, length};
+ghost use Rattle.base.specs.Refusals.{number_of};
 ghost use Rattle.records.specs.Records.{flat_words, Flattens, blank, with_record, put_at, zeros, clear_all, record_in, put_all};
+
+use base::refusal::Refusal;
 
 // Three words for each of at most 64 processors.
 pub const RECORD_WORDS: usize = 192;
@@ -30,25 +32,21 @@ fn empty(count: usize) -> Flat
 {
     Flat {
         words: [0; RECORD_WORDS],
-        count: count,
+        count,
     }
 }
 
 // The words of record i written.
 #[tactic(auto, unfolding(base::specs::Tests::pick, crate::specs::Records::words_at))]
-fn with_record(flat: Flat, i: usize, p: Progress) -> Flat
+fn with_record(mut flat: Flat, i: usize, p: Progress) -> Flat
     ensures { result ≡ with_record flat i p }
 {
-    let mut words = flat.words;
     if i < 64 {
-        words[3 * i] = p.finished;
-        words[3 * i + 1] = p.stage;
-        words[3 * i + 2] = p.sent;
+        flat.words[3 * i] = p.finished;
+        flat.words[3 * i + 1] = p.stage;
+        flat.words[3 * i + 2] = p.sent;
     }
-    Flat {
-        words: words,
-        count: flat.count,
-    }
+    flat
 }
 
 // All records taken apart into their words.
@@ -56,10 +54,8 @@ pub fn flatten(progress: &[Progress]) -> Flat
     ensures { Flattens result (flat_words progress.now) }
 {
     let mut flat = empty(3 * progress.len());
-    let mut i = 0;
-    while i < progress.len() {
-        flat = with_record(flat, i, progress[i]);
-        i += 1;
+    for (i, &record) in progress.iter().enumerate() {
+        flat = with_record(flat, i, record);
     }
     flat
 }
@@ -69,29 +65,25 @@ pub fn flat_of(words: &[u32]) -> Flat
     ensures { Flattens result words.now }
 {
     let count = words.len();
-    if count > RECORD_WORDS {
-        return empty(count);
-    }
     let mut kept = [0; RECORD_WORDS];
-    let mut i = 0;
-    while i < count {
-        kept[i] = words[i];
-        i += 1;
+    if count <= RECORD_WORDS {
+        kept[..count].copy_from_slice(words);
     }
-    Flat {
-        words: kept,
-        count: count,
-    }
+    Flat { words: kept, count }
 }
 
-// Record i stored where the call's number is 0; at a refusal nothing is written.
-#[tactic(auto, unfolding(base::specs::Tests::pick, crate::specs::Records::put_at))]
-pub fn put(progress: &mut [Progress], number: u32, i: u32, p: Progress)
-    requires { number ≡ 0 → i < length progress.old }
-    ensures { progress.new ≡ put_at number i p progress.old }
+// The record that a turn answered, stored as record i, and the turn's number; at a refusal nothing is written.
+pub fn put(progress: &mut [Progress], i: u32, after: Result<Progress, Refusal>) -> u32
+    requires { number_of after ≡ 0 → i < length progress.old }
+    ensures stored { progress.new ≡ put_at after i progress.old }
+    ensures number { result ≡ number_of after }
 {
-    if number == 0 {
-        progress[i as usize] = p;
+    match after {
+        Ok(record) => {
+            progress[i as usize] = record;
+            0
+        }
+        Err(refusal) => refusal.number(),
     }
 }
 
@@ -105,42 +97,29 @@ fn zero() -> Progress
     }
 }
 
-// How many of n records a call stores anew that gave this number.
-#[tactic(auto, unfolding(base::specs::Tests::pick))]
-fn cleared(number: u32, n: usize) -> usize
-    ensures { result ≡ pick (eqb number 0) n 0 }
-{
-    if number != 0 {
-        return 0;
-    }
-    n
-}
-
 // All records set to zero where the call's number is 0; at a refusal nothing is written.
+#[tactic(auto, unfolding(base::specs::Tests::pick, crate::specs::Records::clear_all))]
 pub fn clear(progress: &mut [Progress], number: u32)
     ensures { progress.new ≡ clear_all number progress.old }
 {
-    let n = cleared(number, progress.len());
-    let mut i = 0;
-    while i < n {
-        progress[i] = zero();
-        i += 1;
+    if number != 0 {
+        return;
     }
+    progress.fill(zero());
 }
 
 // Record i of these words.
 #[tactic(auto, unfolding(base::specs::Tests::pick, crate::specs::Records::record_in))]
-fn record_in(flat: Flat, i: usize) -> Progress
-    ensures { result ≡ record_in flat i }
+fn record_in(flat: &Flat, i: usize) -> Progress
+    ensures { result ≡ record_in flat.now i }
 {
     if i >= 64 {
         return zero();
     }
-    let words = flat.words;
     Progress {
-        finished: words[3 * i],
-        stage: words[3 * i + 1],
-        sent: words[3 * i + 2],
+        finished: flat.words[3 * i],
+        stage: flat.words[3 * i + 1],
+        sent: flat.words[3 * i + 2],
     }
 }
 
@@ -148,10 +127,9 @@ fn record_in(flat: Flat, i: usize) -> Progress
 pub fn put_all(progress: &mut [Progress], number: u32, flat: Flat)
     ensures { progress.new ≡ put_all number flat progress.old }
 {
-    let n = cleared(number, progress.len());
-    let mut i = 0;
-    while i < n {
-        progress[i] = record_in(flat, i);
-        i += 1;
+    if number == 0 {
+        for (i, record) in progress.iter_mut().enumerate() {
+            *record = record_in(&flat, i);
+        }
     }
 }

@@ -1,4 +1,4 @@
--- Laws of runs: what lies ahead in a row, the pieces of a row and the cells of it that are hit, its words packed and unpacked by pieces.
+-- Laws of runs: what lies ahead in a row, the cells of it that are hit, by pieces, its words packed and unpacked by pieces.
 use Prim.Native.Nat.{ℕ, zero, suc, ◌+◌, ◌-◌, ◌≤◌, ◌<◌}
 use mathlib.Core.Path.{◌≡◌, refl, sym, ap, ◌∙◌}
 use mathlib.Core.Logic.{◌⊎◌, inl, inr}
@@ -58,20 +58,6 @@ module _ (starts ends : List ℕ) where
         none : reach' ≤ a → (m : ℕ) → a ≤ m → m < next' → Dec (a < get_or starts n 0) → within (get_or starts n 0) (get_or ends n 0) m ≡ false
         none r m k l (yes o) = and_false _ _ (lt-leb (get_or starts n 0) m (omega (arith, g.1.0 o)))
         none r m k l (no o) = and_no _ _ (le-ltb m (get_or ends n 0) (omega (arith, f.1.0 (omega arith))))
-
-    pub ahead_end : (t : ℕ) → n ≤ t → t ≤ n → AheadIs starts ends t a b reach next
-    ahead_end t h k = let e : n ≡ t = omega arith in rw e at p
-
-    -- ---- the piece that follows
-
-    pub piece_none : reach ≡ a → PieceIs starts ends n a b next 0
-    piece_none h = record { some = p.later; cut = p.cut; alike = inr (refl, p.none (omega arith)) }
-
-    pub piece_cut : a < b → b < reach → PieceIs starts ends n a b b (b - a)
-    piece_cut h k = record { some = h; cut = omega arith; alike = inl (refl, λ m l o. p.all m l (omega arith)) }
-
-    pub piece_all : (reach ≡ a → ⊥) → reach ≤ b → PieceIs starts ends n a b reach (reach - a)
-    piece_all h k = record { some = omega (arith, p.begun); cut = k; alike = inl (refl, p.all) }
 
 -- ---- the cells of a row that are hit
 

@@ -25,26 +25,14 @@ pub struct Piece {
 fn further(reach: usize, at: usize, start: usize, end: usize) -> usize
     ensures { (reach ≤ result) × ((start ≤ at → end ≤ result) × ((result ≡ reach) ⊎ ((result ≡ end) × (start ≤ at)))) }
 {
-    if start > at {
-        return reach;
-    }
-    if end > reach {
-        return end;
-    }
-    reach
+    if start <= at { reach.max(end) } else { reach }
 }
 
 // The earlier of two starts, the second one that of a run which counts only if it is still to begin.
 fn sooner(next: usize, at: usize, start: usize) -> usize
     ensures { (result ≤ next) × ((at < start → result ≤ start) × ((result ≡ next) ⊎ ((result ≡ start) × (at < start)))) }
 {
-    if start <= at {
-        return next;
-    }
-    if start < next {
-        return start;
-    }
-    next
+    if at < start { next.min(start) } else { next }
 }
 
 // Of the first n runs: how far those go that have begun, and where the next begins, `to` at the latest.
@@ -58,10 +46,7 @@ fn ahead_of(starts: &[usize; 8], ends: &[usize; 8], n: usize, at: usize, to: usi
         reach = further(reach, at, starts[e], ends[e]);
         next = sooner(next, at, starts[e]);
     }
-    Ahead {
-        reach: reach,
-        next: next,
-    }
+    Ahead { reach, next }
 }
 
 // The piece of a row from a last component on, cut at `to`.
@@ -76,15 +61,10 @@ pub fn piece_of(starts: &[usize; 8], ends: &[usize; 8], n: usize, at: usize, to:
             hits: 0,
         };
     }
-    if ahead.reach > to {
-        return Piece {
-            end: to,
-            hits: to - at,
-        };
-    }
+    let end = ahead.reach.min(to);
     Piece {
-        end: ahead.reach,
-        hits: ahead.reach - at,
+        end,
+        hits: end - at,
     }
 }
 
@@ -102,6 +82,7 @@ pub fn count_row(
     let to = component + width;
     let mut at = component;
     let mut count = 0;
+    // from piece to piece, each as long as it is
     while at < to {
         let piece = piece_of(starts, ends, n, at, to);
         count += piece.hits;

@@ -24,6 +24,7 @@ pub fn pack_row(
     let to = component + width;
     let mut at = component;
     let mut count = packed;
+    // from piece to piece, each as long as it is
     while at < to {
         let piece = piece_of(starts, ends, n, at, to);
         copy_part(words, memory, count, from + (at - component), piece.hits);
@@ -52,6 +53,7 @@ pub fn unpack_row(
     let to = component + width;
     let mut at = component;
     let mut count = unpacked;
+    // from piece to piece, each as long as it is
     while at < to {
         let piece = piece_of(starts, ends, n, at, to);
         copy_part(memory, words, from + (at - component), count, piece.hits);

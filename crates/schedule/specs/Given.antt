@@ -1,7 +1,8 @@
 -- For contracts below the calls: no reader needs it.
 -- What the code of a round is given: the nest's table, its messages listed and chained; and what a tile leaves.
 -- No sentence of document 02.
-use Rattle.std.specs.Prelude.{◌≡◌, ℕ, ◌<◌, ◌≤◌, List, [], ◌∷◌, map, length, ◌==◌, slice_index}
+use Rattle.std.specs.Prelude.{◌≡◌, ℕ, ◌<◌, ◌≤◌, List, [], ◌∷◌, map, length, ◌==◌, slice_index, Result, Ok, Err}
+use Rattle.base.specs.declared.refusal.Refusal.{Refusal}
 use Rattle.base.specs.Tests.{pick, those}
 use Rattle.base.specs.Lists.{put, pack, set_all, store_all}
 use Rattle.machine.specs.Plan.{Plan, count, offset, held_by, sends_of, dues_of}
@@ -10,7 +11,6 @@ use Rattle.nest.specs.declared.Nest.{Nest}
 use Rattle.plan.specs.Shaped.{plan_of}
 use Rattle.layout.specs.declared.Sizes.{Sizes}
 use Rattle.tables.specs.boxes.Table.{end_of}
-use Rattle.tables.specs.Tables.{Planned}
 use Rattle.rounds.specs.Rounds.{greatest, last_of, tile_round}
 use Rattle.schedule.specs.Index.{Listed, Chained}
 
@@ -22,7 +22,6 @@ pub record Mailed (x : Nest) (z : Sizes) (side : ℕ) (chain status : List ℕ) 
 
 -- the messages listed, and chained by both ends
 pub record Indexed (x : Nest) (z : Sizes) (lens spots sends dues : List ℕ) : Type 0 where
-  pub planned : Planned x z lens
   pub listed : Listed z.route x lens spots
   pub by_sender : Chained (end_of 0 (plan_of z.route x)) (count (plan_of z.route x)) sends
   pub by_taker : Chained (end_of 1 (plan_of z.route x)) (count (plan_of z.route x)) dues
@@ -30,7 +29,6 @@ pub record Indexed (x : Nest) (z : Sizes) (lens spots sends dues : List ℕ) : T
 
 -- the n messages listed, and chained by their takers
 pub record Dued (x : Nest) (z : Sizes) (lens spots dues : List ℕ) (n : ℕ) : Type 0 where
-  pub planned : Planned x z lens
   pub listed : Listed z.route x lens spots
   pub by_taker : Chained (end_of 1 (plan_of z.route x)) (count (plan_of z.route x)) dues
   pub all : n ≡ count (plan_of z.route x)
@@ -53,6 +51,11 @@ status_then p status t = set_all (set_all status (dues_of p t) 3) (sends_of p t)
 -- a mark once mail in flight is delivered
 unfoldable pub mark_then : ℕ → ℕ
 mark_then m = pick (m == 1) 2 m
+
+-- the rounds that the driver tells: none at a refusal
+abbrev pub rounds_told : Result ℕ Refusal → ℕ
+rounds_told (Ok n) = n
+rounds_told (Err _) = 0
 
 -- ---- each tile's round
 

@@ -5,19 +5,19 @@ ghost use Rattle.std.specs.Prelude.{◌≡◌, ℕ, suc, ◌+◌, ◌<◌, ◌�
 ghost use Rattle.base.proofs.Select.{rank_in};
 ghost use Rattle.machine.specs.Plan.{Message, count};
 ghost use Rattle.plan.specs.Messages.{messages_of};
-ghost use Rattle.plan.specs.Shaped.{plan_of};
+ghost use Rattle.layout.specs.Laid.{plan_of_layout};
 ghost use Rattle.layout.specs.Sizes.{Stepped};
 ghost use Rattle.tables.specs.scans.Scans.{Sheet, Lengths, Found};
 ghost use Rattle.tables.specs.boxes.Table.{end_of, at_end};
-ghost use Rattle.tables.specs.Tables.{FoundIn, Planned};
+ghost use Rattle.tables.specs.Given.{plan_of_table};
+ghost use Rattle.tables.specs.Tables.{FoundIn};
 ghost use Rattle.schedule.specs.Index.{spot_of, Listed, Chained};
 
 use crate::{CHAIN_WORDS, SPOT_WORDS};
-use base::{half_index, word_index};
-use layout::Sizes;
-use nest::{MOST_MESSAGES, Nest};
+use layout::Layout;
+use nest::MOST_MESSAGES;
 use tables::scans::MessageSlot;
-use tables::{TABLE_WORDS, tiles_of};
+use tables::{TABLE_WORDS, Table};
 
 // Slot and offset of each message of so many slots: how many there are.
 fn list_spots(lens: &[u16; TABLE_WORDS], slots: usize, spots: &mut [u32; SPOT_WORDS]) -> usize
@@ -26,77 +26,57 @@ fn list_spots(lens: &[u16; TABLE_WORDS], slots: usize, spots: &mut [u32; SPOT_WO
         → (result ≡ length (messages_of f slots))
         × ((m : ℕ) → m < result → Found f slots m (spot_of lens.now spots.new m)))) }
 {
-    let mut slot = 0;
     let mut number = 0;
     let mut offset = 0;
-    while slot < slots {
-        let words = half_index(lens[slot]);
+    for slot in 0..slots {
+        let words = usize::from(lens[slot]);
         spots[number] = slot as u32;
         spots[MOST_MESSAGES + number] = offset as u32;
         if words != 0 {
             number += 1;
         }
         offset += words;
-        slot += 1;
     }
     number
 }
 
 // The same of the nest's messages.
-pub fn list(
-    nest: Nest,
-    sizes: Sizes,
-    lens: &[u16; TABLE_WORDS],
-    spots: &mut [u32; SPOT_WORDS],
-) -> usize
-    requires { Planned nest sizes lens.now × (length spots.old ≡ 14336) }
-    ensures { (result ≡ count (plan_of sizes.route nest)) × Listed sizes.route nest lens.now spots.new }
+pub fn list(table: &Table, spots: &mut [u32; SPOT_WORDS]) -> usize
+    requires { length spots.old ≡ 14336 }
+    ensures { (result ≡ count (plan_of_table table.now)) × Listed table.now.layout.sizes.route table.now.layout.nest table.now.lens spots.new }
 {
-    let tiles = tiles_of(nest, sizes, lens);
-    list_spots(lens, tiles * sizes.ways, spots)
+    let tiles = table.tiles_of();
+    list_spots(&table.lens, tiles * table.layout.sizes.ways, spots)
 }
 
 // Where message m is found.
-pub fn spot(
-    nest: Nest,
-    sizes: Sizes,
-    lens: &[u16; TABLE_WORDS],
-    spots: &[u32; SPOT_WORDS],
-    m: usize,
-) -> MessageSlot
-    requires { Planned nest sizes lens.now × (Listed sizes.route nest lens.now spots.now × (m < count (plan_of sizes.route nest))) }
-    ensures { FoundIn sizes.route nest m result }
+pub fn spot(table: &Table, spots: &[u32; SPOT_WORDS], m: usize) -> MessageSlot
+    requires { Listed table.now.layout.sizes.route table.now.layout.nest table.now.lens spots.now × (m < count (plan_of_table table.now)) }
+    ensures { FoundIn table.now.layout.sizes.route table.now.layout.nest m result }
 {
-    let slot = word_index(spots[m]);
+    let slot = spots[m] as usize;
     MessageSlot {
-        slot: slot,
+        slot,
         number: m,
-        offset: word_index(spots[MOST_MESSAGES + m]),
-        words: half_index(lens[slot]),
+        offset: spots[MOST_MESSAGES + m] as usize,
+        words: usize::from(table.lens[slot]),
     }
 }
 
 // The tile at an end of a message, 0 the sender, else the taker; `steps` leads from a box's sender to that end.
-fn end_of(
-    nest: Nest,
-    sizes: Sizes,
-    lens: &[u16; TABLE_WORDS],
-    steps: [usize; 8],
-    place: MessageSlot,
-    side: usize,
-) -> usize
-    requires { Planned nest sizes lens.now × (Stepped sizes.route nest side steps × FoundIn sizes.route nest place.number place) }
-    ensures { (result ≡ end_of side (plan_of sizes.route nest) place.number) × (result < 1024) }
+fn end_of(table: &Table, steps: [usize; 8], place: MessageSlot, side: usize) -> usize
+    requires { Stepped table.now.layout.sizes.route table.now.layout.nest side steps × FoundIn table.now.layout.sizes.route table.now.layout.nest place.number place }
+    ensures { (result ≡ end_of side (plan_of_table table.now) place.number) × (result < 1024) }
 {
     let slot = place.slot;
-    let sender = slot / sizes.ways;
-    if nest.bounds == 0 {
-        return sender + steps[slot % sizes.ways];
+    let sender = slot / table.layout.sizes.ways;
+    if table.layout.nest.bounds == 0 {
+        return sender + steps[slot % table.layout.sizes.ways];
     }
     if side == 0 {
         return sender;
     }
-    tables::shaped_table::taker_of(nest, sizes, lens, slot)
+    tables::shaped_table::taker_of(&table.layout, &table.lens, slot)
 }
 
 // A chain with no message yet.
@@ -104,10 +84,8 @@ fn clear(chain: &mut [u16; CHAIN_WORDS], none: usize)
     requires { (length chain.old ≡ 8192) × (none ≤ 7168) }
     ensures { (length chain.new ≡ 8192) × ((t : ℕ) → t < 1024 → slice_index chain.new (7168 + t) ≡ none) }
 {
-    let mut t = 0;
-    while t < 1024 {
+    for t in 0..1024 {
         chain[MOST_MESSAGES + t] = none as u16;
-        t += 1;
     }
 }
 
@@ -122,56 +100,45 @@ fn link(chain: &mut [u16; CHAIN_WORDS], m: usize, tile: usize)
 
 // The chain of all messages by the tile at an end, from the last message on.
 pub fn chain_ends(
-    nest: Nest,
-    sizes: Sizes,
-    lens: &[u16; TABLE_WORDS],
+    table: &Table,
     spots: &[u32; SPOT_WORDS],
     chain: &mut [u16; CHAIN_WORDS],
     messages: usize,
     side: usize,
 )
-    requires planned { Planned nest sizes lens.now × (Listed sizes.route nest lens.now spots.now × (length chain.old ≡ 8192)) }
-    requires messages_value { messages ≡ count (plan_of sizes.route nest) }
-    ensures { Chained (end_of side (plan_of sizes.route nest)) (count (plan_of sizes.route nest)) chain.new }
+    requires planned { Listed table.now.layout.sizes.route table.now.layout.nest table.now.lens spots.now × (length chain.old ≡ 8192) }
+    requires messages_value { messages ≡ count (plan_of_table table.now) }
+    ensures { Chained (end_of side (plan_of_table table.now)) (count (plan_of_table table.now)) chain.new }
 {
-    let steps = layout::steps_of(nest, sizes, side);
+    let steps = table.layout.steps_of(side);
     clear(chain, messages);
-    let mut m = messages;
-    while m > 0 {
-        m -= 1;
-        let place = spot(nest, sizes, lens, spots, m);
-        let tile = end_of(nest, sizes, lens, steps, place, side);
+    for m in (0..messages).rev() {
+        let place = spot(table, spots, m);
+        let tile = end_of(table, steps, place, side);
         link(chain, m, tile);
     }
 }
 
 // The first message with the tile at that end.
-pub fn first(
-    nest: Nest,
-    sizes: Sizes,
-    chain: &[u16; CHAIN_WORDS],
-    tile: usize,
-    side: usize,
-) -> usize
-    requires { Chained (end_of side (plan_of sizes.route nest)) (count (plan_of sizes.route nest)) chain.now × (tile < 1024) }
-    ensures { result ≡ slice_index_or (at_end side (plan_of sizes.route nest) tile) 0 (count (plan_of sizes.route nest)) }
+pub fn first(layout: &Layout, chain: &[u16; CHAIN_WORDS], tile: usize, side: usize) -> usize
+    requires { Chained (end_of side (plan_of_layout layout.now)) (count (plan_of_layout layout.now)) chain.now × (tile < 1024) }
+    ensures { result ≡ slice_index_or (at_end side (plan_of_layout layout.now) tile) 0 (count (plan_of_layout layout.now)) }
 {
-    half_index(chain[MOST_MESSAGES + tile])
+    usize::from(chain[MOST_MESSAGES + tile])
 }
 
 // The next one after message m with the tile there.
 pub fn next(
-    nest: Nest,
-    sizes: Sizes,
+    layout: &Layout,
     chain: &[u16; CHAIN_WORDS],
     tile: usize,
     side: usize,
     m: usize,
 ) -> usize
-    requires { Chained (end_of side (plan_of sizes.route nest)) (count (plan_of sizes.route nest)) chain.now
-        × ((m < count (plan_of sizes.route nest)) × ((m < 7168) × (end_of side (plan_of sizes.route nest) m ≡ tile))) }
-    ensures { result ≡ get_or (at_end side (plan_of sizes.route nest) tile) (suc (rank_in (end_of side (plan_of sizes.route nest)) m))
-        (count (plan_of sizes.route nest)) }
+    requires { Chained (end_of side (plan_of_layout layout.now)) (count (plan_of_layout layout.now)) chain.now
+        × ((m < count (plan_of_layout layout.now)) × ((m < 7168) × (end_of side (plan_of_layout layout.now) m ≡ tile))) }
+    ensures { result ≡ get_or (at_end side (plan_of_layout layout.now) tile) (suc (rank_in (end_of side (plan_of_layout layout.now)) m))
+        (count (plan_of_layout layout.now)) }
 {
-    half_index(chain[m])
+    usize::from(chain[m])
 }

@@ -1,11 +1,14 @@
 -- Laws of the lines of a tenant's calls: lengths and fit states, and each call by the line that counts.
-use Rattle.std.specs.Prelude.{◌≡◌, ℕ, ◌+◌, ◌*◌, ◌<◌, ◌≤◌, Bool, true, false, eqb, ltb, leb, ◌≢◌, List, [], ◌∷◌, ◌++◌, length, get_or, set}
+use Rattle.std.specs.Prelude.{Result, Ok, Err, ◌≡◌, ℕ, ◌+◌, ◌*◌, ◌<◌, ◌≤◌, Bool, true, false, eqb, ltb, leb, ◌≢◌, List, [], ◌∷◌, ◌++◌, length, get_or, set}
 use mathlib.Core.Path.{refl, sym, ap, ◌∙◌}
 use native.Mathlib.Omega.{arith}
 use borrow.Author.Tests.{eqb-true, eq-eqb, ne_eqb, ltb-true, lt-ltb, le-ltb}
 use Rattle.base.specs.Tests.{◌and◌, not, pick, every, some}
+use Rattle.base.specs.declared.refusal.Refusal.{Refusal}
+use Rattle.base.specs.Refusals.{code, number_of}
 use Rattle.base.specs.Numbers.{Line, line, first_of}
-use Rattle.base.proofs.Tests.{both, and_true, and_left, and_false, and_no, not-true, not-false, true_not, pick_false}
+use Rattle.base.proofs.Codes.{code_some}
+use Rattle.base.proofs.Tests.{both, and_true, and_left, and_false, and_no, not-true, not-false, true_not, pick_true, pick_false}
 use Rattle.base.proofs.Numbers.{first_true, first_false, none_first, first_some, first_behind}
 use Rattle.machine.specs.Plan.{Plan, count}
 use Rattle.machine.specs.Machine.{State, state_of, progress_only, stage_of, fit_record, fit, tiles_left, next_action, collected, Answered, answered, turn}
@@ -17,10 +20,9 @@ use Rattle.tenants.proofs.ByStep.{turn_by}
 use Rattle.layout.specs.RouteWords.{route_of}
 use Rattle.recipe.specs.Routes.{lines_for}
 use Rattle.recipe.proofs.Laws.{numbered_for}
-use Rattle.stages.specs.Progress.{set_record}
+use Rattle.records.specs.declared.Progress.{Progress}
 use Rattle.engine.specs.Calls.{answer, areas}
 use Rattle.engine.specs.Given.{records_after, handed_over}
-use Rattle.engine.specs.declared.inner.Turned.{Turned}
 use Rattle.engine.proofs.Lines.{Opened, areas_are, and_right, call_read, call_later, call_done, handed}
 use Rattle.sharing.specs.Calls.{areas_for, area_lines_for, turn_call_for, deliver_call_for, collect_call_for}
 use Rattle.sharing.specs.Given.{LengthsFor, unfit_lines_for, barred_lines_for, words_after}
@@ -160,25 +162,12 @@ module _ (p : Plan) (source : List ℕ) (o : ℕ) (l : TenantAreas) (theirs : Li
 
 -- ---- what a turn makes of the records and the shared words
 
-module _ (r : Turned) (n : ℕ) (e : r.number ≡ n) (h : n ≢ 0) (l : TenantAreas) (b : ℕ) (x : Answered TenantAreas) where
-  pub refuses : answer n l ≡ x
-      → answer r.number (tenant_areas (state_of l.own.memories l.own.buffer (records_after l.own.progress b r) l.own.status) l.engaged) ≡ x
-  unfolding records_after
-  refuses q =
-      ap (λ (k : List ℕ). answer r.number (tenant_areas (state_of l.own.memories l.own.buffer k l.own.status) l.engaged))
-      (pick_false _ _ _ (ne_eqb r.number 0 (λ z. h (sym e ∙ z))))
-      ∙ ap (λ (k : ℕ). answer k l) e ∙ q
-
-words_by : (progress engaged : List ℕ) (o b n : ℕ) (r : Turned) → length progress ≡ 3 * n → b < n
+words_by : (progress engaged : List ℕ) (o b n : ℕ) (r : Result Progress Refusal) → length progress ≡ 3 * n → b < n
     → words_after engaged o b r
-    ≡ pick (eqb r.number 0) (set engaged b (word_for o (get_or (records_after progress b r) (3 * b + 1) 0))) engaged
-unfolding words_after records_after pick
-words_by progress engaged o b n r len low = go (eqb r.number 0)
-  where
-    go : (t : Bool) → pick t (set engaged b (word_for o r.progress.stage)) engaged
-        ≡ pick t (set engaged b (word_for o (get_or (pick t (set_record progress b r.progress) progress) (3 * b + 1) 0))) engaged
-    go true = ap (λ (g : ℕ). set engaged b (word_for o g)) (sym (stage_same progress b n len low _ _ _))
-    go false = refl
+    ≡ pick (eqb (number_of r) 0) (set engaged b (word_for o (get_or (records_after progress b r) (3 * b + 1) 0))) engaged
+words_by progress engaged o b n (Ok p) len low =
+    ap (λ (g : ℕ). set engaged b (word_for o g)) (sym (stage_same progress b n len low _ _ _)) ∙ sym (pick_true _ _ _ (eq-eqb 0 0 refl))
+words_by progress engaged o b n (Err e) len low = sym (pick_false _ _ _ (ne_eqb (code e) 0 (code_some e)))
 
 -- ---- past the reader's and the route's lines and line 9 the tenant's count
 past_lengths : (bytes : List ℕ) (route : ℕ) (p : Plan) (source : List ℕ) (l : TenantAreas) (theirs : List ℕ) → first_of (lines_for (route_of route) bytes) ≡ 0
@@ -221,12 +210,12 @@ module _ (bytes : List ℕ) (route : ℕ) (source : List ℕ) (o : ℕ) (l : Ten
         (e ∙ sym (first_some (barred_lines_for p source o l theirs b) _ (λ q. h (e ∙ q)))) h ∙ turn_at_lem
 
     -- the machine's turn on the own areas, and the shared word by the stage that it left
-    pub turn_steps : Free p source o l theirs b → (r : Turned) (m u t engaged : List ℕ) → engaged ≡ words_after l.engaged o b r
-        → answer r.number (state_of m u (records_after l.own.progress b r) t) ≡ turn p source l.own b
-        → answer r.number (tenant_areas (state_of m u (records_after l.own.progress b r) t) engaged)
+    pub turn_steps : Free p source o l theirs b → (r : Result Progress Refusal) (m u t engaged : List ℕ) → engaged ≡ words_after l.engaged o b r
+        → answer (number_of r) (state_of m u (records_after l.own.progress b r) t) ≡ turn p source l.own b
+        → answer (number_of r) (tenant_areas (state_of m u (records_after l.own.progress b r) t) engaged)
         ≡ turn_call_for bytes route source o l theirs b
     turn_steps f r m u t engaged w a =
-        ap (λ (ws : List ℕ). answer r.number (tenant_areas (state_of m u (records_after l.own.progress b r) t) ws))
+        ap (λ (ws : List ℕ). answer (number_of r) (tenant_areas (state_of m u (records_after l.own.progress b r) t) ws))
         (w ∙ words_by l.own.progress l.engaged o b p.processors r f.lengths.own.progress f.low)
         ∙ ap whole a
         ∙ sym (turn_by p source o l theirs b none.1 f.free f.lengths.own.progress f.lengths.engaged)
@@ -242,10 +231,10 @@ module _ (bytes : List ℕ) (route : ℕ) (source : List ℕ) (o : ℕ) (l : Ten
 
 -- the same for the lists that the words read stand for
 pub turn_as : (bytes : List ℕ) (route : ℕ) (source : List ℕ) (o : ℕ) (m u t e own l other q : List ℕ) (b : ℕ) → own ≡ l → other ≡ q
-    → (r : Turned) (m' u' t' e' : List ℕ)
-    → answer r.number (tenant_areas (state_of m' u' (records_after own b r) t') e')
+    → (r : Result Progress Refusal) (m' u' t' e' : List ℕ)
+    → answer (number_of r) (tenant_areas (state_of m' u' (records_after own b r) t') e')
     ≡ turn_call_for bytes route source o (tenant_areas (state_of m u own t) e) other b
-    → answer r.number (tenant_areas (state_of m' u' (records_after l b r) t') e')
+    → answer (number_of r) (tenant_areas (state_of m' u' (records_after l b r) t') e')
     ≡ turn_call_for bytes route source o (tenant_areas (state_of m u l t) e) q b
 turn_as bytes route source o m u t e own l other q b a c r m' u' t' e' x = rw (sym a, sym c) x
 

@@ -1,11 +1,13 @@
 -- Laws of a fresh start of both tenants, and of the records' words after a call as programs keep them.
-use Rattle.std.specs.Prelude.{◌≡◌, ℕ, ◌+◌, ◌*◌, ◌<◌, true, false, ◌≢◌, List, [], ◌∷◌, ◌++◌, length, replicate}
+use Rattle.std.specs.Prelude.{Result, ◌≡◌, ℕ, ◌+◌, ◌*◌, ◌<◌, true, false, ◌≢◌, List, [], ◌∷◌, ◌++◌, length, replicate}
 use mathlib.Core.Path.{sym, ap, ◌∙◌}
 use native.Mathlib.Omega.{arith}
 use borrow.Author.Tests.{eqb-true, eq-eqb, ne_eqb, ltb-true}
 use Rattle.base.specs.Tests.{not}
+use Rattle.base.specs.declared.refusal.Refusal.{Refusal}
+use Rattle.base.specs.Refusals.{number_of}
 use Rattle.base.specs.Numbers.{line, first_of}
-use Rattle.base.proofs.Tests.{both, and_true, and_false, and_no, not-true, not-false, true_not, pick_true, pick_false}
+use Rattle.base.proofs.Tests.{both, and_true, and_false, and_no, not-true, not-false, true_not}
 use Rattle.base.proofs.Numbers.{first_true, first_false, first_some, first_behind, none_first, none_behind}
 use Rattle.machine.specs.Plan.{Plan}
 use Rattle.machine.specs.Machine.{State, state_of, Answered, answered, fresh}
@@ -13,10 +15,9 @@ use Rattle.tenants.specs.Tenants.{TenantAreas, tenant_areas, Sharing, sharing_of
 use Rattle.layout.specs.RouteWords.{route_of}
 use Rattle.recipe.specs.Routes.{lines_for}
 use Rattle.recipe.proofs.Laws.{numbered_for}
-use Rattle.stages.specs.Progress.{set_record}
+use Rattle.records.specs.declared.Progress.{Progress}
 use Rattle.engine.specs.Calls.{answer, recipe, areas}
 use Rattle.engine.specs.Given.{records_after, zeros_after}
-use Rattle.engine.specs.declared.inner.Turned.{Turned}
 use Rattle.engine.proofs.Turns.{answered_no, answered_yes}
 use Rattle.engine.proofs.Lines.{Opened, areas_are}
 use Rattle.engine.proofs.Reading.{zeros_after_no, zeros_after_yes}
@@ -132,20 +133,11 @@ module _ (n : ℕ) (m u t m' u' t' l q e : List ℕ) (x : Answered Sharing) wher
 pub cleared : (l : List ℕ) (n : ℕ) → n ≡ 0 → (k : List ℕ) → k ≡ replicate (length l) 0 → k ≡ zeros_after l n
 cleared l n z k e = e ∙ zeros_after_yes l ∙ ap (zeros_after l) (sym z)
 
-module _ (r : Turned) (l : List ℕ) (b : ℕ) where
-  pub not_stored : r.number ≢ 0 → l ≡ records_after l b r
-  unfolding records_after
-  not_stored h = sym (pick_false _ _ _ (ne_eqb r.number 0 h))
-
-  pub stored_in : r.number ≡ 0 → (k : List ℕ) → k ≡ set_record l b r.progress → k ≡ records_after l b r
-  unfolding records_after
-  stored_in z k e = e ∙ sym (pick_true _ _ _ (eq-eqb r.number 0 z))
-
 -- a turn's answer over the records stored
-pub turn_stored : (r : Turned) (m u l t e : List ℕ) (b : ℕ) (x : Answered TenantAreas) → answer r.number
+pub turn_stored : (r : Result Progress Refusal) (m u l t e : List ℕ) (b : ℕ) (x : Answered TenantAreas) → answer (number_of r)
     (tenant_areas (state_of m u (records_after l b r) t) e) ≡ x
-    → (k : List ℕ) → k ≡ records_after l b r → answer r.number (tenant_areas (state_of m u k t) e) ≡ x
-turn_stored r m u l t e b x q k w = ap (λ (i : List ℕ). answer r.number (tenant_areas (state_of m u i t) e)) w ∙ q
+    → (k : List ℕ) → k ≡ records_after l b r → answer (number_of r) (tenant_areas (state_of m u k t) e) ≡ x
+turn_stored r m u l t e b x q k w = ap (λ (i : List ℕ). answer (number_of r) (tenant_areas (state_of m u i t) e)) w ∙ q
 
 -- a turn that gives 0 has a record there
 pub turn_inside : (bytes : List ℕ) (route : ℕ) (source : List ℕ) (o : ℕ) (l : TenantAreas) (theirs : List ℕ) (b : ℕ)

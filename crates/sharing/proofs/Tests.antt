@@ -1,5 +1,5 @@
 -- Laws of the tests and stores below a tenant's calls, each over numbers and lists alone.
-use Rattle.std.specs.Prelude.{◌≡◌, ℕ, ◌+◌, ◌*◌, ◌<◌, ◌≤◌, Bool, true, false, eqb, ◌≢◌, List, length, get_or, set}
+use Rattle.std.specs.Prelude.{◌≡◌, ℕ, ◌+◌, ◌*◌, ◌<◌, ◌≤◌, Bool, true, false, eqb, ◌≢◌, List, length, get_or}
 use mathlib.Core.Path.{sym, ap, ◌∙◌}
 use borrow.Author.Tests.{eq-eqb, ne_eqb, lt-ltb, le-ltb, le-leb, lt-leb}
 use Rattle.base.specs.Tests.{◌or◌}
@@ -7,8 +7,6 @@ use Rattle.base.proofs.Tests.{and_true, and_left, and_false, and_no, pick_true, 
 use Rattle.machine.specs.Plan.{Plan, tiles_of}
 use Rattle.machine.specs.Machine.{progress_only, tiles_left}
 use Rattle.tenants.specs.Tenants.{tenant_areas, other_than, stage_agrees, word_for, fit_word, held_by_other}
-use Rattle.engine.specs.declared.inner.Turned.{Turned}
-use Rattle.sharing.specs.Given.{words_after}
 
 -- ---- one word against one stage
 
@@ -73,12 +71,3 @@ word_free o g e = sym (pick_true _ _ _ (eq-eqb g 0 e))
 pub word_held : (o g : ℕ) → g ≢ 0 → o ≡ word_for o g
 unfolding word_for
 word_held o g n = sym (pick_false _ _ _ (ne_eqb g 0 n))
-
-module _ (engaged : List ℕ) (o b : ℕ) (r : Turned) where
-  pub word_set : r.number ≡ 0 → (w : ℕ) → w ≡ word_for o r.progress.stage → set engaged b w ≡ words_after engaged o b r
-  unfolding words_after
-  word_set z w e = ap (set engaged b) e ∙ sym (pick_true _ _ _ (eq-eqb r.number 0 z))
-
-  pub word_kept : r.number ≢ 0 → engaged ≡ words_after engaged o b r
-  unfolding words_after
-  word_kept n = sym (pick_false _ _ _ (ne_eqb r.number 0 n))

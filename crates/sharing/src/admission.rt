@@ -1,39 +1,34 @@
-// What a call on two tenants tests first, past the recipe's lines: the areas' lengths, both tenants' records, the shared words; and the number of a
-// fresh start, the recipe's lines with it. The records are read as words, as in `inner`.
-ghost use Rattle.std.specs.Prelude.{◌≡◌, ℕ, ◌+◌, ◌*◌, ◌<◌, ◌≤◌, List, [], length};
+// What a call on two tenants tests first, past the recipe's lines: the areas' lengths, both tenants' records, the shared words; and all that a
+// fresh start tests, the recipe's lines with it. The records are read as words, as in `inner`.
+ghost use Rattle.std.specs.Prelude.{◌≡◌, ℕ, ◌+◌, ◌*◌, ◌<◌, ◌≤◌, List, [], length, IfOk};
 ghost use Rattle.base.specs.Tests.{every};
 ghost use Rattle.base.specs.Numbers.{first_of};
+ghost use Rattle.base.specs.Refusals.{number_of};
 ghost use Rattle.machine.specs.Plan.{count};
 ghost use Rattle.machine.specs.Machine.{state_of, progress_only};
-ghost use Rattle.plan.specs.Shaped.{plan_of};
 ghost use Rattle.nest.specs.Nest.{processors};
-ghost use Rattle.layout.specs.Sizes.{Sized};
-ghost use Rattle.tables.specs.Tables.{Tabled};
 ghost use Rattle.records.specs.Records.{Flattens};
+ghost use Rattle.tables.specs.Given.{plan_of_table};
 ghost use Rattle.tenants.specs.Tenants.{other_than, tenant_areas, sharing_of, sources_of, stage_agrees, fit_word, fit_for, held_by_other};
 ghost use Rattle.sharing.specs.Calls.{fresh_sharing_lines};
 ghost use Rattle.sharing.specs.Given.{unfit_lines_for, barred_lines_for};
 
-use base::refusals;
+use base::refusal::Refusal;
 use engine::inner::areas_fit;
-use layout::Sizes;
-use nest::Nest;
 use recipe::open;
 use records::Flat;
 use stages::{fit_records, fit_status};
-use tables::{TABLE_WORDS, tile_count};
+use tables::Table;
 
 // The stage of the tenant that holds the processor is 1 or 2, any other's is 0.
 fn stage_agrees(holder: u32, tenant: u32, stage: u32) -> bool
     ensures { result ≡ stage_agrees holder tenant stage }
 {
     if holder == tenant {
-        if stage == 1 {
-            return true;
-        }
-        return stage == 2;
+        stage == 1 || stage == 2
+    } else {
+        stage == 0
     }
-    stage == 0
 }
 
 // Of tenants 0 and 1, the one that is not `tenant`.
@@ -51,57 +46,49 @@ fn fit_words(engaged: &[u32], progress: &[u32], theirs: &[u32], tenant: u32) -> 
         (tenant_areas (progress_only progress.now) engaged.now) theirs.now) (length engaged.now) }
 {
     let second = other(tenant);
-    let mut b = 0;
-    while b < engaged.len() {
-        let holder = engaged[b];
-        if holder > 2 {
+    for (b, holder) in engaged.iter().enumerate() {
+        if *holder > 2 {
             return false;
         }
-        if !stage_agrees(holder, tenant, progress[3 * b + 1]) {
+        if !stage_agrees(*holder, tenant, progress[3 * b + 1]) {
             return false;
         }
-        if !stage_agrees(holder, second, theirs[3 * b + 1]) {
+        if !stage_agrees(*holder, second, theirs[3 * b + 1]) {
             return false;
         }
-        b += 1;
     }
     true
 }
 
 // Line 10: the tenant's own records and marks, the other's records, the shared words.
 fn fit_sharing(
-    nest: Nest,
-    sizes: Sizes,
-    lens: &[u16; TABLE_WORDS],
+    table: &Table,
     progress: &[u32],
     status: &[u8],
     engaged: &[u32],
     theirs: &[u32],
     tenant: u32,
 ) -> bool
-    requires sized { Sized nest sizes × Tabled nest sizes lens.now }
-    requires progress_len { (length progress.now ≡ 3 * processors nest) × (length status.now ≡ count (plan_of sizes.route nest)) }
-    requires engaged_len { (length engaged.now ≡ processors nest) × ((length theirs.now ≡ 3 * processors nest) × (tenant ≤ 1)) }
-    ensures { result ≡ fit_for (plan_of sizes.route nest) tenant
+    requires progress_len { (length progress.now ≡ 3 * processors table.now.layout.nest) × (length status.now ≡ count (plan_of_table table.now)) }
+    requires engaged_len { (length engaged.now ≡ processors table.now.layout.nest) × ((length theirs.now ≡ 3 * processors table.now.layout.nest) × (tenant ≤ 1)) }
+    ensures { result ≡ fit_for (plan_of_table table.now) tenant
         (tenant_areas (state_of [] [] progress.now status.now) engaged.now) theirs.now }
 {
-    if !fit_records(nest, sizes, lens, progress) {
+    if !fit_records(table, progress) {
         return false;
     }
     if !fit_status(status) {
         return false;
     }
-    if !fit_records(nest, sizes, lens, theirs) {
+    if !fit_records(table, theirs) {
         return false;
     }
     fit_words(engaged, progress, theirs, tenant)
 }
 
 // Lines 9, 11 for the tenant, and 10.
-pub fn refusal_of_areas(
-    nest: Nest,
-    sizes: Sizes,
-    lens: &[u16; TABLE_WORDS],
+pub fn check_areas(
+    table: &Table,
     source: &[u32],
     memories: &[u32],
     buffer: &[u32],
@@ -110,63 +97,55 @@ pub fn refusal_of_areas(
     engaged: &[u32],
     theirs: Flat,
     tenant: u32,
-) -> u32
-    requires sized { Sized nest sizes × Tabled nest sizes lens.now }
+) -> Result<(), Refusal>
     requires words_len { (length progress.words ≡ 192) × (length theirs.words ≡ 192) }
     ensures { ((records others : List ℕ) → Flattens progress records → Flattens theirs others
-        → result ≡ first_of (unfit_lines_for (plan_of sizes.route nest) source.now tenant
+        → number_of result ≡ first_of (unfit_lines_for (plan_of_table table.now) source.now tenant
         (tenant_areas (state_of memories.now buffer.now records status.now) engaged.now) others))
-        × (result ≡ 0 → (progress.count ≡ 3 * processors nest) × (theirs.count ≡ 3 * processors nest)) }
+        × IfOk result (λ _. (progress.count ≡ 3 * processors table.now.layout.nest) × (theirs.count ≡ 3 * processors table.now.layout.nest)) }
 {
     let count = progress.count;
-    if !areas_fit(nest, sizes, lens, source, memories, buffer, count, status) {
-        return refusals::AREA;
-    }
-    if engaged.len() != sizes.processors {
-        return refusals::AREA;
-    }
     let others = theirs.count;
-    if others != 3 * sizes.processors {
-        return refusals::AREA;
+    let processors = table.layout.sizes.processors;
+    if !areas_fit(table, source, memories, buffer, count, status)
+        || engaged.len() != processors
+        || others != 3 * processors
+    {
+        return Err(Refusal::Area);
     }
     if tenant > 1 {
-        return refusals::NO_SUCH;
+        return Err(Refusal::NoSuch);
     }
     let words = progress.words;
     let their_words = theirs.words;
     if !fit_sharing(
-        nest,
-        sizes,
-        lens,
+        table,
         &words[0..count],
         status,
         engaged,
         &their_words[0..others],
         tenant,
     ) {
-        return refusals::UNFIT;
+        return Err(Refusal::Unfit);
     }
-    0
+    Ok(())
 }
 
 // Line 19: the tenant has tiles left on processor b, and the other holds it.
 pub fn held_by_other(
-    nest: Nest,
-    sizes: Sizes,
-    lens: &[u16; TABLE_WORDS],
+    table: &Table,
     progress: &[u32],
     engaged: &[u32],
     tenant: u32,
     b: usize,
 ) -> bool
-    requires sized { Sized nest sizes × Tabled nest sizes lens.now }
-    requires progress_len { (length progress.now ≡ 3 * processors nest) × (length engaged.now ≡ processors nest) }
-    requires b_bound { (b < processors nest) × (tenant ≤ 1) }
-    ensures { result ≡ held_by_other (plan_of sizes.route nest) tenant
+    requires progress_len { (length progress.now ≡ 3 * processors table.now.layout.nest) × (length engaged.now ≡ processors table.now.layout.nest) }
+    requires b_bound { (b < processors table.now.layout.nest) × (tenant ≤ 1) }
+    ensures { result ≡ held_by_other (plan_of_table table.now) tenant
         (tenant_areas (progress_only progress.now) engaged.now) b }
 {
-    let finished = base::word_index(progress[3 * b]);
-    let n = tile_count(nest, sizes, lens, b);
+    let finished = progress[3 * b] as usize;
+    let n = table.tile_count(b);
     if finished >= n {
         return false;
     }
@@ -174,10 +153,8 @@ pub fn held_by_other(
 }
 
 // Lines 9, 11 for the tenant, 10, 11 for the processor, and 19.
-pub fn refusal_of_turn(
-    nest: Nest,
-    sizes: Sizes,
-    lens: &[u16; TABLE_WORDS],
+pub fn check_turn(
+    table: &Table,
     source: &[u32],
     memories: &[u32],
     buffer: &[u32],
@@ -187,33 +164,29 @@ pub fn refusal_of_turn(
     theirs: Flat,
     tenant: u32,
     b: usize,
-) -> u32
-    requires sized { Sized nest sizes × Tabled nest sizes lens.now }
+) -> Result<(), Refusal>
     requires words_len { (length progress.words ≡ 192) × (length theirs.words ≡ 192) }
     ensures { ((records others : List ℕ) → Flattens progress records → Flattens theirs others
-        → result ≡ first_of (barred_lines_for (plan_of sizes.route nest) source.now tenant
+        → number_of result ≡ first_of (barred_lines_for (plan_of_table table.now) source.now tenant
         (tenant_areas (state_of memories.now buffer.now records status.now) engaged.now) others b))
-        × (result ≡ 0 → (progress.count ≡ 3 * processors nest) × (theirs.count ≡ 3 * processors nest)) }
+        × IfOk result (λ _. (progress.count ≡ 3 * processors table.now.layout.nest) × (theirs.count ≡ 3 * processors table.now.layout.nest)) }
 {
-    let n = refusal_of_areas(
-        nest, sizes, lens, source, memories, buffer, progress, status, engaged, theirs, tenant,
-    );
-    if n != 0 {
-        return n;
-    }
-    if b >= sizes.processors {
-        return refusals::NO_SUCH;
+    check_areas(
+        table, source, memories, buffer, progress, status, engaged, theirs, tenant,
+    )?;
+    if b >= table.layout.sizes.processors {
+        return Err(Refusal::NoSuch);
     }
     let words = progress.words;
     let count = progress.count;
-    if held_by_other(nest, sizes, lens, &words[0..count], engaged, tenant, b) {
-        return refusals::ENGAGED;
+    if held_by_other(table, &words[0..count], engaged, tenant, b) {
+        return Err(Refusal::Engaged);
     }
-    0
+    Ok(())
 }
 
-// The number of a fresh start: the recipe's lines, then 9 where an area of a tenant or the shared words have another length.
-pub fn refusal_of_both(
+// Why there is no fresh start: the recipe's lines, then 9 where an area of a tenant or the shared words have another length.
+pub fn check_both(
     encoded: &[u8],
     route: u32,
     source0: &[u32],
@@ -227,32 +200,18 @@ pub fn refusal_of_both(
     words1: usize,
     status1: &[u8],
     shared: usize,
-) -> u32
+) -> Result<(), Refusal>
     ensures { (records others engaged : List ℕ) → words0 ≡ length records → words1 ≡ length others → shared ≡ length engaged
-        → result ≡ first_of (fresh_sharing_lines encoded.now route (sources_of source0.now source1.now)
+        → number_of result ≡ first_of (fresh_sharing_lines encoded.now route (sources_of source0.now source1.now)
         (sharing_of (state_of memories0.now buffer0.now records status0.now)
         (state_of memories1.now buffer1.now others status1.now) engaged)) }
 {
-    let mut lens = [0u16; TABLE_WORDS];
-    let opening = open(encoded, route, &mut lens);
-    let number = opening.number;
-    if number != 0 {
-        return number;
+    let table = open(encoded, route)?;
+    if !areas_fit(&table, source0, memories0, buffer0, words0, status0)
+        || !areas_fit(&table, source1, memories1, buffer1, words1, status1)
+        || shared != table.layout.sizes.processors
+    {
+        return Err(Refusal::Area);
     }
-    let nest = opening.nest;
-    let sizes = opening.sizes;
-    if !areas_fit(
-        nest, sizes, &lens, source0, memories0, buffer0, words0, status0,
-    ) {
-        return refusals::AREA;
-    }
-    if !areas_fit(
-        nest, sizes, &lens, source1, memories1, buffer1, words1, status1,
-    ) {
-        return refusals::AREA;
-    }
-    if shared != sizes.processors {
-        return refusals::AREA;
-    }
-    0
+    Ok(())
 }

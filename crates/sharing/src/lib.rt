@@ -12,6 +12,7 @@ pub mod admission; // admission.rt: what a call tests first, past the recipe's l
 pub mod inner; // inner.rt: the calls without the stores into the records
 pub mod view; // view.rt: the view at a processor's memory, lent both tenants' memories and nothing else
 
+use base::refusal::number_of;
 use records::flat_of;
 
 // A fresh start of both tenants together: each one's areas, and the shared words.
@@ -37,7 +38,7 @@ pub fn fresh(
         (state_of memories1.old buffer1.old progress1.old status1.old)
         engaged.old) }
 {
-    let number = inner::fresh(
+    let answer = inner::fresh(
         encoded,
         route,
         source0,
@@ -52,6 +53,7 @@ pub fn fresh(
         status1,
         engaged,
     );
+    let number = number_of(&answer);
     inner::clear_records(progress0, number);
     inner::clear_records(progress1, number);
     number
@@ -90,8 +92,7 @@ pub fn turn(
         tenant,
         processor,
     );
-    inner::store_after(progress, processor, after);
-    after.number
+    inner::store_after(progress, processor, &after)
 }
 
 // The delivery of a message for a tenant.
@@ -114,7 +115,7 @@ pub fn deliver(
         (tenant_areas (state_of memories.now buffer.now progress.now status.old)
         engaged.now) theirs.now message }
 {
-    inner::deliver(
+    let answer = inner::deliver(
         encoded,
         route,
         source,
@@ -126,7 +127,8 @@ pub fn deliver(
         flat_of(theirs),
         tenant,
         message,
-    )
+    );
+    number_of(&answer)
 }
 
 // A tenant's grid, once all processors have finished for it.
@@ -148,7 +150,7 @@ pub fn collect(
         (tenant_areas (state_of memories.now buffer.now progress.now status.now)
         engaged.now) theirs.now grid.old }
 {
-    inner::collect(
+    let answer = inner::collect(
         encoded,
         route,
         source,
@@ -160,5 +162,6 @@ pub fn collect(
         flat_of(theirs),
         tenant,
         grid,
-    )
+    );
+    number_of(&answer)
 }

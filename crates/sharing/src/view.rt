@@ -4,6 +4,8 @@ ghost use Rattle.sharing.specs.Calls.{view_number, view_part};
 
 pub mod inner; // inner.rt: where a view finds its part
 
+use base::refusal::number_of;
+
 // The number of a view at a processor's memory.
 pub fn view_number(
     encoded: &[u8],
@@ -15,7 +17,7 @@ pub fn view_number(
     ensures { result ≡ view_number encoded.now first.now second.now tenant processor }
 {
     let seen = inner::view_at(encoded, first.len(), second.len(), tenant, processor);
-    seen.number
+    number_of(&seen)
 }
 
 // The part of the named tenant's memories that is the processor's; empty at any refusal.
@@ -28,12 +30,12 @@ pub fn view<'a>(
 ) -> &'a [u32]
     ensures { result.now ≡ view_part encoded.now first.now second.now tenant processor }
 {
-    let seen = inner::view_at(encoded, first.len(), second.len(), tenant, processor);
+    let seen = match inner::view_at(encoded, first.len(), second.len(), tenant, processor) {
+        Ok(seen) => seen,
+        Err(_) => return &first[0..0],
+    };
     let start = seen.start;
     let words = seen.words;
-    if seen.number != 0 {
-        return &first[0..0];
-    }
     if tenant == 0 {
         return &first[start..start + words];
     }

@@ -1,5 +1,6 @@
 -- The returns of the call, each by the line that counts.
 use Prim.Native.Nat.{ℕ, ◌≤◌, ◌<◌}
+use Rattle.std.specs.Prelude.{Ok}
 use mathlib.Core.Path.{◌≡◌, refl, sym, ap, ◌∙◌}
 use mathlib.Core.Logic.{◌≢◌}
 use mathlib.Core.Bool.{Bool, true, false}
@@ -9,14 +10,13 @@ use lib.ListN.{length}
 use lib.Dec.{eqb, leb}
 use borrow.Author.Tests.{eq-eqb, ne_eqb, leb-false}
 use Rattle.base.specs.Tests.{◌or◌, not, product}
-use Rattle.base.specs.Lists.{Bytes}
 use Rattle.base.specs.Numbers.{line, first_of}
 use Rattle.base.proofs.Tests.{or_right, none_some, not-true, not-false, pick_true, pick_false}
 use Rattle.base.proofs.Numbers.{first_nil, first_true, first_false, none_first, first_some, first_behind, none_behind}
 use Rattle.machine.specs.Machine.{Answered, answered}
-use Rattle.nest.specs.declared.Reading.{Reading}
+use Rattle.nest.specs.declared.Nest.{Nest}
 use Rattle.nest.specs.Nest.{cells}
-use Rattle.nest.specs.Reader.{records, nest_of, ragged, read_lines, reading_of}
+use Rattle.nest.specs.Reader.{records, nest_of, ragged, read_lines, Reads}
 use Rattle.nest.proofs.Answers.{nest_read, accepted_read}
 use Rattle.nest.proofs.Numbered.{numbered}
 use Rattle.layout.specs.Places.{nth}
@@ -104,12 +104,11 @@ module _ (file : List ℕ) (value : ℕ) (source : List ℕ) where
 
 -- ---- the size of an accepted recipe's box
 
-module _ (bytes : List ℕ) (r : Reading) (is : r ≡ reading_of bytes) (z : r.number ≡ 0) (size : ℕ)
-    (h : size ≡ product (nth r.nest.lengths) r.nest.dimensions) where
+module _ {bytes : List ℕ} {x : Nest} (is : Reads bytes (Ok x)) (size : ℕ) (h : size ≡ product (nth x.lengths) x.dimensions) where
   pub size_is : size ≡ cells (nest_of bytes)
   unfolding cells
-  size_is = h ∙ ap cells (nest_read bytes r is z)
+  size_is = h ∙ ap cells (nest_read is)
 
-  pub size_most : Bytes bytes → (l : ℕ) → l ≡ size → l ≤ 16384
+  pub size_most : (l : ℕ) → l ≡ size → l ≤ 16384
   unfolding cells
-  size_most b l e = rw (e ∙ h) (accepted_read bytes r is z b).cells_most
+  size_most l e = rw (e ∙ h) (accepted_read is).cells_most

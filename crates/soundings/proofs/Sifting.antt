@@ -24,10 +24,6 @@ use Rattle.soundings.proofs.Best.{Beats, beats_says, says_beats, Stands, stands}
 
 -- ---- words
 
-pub cell_is : (file : List ℕ) (r a b : ℕ) → a ≡ word file (16 * r) → b ≡ a → b ≡ cell_of file r
-unfolding cell_of
-cell_is file r a b p q = q ∙ p
-
 pub ragged_is : (file : List ℕ) → B.not (eqb (length file % 16) 0) ≡ ragged_file file
 unfolding ragged_file
 ragged_is file = go (eqb (length file % 16) 0)

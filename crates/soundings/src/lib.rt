@@ -5,12 +5,14 @@
 ghost use Rattle.std.specs.Prelude.{◌≡◌, false, [], ◌∷◌, ◌+◌, ◌*◌, ◌≤◌, ◌<◌, length};
 ghost use Rattle.base.specs.Tests.{tabulate};
 ghost use Rattle.base.specs.Numbers.{line, first_of};
+ghost use Rattle.base.specs.Refusals.{number_of};
 ghost use Rattle.machine.specs.Machine.{answered};
 ghost use Rattle.nest.specs.Reader.{records};
 ghost use Rattle.soundings.specs.Soundings.{cell_of, sounded_source, ragged_file, off_box, filled, fill_call};
 ghost use Rattle.soundings.specs.Sifting.{depth_in, Zeros, Blank, Sifted, Noted};
 
-use base::{refusals, word_at, word_index};
+use base::refusal::{Refusal, number_of};
+use base::word_at;
 
 pub mod surveys; // surveys.rt: which of a cell's records counts, and whether a record's cell is in the box
 
@@ -18,7 +20,7 @@ fn cell_of(file: &[u8], r: usize) -> usize
     requires { r < records file.now }
     ensures { result ≡ cell_of file.now r }
 {
-    word_index(word_at(file, 16 * r))
+    word_at(file, 16 * r) as usize
 }
 
 // An empty file is allowed.
@@ -74,15 +76,15 @@ fn copy(best: &[u32; 49152], source: &mut [u32])
     requires { (length best.now ≡ 49152) × (length source.old ≤ 16384) }
     ensures { source.new ≡ tabulate (depth_in best.now) (length source.old) }
 {
-    for c in 0..source.len() {
-        source[c] = best[3 * c + 2];
+    for (c, word) in source.iter_mut().enumerate() {
+        *word = best[3 * c + 2];
     }
 }
 
-// A source of the right length: 22, or 0 and its words.
-fn fill_source(file: &[u8], value: u32, source: &mut [u32]) -> u32
+// A source of the right length: its words, or line 22.
+fn fill_source(file: &[u8], value: u32, source: &mut [u32]) -> Result<(), Refusal>
     requires { length source.old ≤ 16384 }
-    ensures { filled result source.new
+    ensures { filled (number_of result) source.new
         ≡ answered (first_of (line 22 (off_box (length source.old) file.now) ∷ []))
         (sounded_source file.now value (length source.old)) source.old }
 {
@@ -90,29 +92,29 @@ fn fill_source(file: &[u8], value: u32, source: &mut [u32]) -> u32
     let mut best = [0u32; 49152];
     set_out(value, size, &mut best);
     if sift(file, size, &mut best) {
-        return refusals::OFF_THE_BOX;
+        return Err(Refusal::OffTheBox);
     }
     copy(&best, source);
-    0
+    Ok(())
+}
+
+// The source filled, or the first line that is true.
+fn fill_read(encoded: &[u8], file: &[u8], value: u32, source: &mut [u32]) -> Result<(), Refusal>
+    ensures { filled (number_of result) source.new ≡ fill_call encoded.now file.now value source.old }
+{
+    if ragged(file) {
+        return Err(Refusal::Ragged);
+    }
+    let nest = reader::read(encoded)?;
+    if source.len() != layout::product(nest.lengths, nest.dimensions) {
+        return Err(Refusal::Area);
+    }
+    fill_source(file, value, source)
 }
 
 // The number, and for 0 the source filled.
 pub fn fill(encoded: &[u8], file: &[u8], value: u32, source: &mut [u32]) -> u32
     ensures { filled result source.new ≡ fill_call encoded.now file.now value source.old }
 {
-    if ragged(file) {
-        return 1;
-    }
-    let reading = reader::read(encoded);
-    let number = reading.number;
-    if number != 0 {
-        return number;
-    }
-    let nest = reading.nest;
-    let lengths = nest.lengths;
-    let size = layout::product(lengths, nest.dimensions);
-    if source.len() != size {
-        return refusals::AREA;
-    }
-    fill_source(file, value, source)
+    number_of(&fill_read(encoded, file, value, source))
 }

@@ -5,7 +5,7 @@ ghost use Rattle.std.specs.Prelude.{◌≡◌, ◌+◌, ◌*◌, leb};
 fn joined(day: u32, survey: u32) -> u64
     ensures { result ≡ 4294967296 * day + survey }
 {
-    4294967296 * base::word_wide(day) + base::word_wide(survey)
+    4294967296 * u64::from(day) + u64::from(survey)
 }
 
 // Whether a record counts from here on: unless the one that counted before it has a greater key.

@@ -2,17 +2,20 @@
 use Prim.Native.Nat.{ℕ, suc, ◌+◌, ◌*◌, ◌-◌, ◌≤◌, ◌<◌}
 use mathlib.Core.Path.{◌≡◌, refl, sym, ap, ◌∙◌, subst}
 use mathlib.Core.Logic.{◌≢◌}
-use mathlib.Core.Bool.{true, false}
+use mathlib.Core.Bool.{Bool, true, false}
 use mathlib.Core.List.{List}
 use native.Mathlib.Numerals.{add-one}
 use native.Mathlib.Omega.{arith}
 use lib.ListN.{length, get_or, take, drop, set, length-set, drop_of_length-le}
 use lib.Seq.{drop-cons}
-use lib.Dec.{eqb}
-use borrow.Author.Tests.{eq-eqb, ne_eqb}
+use lib.Dec.{eqb, leb}
+use borrow.Author.Tests.{eq-eqb, ne_eqb, le-leb, lt-leb}
+use Rattle.std.specs.Bool.{MatchBool}
+use Rattle.std.specs.List.{AllWithin, HoldsAt}
+use Rattle.base.specs.Tests.{every}
 use borrow.Rule.Slice.PartMut.{put_mid}
 use Rattle.base.specs.Lists.{sublist, put, set_all, all_at, unpack, pack}
-use Rattle.base.proofs.Tests.{and_left, and_false}
+use Rattle.base.proofs.Tests.{and_left, and_false, every_all, every_not}
 use Rattle.base.proofs.Lists.{part_length, piece_fits}
 use Rattle.machine.specs.Plan.{Plan, offset, words, held_by, dues_of}
 use Rattle.machine.specs.Machine.{place_of, unpack_all}
@@ -48,6 +51,14 @@ piece_back l ys f b c n e h k q = back l ys f (b * c) c h k q ∙ ap (λ (i : �
 
 pub room : (n b c m l : ℕ) → b < n → c ≡ m → l ≡ n * m → b * c + c ≤ l
 room n b c m l h e q = rw (q, e) (piece_fits m n b h)
+
+-- ---- every mark of a list
+
+pub every_low : (l : List ℕ) (n : ℕ) (r : Bool)
+    → MatchBool r (AllWithin (λ x. x ≤ n) l 0 (length l)) ((k : ℕ) × (k < length l) × HoldsAt (λ x. n < x) l k)
+    → r ≡ every (λ i. leb (get_or l i 0) n) (length l)
+every_low l n true h = sym (every_all _ (length l) (λ i k. le-leb _ _ (h i 0 (omega arith) k)))
+every_low l n false (k, h, v) = sym (every_not _ (length l) k h (lt-leb _ _ (v 0)))
 
 -- ---- a list of messages, one after the other
 

@@ -2,12 +2,11 @@
 use Prim.Native.Nat.{ℕ, ◌+◌, ◌*◌, ◌-◌, ◌≤◌, ◌<◌}
 use mathlib.Core.Path.{◌≡◌, sym, ap, ◌∙◌}
 use mathlib.Core.Logic.{◌≢◌}
-use mathlib.Core.Bool.{false}
 use mathlib.Core.List.{List, []}
 use native.Mathlib.Omega.{arith}
 use lib.ListN.{length, get_or, take, drop, set}
 use lib.Dec.{ltb, eqb}
-use borrow.Author.Tests.{eq-eqb, ne_eqb, lt-ltb, le-ltb}
+use borrow.Author.Tests.{eq-eqb, ne_eqb, lt-ltb}
 use borrow.Rule.Slice.PartMut.{put_mid}
 use Rattle.base.specs.Tests.{◌and◌, pick}
 use Rattle.base.specs.Lists.{put, set_all, pack, store_all}
@@ -72,16 +71,6 @@ module _ (p : Plan) (l : List ℕ) (b f n g sent : ℕ) (e : f ≡ get_or l (3 *
   record_sends t sends h q a c =
       sym (rw (lt-ltb (get_or l (3 * b) 0) (length (tiles_of p b)) (omega arith), eq-eqb (get_or l (3 * b + 1) 0) 2 (sym i ∙ q), c, a, z, e))
 
-  pub record_wrong : f < n → 2 < g → false ≡ fit_record p (progress_only l) b
-  unfolding fit_record tiles_left pick ◌and◌
-  record_wrong h q =
-      sym
-      (rw (
-        lt-ltb (get_or l (3 * b) 0) (length (tiles_of p b)) (omega arith),
-        ne_eqb (get_or l (3 * b + 1) 0) 2 (λ y. omega arith),
-        le-ltb (get_or l (3 * b + 1) 0) 2 (omega arith),
-      ))
-
   pub record_begins : f < n → g ≢ 2 → g ≤ 2 → eqb sent 0 ≡ fit_record p (progress_only l) b
   unfolding fit_record tiles_left pick ◌and◌
   record_begins h q m =
@@ -92,7 +81,3 @@ module _ (p : Plan) (l : List ℕ) (b f n g sent : ℕ) (e : f ≡ get_or l (3 *
         lt-ltb (get_or l (3 * b + 1) 0) 2 (omega arith),
         z,
       ))
-
-  pub record_over : n ≤ f → fit_record p (progress_only l) b ≡ (eqb f n and (eqb g 0 and eqb sent 0))
-  unfolding fit_record tiles_left pick
-  record_over h = rw (le-ltb (get_or l (3 * b) 0) (length (tiles_of p b)) (omega arith), e, k, i, z)

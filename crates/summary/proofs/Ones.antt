@@ -7,7 +7,8 @@ use mathlib.Core.List.{List}
 use native.Mathlib.Nat.{mod-lt, mul-add-div_right, mul-add-mod_self_right, div-eq_of_lt, mod-eq_of_lt}
 use native.Mathlib.Numerals.{add-one}
 use native.Mathlib.Omega.{arith}
-use lib.ListN.{get_or}
+use lib.ListN.{length, get_or, take}
+use lib.Seq.{get_or-take, length-take-le}
 use lib.Dec.{ltb, eqb}
 use borrow.Author.Tests.{lt-ltb, le-ltb}
 use lib.Bits.{bit_and, and_zero_r, and_step}
@@ -98,13 +99,24 @@ module _ (counts : List ℕ) (n : ℕ) where
   masking_few h k j m =
       omega (arith, m.is, rank_low two (λ i. one (ltb 1 (get_or counts i 0))) j (λ i l. one_low (ltb 1 (get_or counts i 0))), two_few j (omega (arith, m.low)))
 
-  pub masking_more : (k j k' : ℕ) → Masking counts n k j → j < n
-      → ((1 < get_or counts j 0) × (k' ≡ k * 2 + 1)) ⊎ ((get_or counts j 0 ≤ 1) × (k' ≡ k * 2)) → Masking counts n k' (j + 1)
+  pub masking_more : n ≤ length counts → (k j k' : ℕ) → Masking counts n k j → j < length (take n counts)
+      → ((1 < get_or (take n counts) j 0) × (k' ≡ k * 2 + 1)) ⊎ ((get_or (take n counts) j 0 ≤ 1) × (k' ≡ k * 2)) → Masking counts n k' (j + 1)
   unfolding rank
-  masking_more k j k' m h (inl (q, e)) =
-      record { low = omega arith; is = rw (add-one j) (omega (arith, m.is, one_true (lt-ltb 1 (get_or counts j 0) q))) }
-  masking_more k j k' m h (inr (q, e)) =
-      record { low = omega arith; is = rw (add-one j) (omega (arith, m.is, one_false (le-ltb 1 (get_or counts j 0) q))) }
+  masking_more long k j k' m h o = go (omega (arith, length-take-le n counts long)) o
+    where
+      go : j < n → ((1 < get_or (take n counts) j 0) × (k' ≡ k * 2 + 1)) ⊎ ((get_or (take n counts) j 0 ≤ 1) × (k' ≡ k * 2)) → Masking counts n k' (j + 1)
+      go l (inl (q, e)) =
+          record {
+            low = omega arith;
+            is = rw (add-one j) (omega (arith, m.is, one_true (lt-ltb 1 (get_or counts j 0) (rw (get_or-take n counts j 0 l) at q))));
+          }
+      go l (inr (q, e)) =
+          record {
+            low = omega arith;
+            is = rw (add-one j) (omega (arith, m.is, one_false (le-ltb 1 (get_or counts j 0) (rw (get_or-take n counts j 0 l) at q))));
+          }
 
-  pub masking_end : (k j : ℕ) → Masking counts n k j → n ≤ j → k ≡ rank two (λ i. one (ltb 1 (get_or counts i 0))) n
-  masking_end k j m h = let e : j ≡ n = omega (arith, m.low) in m.is ∙ ap (rank two (λ i. one (ltb 1 (get_or counts i 0)))) e
+  pub masking_end : n ≤ length counts → (k j : ℕ) → Masking counts n k j → length (take n counts) ≤ j → k ≡ rank two (λ i. one (ltb 1 (get_or counts i 0))) n
+  masking_end long k j m h =
+      let e : j ≡ n = omega (arith, m.low, length-take-le n counts long) in
+      m.is ∙ ap (rank two (λ i. one (ltb 1 (get_or counts i 0)))) e

@@ -1,25 +1,26 @@
 // The calls about a plan: its figures, the line of one message, its hops.
 #![tactic(auto)]
 
-ghost use Rattle.std.specs.Prelude.{◌≡◌, ◌≢◌, ℕ, ◌<◌};
+ghost use Rattle.std.specs.Prelude.{◌≡◌, ◌≢◌, ◌<◌};
+ghost use Rattle.base.specs.Refusals.{code};
 ghost use Rattle.machine.specs.Plan.{count};
 ghost use Rattle.nest.specs.Accepted.{Accepted};
 ghost use Rattle.nest.specs.Places.{rank};
 ghost use Rattle.plan.specs.declared.Route.TheVariants.{Direct};
 ghost use Rattle.plan.specs.Messages.{two};
-ghost use Rattle.plan.specs.Shaped.{plan_of};
 ghost use Rattle.plan.specs.Hops.{hops};
 ghost use Rattle.conformance.specs.Examples.{refused};
-ghost use Rattle.layout.specs.Sizes.{Sized};
 ghost use Rattle.layout.specs.RouteWords.{route_of};
-ghost use Rattle.tables.specs.Tables.{Tabled, FoundIn};
+ghost use Rattle.layout.specs.Laid.{plan_of_layout};
+ghost use Rattle.tables.specs.Given.{plan_of_table};
+ghost use Rattle.tables.specs.Tables.{FoundIn};
 ghost use Rattle.summary.specs.Summary.{as_figures, figures_of, summary_of, line_of, no_line, message_line_of, direction_of, many, no_hops, hops_of};
 
-use layout::Sizes;
+use base::refusal::Refusal;
+use layout::Layout;
 use nest::Nest;
-use plan::Route;
+use tables::Table;
 use tables::scans::MessageSlot;
-use tables::{TABLE_WORDS, totals};
 
 // What is said of a plan as a whole; number is 0, or why the recipe is refused.
 #[repr(C)]
@@ -53,12 +54,11 @@ pub struct HopCount {
 }
 
 // The plan's figures.
-pub fn figures_of(nest: Nest, sizes: Sizes, lens: &[u16; TABLE_WORDS]) -> Figures
-    requires { Sized nest sizes × Tabled nest sizes lens.now }
-    ensures { result ≡ figures_of (plan_of sizes.route nest) }
+pub fn figures_of(table: &Table) -> Figures
+    ensures { result ≡ figures_of (plan_of_table table.now) }
 {
-    let tiles = tables::tiles_of(nest, sizes, lens);
-    let total = totals(nest, sizes, lens);
+    let tiles = table.tiles_of();
+    let total = table.totals();
     Figures {
         number: 0,
         tiles: tiles as u32,
@@ -69,15 +69,15 @@ pub fn figures_of(nest: Nest, sizes: Sizes, lens: &[u16; TABLE_WORDS]) -> Figure
 }
 
 // The line of a message of a nest without bounds.
-fn box_line(nest: Nest, sizes: Sizes, place: MessageSlot) -> MessageLine
-    requires { Sized nest sizes × ((nest.bounds ≡ 0) × FoundIn sizes.route nest place.number place) }
-    ensures { result ≡ line_of (plan_of sizes.route nest) place.number }
+fn box_line(layout: &Layout, place: MessageSlot) -> MessageLine
+    requires { (layout.now.nest.bounds ≡ 0) × FoundIn layout.now.sizes.route layout.now.nest place.number place }
+    ensures { result ≡ line_of (plan_of_layout layout.now) place.number }
 {
     let slot = place.slot;
-    let sender = layout::end_of(nest, sizes, slot, 0);
-    let taker = layout::end_of(nest, sizes, slot, 1);
-    let from = layout::processor_of(nest, sizes, sender);
-    let to = layout::processor_of(nest, sizes, taker);
+    let sender = layout.end_of(slot, 0);
+    let taker = layout.end_of(slot, 1);
+    let from = layout.processor_of(sender);
+    let to = layout.processor_of(taker);
     MessageLine {
         number: 0,
         sender: sender as u32,
@@ -89,21 +89,16 @@ fn box_line(nest: Nest, sizes: Sizes, place: MessageSlot) -> MessageLine
 }
 
 // The line of a message of a nest with bounds.
-fn shape_line(
-    nest: Nest,
-    sizes: Sizes,
-    lens: &[u16; TABLE_WORDS],
-    place: MessageSlot,
-) -> MessageLine
-    requires sized { Sized nest sizes × (Tabled nest sizes lens.now × (nest.bounds ≢ 0)) }
-    requires found_in { FoundIn sizes.route nest place.number place }
-    ensures { result ≡ line_of (plan_of sizes.route nest) place.number }
+fn shape_line(table: &Table, place: MessageSlot) -> MessageLine
+    requires sized { table.now.layout.nest.bounds ≢ 0 }
+    requires found_in { FoundIn table.now.layout.sizes.route table.now.layout.nest place.number place }
+    ensures { result ≡ line_of (plan_of_table table.now) place.number }
 {
     let slot = place.slot;
-    let sender = slot / sizes.ways;
-    let taker = tables::shaped_table::taker_of(nest, sizes, lens, slot);
-    let from = tables::shaped_table::owner_of(nest, lens, sender);
-    let to = tables::shaped_table::owner_of(nest, lens, taker);
+    let sender = slot / table.layout.sizes.ways;
+    let taker = tables::shaped_table::taker_of(&table.layout, &table.lens, slot);
+    let from = tables::shaped_table::owner_of(table.layout.nest, &table.lens, sender);
+    let to = tables::shaped_table::owner_of(table.layout.nest, &table.lens, taker);
     MessageLine {
         number: 0,
         sender: sender as u32,
@@ -115,38 +110,31 @@ fn shape_line(
 }
 
 // The line of the message found at a place.
-pub fn line_at(
-    nest: Nest,
-    sizes: Sizes,
-    lens: &[u16; TABLE_WORDS],
-    place: MessageSlot,
-) -> MessageLine
-    requires sized { Sized nest sizes × Tabled nest sizes lens.now }
-    requires found_in { FoundIn sizes.route nest place.number place }
-    ensures { result ≡ line_of (plan_of sizes.route nest) place.number }
+pub fn line_at(table: &Table, place: MessageSlot) -> MessageLine
+    requires found_in { FoundIn table.now.layout.sizes.route table.now.layout.nest place.number place }
+    ensures { result ≡ line_of (plan_of_table table.now) place.number }
 {
-    if nest.bounds == 0 {
-        return box_line(nest, sizes, place);
+    if table.layout.nest.bounds == 0 {
+        return box_line(&table.layout, place);
     }
-    shape_line(nest, sizes, lens, place)
+    shape_line(table, place)
 }
 
 // The line of message m.
-pub fn line_of(nest: Nest, sizes: Sizes, lens: &[u16; TABLE_WORDS], m: usize) -> MessageLine
-    requires sized { Sized nest sizes × Tabled nest sizes lens.now }
-    requires m_bound { m < count (plan_of sizes.route nest) }
-    ensures { result ≡ line_of (plan_of sizes.route nest) m }
+pub fn line_of(table: &Table, m: usize) -> MessageLine
+    requires m_bound { m < count (plan_of_table table.now) }
+    ensures { result ≡ line_of (plan_of_table table.now) m }
 {
-    let place = tables::nth(nest, sizes, lens, m);
-    line_at(nest, sizes, lens, place)
+    let place = table.nth(m);
+    line_at(table, place)
 }
 
 // Figures, line and hops where the recipe or the message's number is refused.
-fn no_figures(number: u32) -> Figures
-    ensures { result ≡ as_figures (refused number) }
+fn no_figures(refusal: Refusal) -> Figures
+    ensures { result ≡ as_figures (refused (code refusal)) }
 {
     Figures {
-        number: number,
+        number: refusal.number(),
         tiles: 0,
         messages: 0,
         words: 0,
@@ -154,11 +142,11 @@ fn no_figures(number: u32) -> Figures
     }
 }
 
-fn no_line(number: u32) -> MessageLine
-    ensures { result ≡ no_line number }
+fn no_line(refusal: Refusal) -> MessageLine
+    ensures { result ≡ no_line (code refusal) }
 {
     MessageLine {
-        number: number,
+        number: refusal.number(),
         sender: 0,
         taker: 0,
         from: 0,
@@ -167,11 +155,11 @@ fn no_line(number: u32) -> MessageLine
     }
 }
 
-fn no_hops(number: u32) -> HopCount
-    ensures { result ≡ no_hops number }
+fn no_hops(refusal: Refusal) -> HopCount
+    ensures { result ≡ no_hops (code refusal) }
 {
     HopCount {
-        number: number,
+        number: refusal.number(),
         hops: 0,
     }
 }
@@ -180,31 +168,26 @@ fn no_hops(number: u32) -> HopCount
 pub fn summary(encoded: &[u8], route: u32) -> Figures
     ensures { result ≡ summary_of (route_of route) encoded.now }
 {
-    let mut lens = [0u16; TABLE_WORDS];
-    let opening = recipe::open(encoded, route, &mut lens);
-    if opening.number != 0 {
-        return no_figures(opening.number);
+    match recipe::open(encoded, route) {
+        Ok(table) => figures_of(&table),
+        Err(refusal) => no_figures(refusal),
     }
-    figures_of(opening.nest, opening.sizes, &lens)
 }
 
 // Offered to callers: the line of message m of the recipe's plan on a route.
 pub fn message(encoded: &[u8], route: u32, m: u32) -> MessageLine
     ensures { result ≡ message_line_of (route_of route) encoded.now m }
 {
-    let mut lens = [0u16; TABLE_WORDS];
-    let opening = recipe::open(encoded, route, &mut lens);
-    if opening.number != 0 {
-        return no_line(opening.number);
-    }
-    let nest = opening.nest;
-    let sizes = opening.sizes;
-    let total = totals(nest, sizes, &lens);
+    let table = match recipe::open(encoded, route) {
+        Ok(table) => table,
+        Err(refusal) => return no_line(refusal),
+    };
     let at = m as usize;
+    let total = table.totals();
     if at >= total.messages {
-        return no_line(11);
+        return no_line(Refusal::NoSuch);
     }
-    line_of(nest, sizes, &lens, at)
+    line_of(&table, at)
 }
 
 // The mask of the spread dimensions with a count above 1: dimension one is the highest bit, as in a direction.
@@ -212,12 +195,10 @@ fn many_of(nest: Nest) -> u32
     requires { Accepted nest }
     ensures { result ≡ rank two (many nest) nest.spread }
 {
-    let counts = nest.counts;
-    let n = nest.spread;
     let mut mask = 0;
-    for j in 0..n {
+    for &count in &nest.counts[..nest.spread] {
         mask *= 2;
-        if counts[j] > 1 {
+        if count > 1 {
             mask += 1;
         }
     }
@@ -234,34 +215,31 @@ fn hops_along(nest: Nest, direction: u32) -> u32
 }
 
 // The hops of message m of the direct plan: those of its slot's direction.
-fn hops_at(nest: Nest, sizes: Sizes, lens: &[u16; TABLE_WORDS], m: usize) -> u32
-    requires sized { Sized nest sizes × (Tabled nest sizes lens.now × (sizes.route ≡ Direct)) }
-    requires m_bound { m < count (plan_of sizes.route nest) }
-    ensures { result ≡ hops nest (direction_of nest m) }
+fn hops_at(table: &Table, m: usize) -> u32
+    requires sized { table.now.layout.sizes.route ≡ Direct }
+    requires m_bound { m < count (plan_of_table table.now) }
+    ensures { result ≡ hops table.now.layout.nest (direction_of table.now.layout.nest m) }
 {
-    let place = tables::nth(nest, sizes, lens, m);
-    let direction = place.slot % sizes.ways + 1;
-    hops_along(nest, direction as u32)
+    let place = table.nth(m);
+    let direction = place.slot % table.layout.sizes.ways + 1;
+    hops_along(table.layout.nest, direction as u32)
 }
 
 // Offered to callers: the hops on the indirect route of message m of the recipe's direct plan.
 pub fn hops(encoded: &[u8], m: u32) -> HopCount
     ensures { result ≡ hops_of encoded.now m }
 {
-    let mut lens = [0u16; TABLE_WORDS];
-    let opening = recipe::open(encoded, 0, &mut lens);
-    if opening.number != 0 {
-        return no_hops(opening.number);
-    }
-    let nest = opening.nest;
-    let sizes = opening.sizes;
-    let total = totals(nest, sizes, &lens);
+    let table = match recipe::open(encoded, 0) {
+        Ok(table) => table,
+        Err(refusal) => return no_hops(refusal),
+    };
     let message = m as usize;
+    let total = table.totals();
     if message >= total.messages {
-        return no_hops(11);
+        return no_hops(Refusal::NoSuch);
     }
     HopCount {
         number: 0,
-        hops: hops_at(nest, sizes, &lens, message),
+        hops: hops_at(&table, message),
     }
 }

@@ -42,10 +42,6 @@ module _ (x : Nest) (ok : Accepted x) (r : Route) where
     is : plan_of r x ≡ box_plan r x
     is = plan_of_box r x ok e
 
-    pub box_counts : (m w : ℕ) → (m ≡ count (box_plan r x)) × ((w ≡ words (box_plan r x)) × ((m ≤ 7168) × (w ≤ 117440512)))
-        → (m ≡ count (plan_of r x)) × ((w ≡ words (plan_of r x)) × ((m ≤ 7168) × (w ≤ 117440512)))
-    box_counts m w (a, (b, c)) = (a ∙ ap (λ (p : Plan). count p) (sym is), (b ∙ ap (λ (p : Plan). words p) (sym is), c))
-
     pub box_tiles_lem : (p n : ℕ) → n ≡ length (tiles_of (box_plan r x) p) → n ≡ length (tiles_of (plan_of r x) p)
     box_tiles_lem p n h = h ∙ ap (λ (q : Plan). length (tiles_of q p)) (sym is)
 
@@ -82,9 +78,6 @@ module _ (x : Nest) (ok : Accepted x) (r : Route) where
     pub box_long : (m n : ℕ) (p : MessageSlot) → FoundIn r x m p → n ≡ p.words → (n ≡ length (slot_parcel r x p.slot)) × (0 < n)
     box_long m n p f q = (q ∙ (f.words ∙ ap length (box_held m p f)), omega (arith, f.full))
 
-    pub box_below : (m : ℕ) → m < count (plan_of r x) → m < count (box_plan r x)
-    box_below m h = let z = ap (λ (q : Plan). count q) is in omega arith
-
     pub box_count : (k : ℕ) → k ≡ box_tiles x → (k ≡ (plan_of r x).tiles) × (k ≤ 1024)
     box_count k h = (h ∙ ap (λ (q : Plan). q.tiles) (sym is), omega (arith, h, no_bounds_tiles x ok e, ok.tiles_most))
 
@@ -94,10 +87,6 @@ module _ (x : Nest) (ok : Accepted x) (r : Route) where
   -- ---- with bounds
 
   module _ (n : x.bounds ≢ 0) (d : r ≡ Direct) where
-    pub shape_counts : (m w : ℕ) → (m ≡ count (plan_of Direct x)) × ((w ≡ words (plan_of Direct x)) × ((m ≤ 7168) × (w ≤ 117440512)))
-        → (m ≡ count (plan_of r x)) × ((w ≡ words (plan_of r x)) × ((m ≤ 7168) × (w ≤ 117440512)))
-    shape_counts m w h = rw d h
-
     pub shape_tiles : (p m : ℕ) → (m ≡ length (tiles_of (plan_of Direct x) p)) × (m ≤ 1024) → (m ≡ length (tiles_of (plan_of r x) p)) × (m ≤ 16384)
     shape_tiles p m (a, b) = (rw d a, omega arith)
 
@@ -151,6 +140,9 @@ module _ (x : Nest) (ok : Accepted x) (r : Route) where
 
       pub slots_sheet : (lens : List ℕ) → ShapedTable x lens → Sheet lens (k * w)
       slots_sheet lens f = table.sheet x ok lens f (k * w) (omega (arith, slots_are))
+
+      pub shape_made : (m : ℕ) (p : MessageSlot) → Found (shaped_message x) (k * w) m p → FoundIn r x m p
+      shape_made m p f = rw d (made m p (subst (λ (z : ℕ). Found (shaped_message x) z m p) slots_are f))
 
       pub shape_nth : (lens : List ℕ) → ShapedTable x lens → (m : ℕ) (p : MessageSlot) → m < count (plan_of r x)
           → ((f : ℕ → Message) → Lengths f (k * w) lens → m < length (messages_of f (k * w)) → Found f (k * w) m p) → FoundIn r x m p

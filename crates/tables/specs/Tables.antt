@@ -6,18 +6,13 @@ use Rattle.machine.specs.Plan as machine
 use Rattle.machine.specs.Plan.{count, held_by, message}
 use Rattle.nest.specs.declared.Nest.{Nest}
 use Rattle.plan.specs.declared.Route.{Route}
-use Rattle.plan.specs.declared.Route.TheVariants.{Direct}
 use Rattle.plan.specs.Messages.{slots, slot_message}
 use Rattle.plan.specs.Shaped.{shaped_slots, shaped_message, plan_of}
 use Rattle.layout.specs.declared.Sizes.{Sizes}
-use Rattle.layout.specs.Sizes.{Sized}
+use Rattle.layout.specs.Sizes.{Sized, Routed}
 use Rattle.tables.specs.declared.scans.MessageSlot.{MessageSlot}
 use Rattle.tables.specs.boxes.Table.{Table}
 use Rattle.tables.specs.shaped_table.Table.{ShapedTable}
-
--- indirect passing is for nests without bounds
-abbrev pub Routed : Nest → Sizes → Type 0
-Routed x z = x.bounds ≢ 0 → z.route ≡ Direct
 
 pub record Tabled (x : Nest) (z : Sizes) (lens : List ℕ) : Type 0 where
   pub routed : Routed x z

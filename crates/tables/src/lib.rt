@@ -2,18 +2,15 @@
 // Here box and shape meet: a function looks at the number of bounds once, and its contract speaks of the nest's plan.
 #![tactic(auto)]
 
-ghost use Rattle.std.specs.Prelude.{◌≡◌, ℕ, ◌≤◌, ◌<◌, length, get_or};
+ghost use Rattle.std.specs.Prelude.{◌≡◌, ◌≤◌, ◌<◌, length, get_or};
 ghost use Rattle.base.specs.Lists.{pack, unpack};
 ghost use Rattle.machine.specs.Plan.{count, words, held_by, tiles_of};
 ghost use Rattle.nest.specs.Nest.{cells};
-ghost use Rattle.plan.specs.Shaped.{plan_of};
-ghost use Rattle.layout.specs.Sizes.{Sized};
 ghost use Rattle.tables.specs.boxes.Table.{at_end};
-ghost use Rattle.tables.specs.Tables.{Routed, Tabled, FoundIn};
+ghost use Rattle.tables.specs.Tables.{Tabled, FoundIn};
 
 use crate::scans::{MessageSlot, Total};
-use layout::Sizes;
-use nest::Nest;
+use layout::Layout;
 
 pub mod scans; // scans.rt: numbers, offsets and totals of messages by a table of lengths, whatever the slots hold
 pub mod boxes; // boxes.rt: the table of a nest without bounds
@@ -30,158 +27,156 @@ pub const OWNERS_AT: usize = 8192;
 // Where the table says how many tiles there are.
 pub const COUNT_AT: usize = 9216;
 
+// A layout with its table: what is told of messages and tiles, without bounds or with them.
+#[derive(Drop)]
+pub struct Table {
+    pub layout: Layout,
+    pub lens: [u16; TABLE_WORDS],
+    ghost tabled: { Tabled layout.nest layout.sizes lens },
+}
+
 // The length of each slot's parcel and, with bounds, what else is found once.
-pub fn fill(nest: Nest, sizes: Sizes, lens: &mut [u16; TABLE_WORDS])
-    requires { Sized nest sizes × (Routed nest sizes × (length lens.old ≡ 9217)) }
-    ensures { Tabled nest sizes lens.new }
+fn fill(layout: &Layout, lens: &mut [u16; TABLE_WORDS])
+    requires { length lens.old ≡ 9217 }
+    ensures { Tabled layout.now.nest layout.now.sizes lens.new }
 {
-    if nest.bounds == 0 {
-        boxes::fill(nest, sizes, lens);
+    if layout.nest.bounds == 0 {
+        boxes::fill(layout, lens);
         return;
     }
-    shaped_table::fill(nest, sizes, lens);
+    shaped_table::fill(layout, lens);
 }
 
-// How many messages and words there are.
-pub fn totals(nest: Nest, sizes: Sizes, lens: &[u16; TABLE_WORDS]) -> Total
-    requires { Sized nest sizes × Tabled nest sizes lens.now }
-    ensures { (result.messages ≡ count (plan_of sizes.route nest)) × ((result.words ≡ words (plan_of sizes.route nest))
-        × ((result.messages ≤ 7168) × (result.words ≤ 117440512))) }
-{
-    if nest.bounds == 0 {
-        return boxes::totals(nest, sizes, lens);
-    }
-    shaped_table::totals(nest, sizes, lens)
-}
+impl Table {
+    ghost use Rattle.tables.specs.Given.{plan_of_table};
 
-// How many tiles the processor has.
-pub fn tile_count(nest: Nest, sizes: Sizes, lens: &[u16; TABLE_WORDS], processor: usize) -> usize
-    requires { Sized nest sizes × Tabled nest sizes lens.now }
-    ensures { (result ≡ length (tiles_of (plan_of sizes.route nest) processor)) × (result ≤ 16384) }
-{
-    if nest.bounds == 0 {
-        return layout::tile_count(nest, sizes, processor);
+    // The table of a layout, found once in a call.
+    pub fn of(layout: Layout) -> Self
+        ensures { result.layout ≡ layout }
+    {
+        let mut lens = [0; TABLE_WORDS];
+        fill(&layout, &mut lens);
+        Table { layout, lens }
     }
-    shaped_table::tile_count(nest, lens, processor)
-}
 
-// Its tile after so many finished ones.
-pub fn tile_at(
-    nest: Nest,
-    sizes: Sizes,
-    lens: &[u16; TABLE_WORDS],
-    processor: usize,
-    finished: usize,
-) -> usize
-    requires { Sized nest sizes × (Tabled nest sizes lens.now × (finished < length (tiles_of (plan_of sizes.route nest) processor))) }
-    ensures { (result ≡ get_or (tiles_of (plan_of sizes.route nest) processor) finished 0) × (result < (plan_of sizes.route nest).tiles) }
-{
-    if nest.bounds == 0 {
-        return layout::tile_at(nest, sizes, processor, finished);
+    // How many messages and words there are.
+    pub fn totals(&self) -> Total
+        ensures { (result.messages ≡ count (plan_of_table self.now)) × ((result.words ≡ words (plan_of_table self.now))
+            × ((result.messages ≤ 7168) × (result.words ≤ 117440512))) }
+    {
+        scans::sums_to(&self.lens, self.tiles_of() * self.layout.sizes.ways)
     }
-    shaped_table::tile_at(nest, lens, processor, finished)
-}
 
-// How many messages have the tile at this end: 0 the sender, else the taker.
-pub fn count_at(
-    nest: Nest,
-    sizes: Sizes,
-    lens: &[u16; TABLE_WORDS],
-    tile: usize,
-    side: usize,
-) -> usize
-    requires { Sized nest sizes × (Tabled nest sizes lens.now × (tile < (plan_of sizes.route nest).tiles)) }
-    ensures { (result ≡ length (at_end side (plan_of sizes.route nest) tile)) × (result ≤ 7168) }
-{
-    if nest.bounds == 0 {
-        return boxes::count_at(nest, sizes, lens, tile, side);
+    // How many tiles the processor has.
+    pub fn tile_count(&self, processor: usize) -> usize
+        ensures { (result ≡ length (tiles_of (plan_of_table self.now) processor)) × (result ≤ 16384) }
+    {
+        if self.layout.nest.bounds == 0 {
+            return self.layout.tile_count(processor);
+        }
+        shaped_table::tile_count(self.layout.nest, &self.lens, processor)
     }
-    shaped_table::count_at(nest, sizes, lens, tile, side)
-}
 
-// The j-th of them.
-pub fn nth_at(
-    nest: Nest,
-    sizes: Sizes,
-    lens: &[u16; TABLE_WORDS],
-    tile: usize,
-    side: usize,
-    j: usize,
-) -> MessageSlot
-    requires sized { Sized nest sizes × (Tabled nest sizes lens.now × (tile < (plan_of sizes.route nest).tiles)) }
-    requires j_in_bounds { j < length (at_end side (plan_of sizes.route nest) tile) }
-    ensures { FoundIn sizes.route nest (get_or (at_end side (plan_of sizes.route nest) tile) j 0) result }
-{
-    if nest.bounds == 0 {
-        return boxes::nth_at(nest, sizes, lens, tile, side, j);
+    // Its tile after so many finished ones.
+    pub fn tile_at(&self, processor: usize, finished: usize) -> usize
+        requires { finished < length (tiles_of (plan_of_table self.now) processor) }
+        ensures { (result ≡ get_or (tiles_of (plan_of_table self.now) processor) finished 0) × (result < (plan_of_table self.now).tiles) }
+    {
+        if self.layout.nest.bounds == 0 {
+            return self.layout.tile_at(processor, finished);
+        }
+        shaped_table::tile_at(self.layout.nest, &self.lens, processor, finished)
     }
-    shaped_table::nth_at(nest, sizes, lens, tile, side, j)
-}
 
-// Message m.
-pub fn nth(nest: Nest, sizes: Sizes, lens: &[u16; TABLE_WORDS], m: usize) -> MessageSlot
-    requires { Sized nest sizes × (Tabled nest sizes lens.now × (m < count (plan_of sizes.route nest))) }
-    ensures { FoundIn sizes.route nest m result }
-{
-    if nest.bounds == 0 {
-        return boxes::nth(nest, sizes, lens, m);
+    // How many messages have the tile at this end: 0 the sender, else the taker.
+    pub fn count_at(&self, tile: usize, side: usize) -> usize
+        requires { tile < (plan_of_table self.now).tiles }
+        ensures { (result ≡ length (at_end side (plan_of_table self.now) tile)) × (result ≤ 7168) }
+    {
+        if self.layout.nest.bounds == 0 {
+            return boxes::count_at(&self.layout, &self.lens, tile, side);
+        }
+        shaped_table::count_at(&self.layout, &self.lens, tile, side)
     }
-    let tiles = shaped_table::tiles_of(nest, lens);
-    scans::nth(lens, tiles * sizes.ways, m)
-}
 
-// How many tiles there are.
-pub fn tiles_of(nest: Nest, sizes: Sizes, lens: &[u16; TABLE_WORDS]) -> usize
-    requires { Sized nest sizes × Tabled nest sizes lens.now }
-    ensures { (result ≡ (plan_of sizes.route nest).tiles) × (result ≤ 1024) }
-{
-    if nest.bounds == 0 {
-        return sizes.tiles;
+    // The j-th of them.
+    pub fn nth_at(&self, tile: usize, side: usize, j: usize) -> MessageSlot
+        requires sized { tile < (plan_of_table self.now).tiles }
+        requires j_in_bounds { j < length (at_end side (plan_of_table self.now) tile) }
+        ensures { FoundIn self.now.layout.sizes.route self.now.layout.nest (get_or (at_end side (plan_of_table self.now) tile) j 0) result }
+    {
+        if self.layout.nest.bounds == 0 {
+            return boxes::nth_at(&self.layout, &self.lens, tile, side, j);
+        }
+        shaped_table::nth_at(&self.layout, &self.lens, tile, side, j)
     }
-    shaped_table::tiles_of(nest, lens)
-}
 
-// The words of a message, from a memory.
-pub fn pack(
-    nest: Nest,
-    sizes: Sizes,
-    lens: &[u16; TABLE_WORDS],
-    place: MessageSlot,
-    words: &mut [u32],
-    memory: &[u32],
-)
-    requires sized { Sized nest sizes × (Tabled nest sizes lens.now × FoundIn sizes.route nest place.number place) }
-    requires memory_len { (length memory.now ≡ cells nest) × (length words.old ≡ place.words) }
-    ensures { words.new ≡ pack memory.now (held_by (plan_of sizes.route nest) place.number) }
-{
-    let slot = place.slot;
-    if nest.bounds == 0 {
-        parcels::pack(nest, sizes, slot, words, memory);
-        return;
+    // Message m.
+    pub fn nth(&self, m: usize) -> MessageSlot
+        requires { m < count (plan_of_table self.now) }
+        ensures { FoundIn self.now.layout.sizes.route self.now.layout.nest m result }
+    {
+        scans::nth(&self.lens, self.tiles_of() * self.layout.sizes.ways, m).unwrap()
     }
-    let tile = shaped_table::box_of(nest, lens, slot / sizes.ways);
-    parcels::shaped::pack(nest, sizes, tile, slot % sizes.ways, words, memory);
-}
 
-// The words of a message, into a memory.
-pub fn unpack(
-    nest: Nest,
-    sizes: Sizes,
-    lens: &[u16; TABLE_WORDS],
-    place: MessageSlot,
-    memory: &mut [u32],
-    words: &[u32],
-)
-    requires sized { Sized nest sizes × (Tabled nest sizes lens.now × FoundIn sizes.route nest place.number place) }
-    requires memory_len { (length memory.old ≡ cells nest) × (length words.now ≡ place.words) }
-    ensures { memory.new
-        ≡ unpack memory.old (held_by (plan_of sizes.route nest) place.number) words.now }
-{
-    let slot = place.slot;
-    if nest.bounds == 0 {
-        parcels::unpack(nest, sizes, slot, memory, words);
-        return;
+    // How many tiles there are.
+    pub fn tiles_of(&self) -> usize
+        ensures { (result ≡ (plan_of_table self.now).tiles) × (result ≤ 1024) }
+    {
+        if self.layout.nest.bounds == 0 {
+            return self.layout.sizes.tiles;
+        }
+        shaped_table::tiles_of(self.layout.nest, &self.lens)
     }
-    let tile = shaped_table::box_of(nest, lens, slot / sizes.ways);
-    parcels::shaped::unpack(nest, sizes, tile, slot % sizes.ways, memory, words);
+
+    // The words of a message, from a memory.
+    pub fn pack(&self, place: MessageSlot, words: &mut [u32], memory: &[u32])
+        requires sized { FoundIn self.now.layout.sizes.route self.now.layout.nest place.number place }
+        requires memory_len { (length memory.now ≡ cells self.now.layout.nest) × (length words.old ≡ place.words) }
+        ensures { words.new ≡ pack memory.now (held_by (plan_of_table self.now) place.number) }
+    {
+        let slot = place.slot;
+        if self.layout.nest.bounds == 0 {
+            parcels::pack(&self.layout, slot, words, memory);
+            return;
+        }
+        let tile = shaped_table::box_of(
+            self.layout.nest,
+            &self.lens,
+            slot / self.layout.sizes.ways,
+        );
+        parcels::shaped::pack(
+            &self.layout,
+            tile,
+            slot % self.layout.sizes.ways,
+            words,
+            memory,
+        );
+    }
+
+    // The words of a message, into a memory.
+    pub fn unpack(&self, place: MessageSlot, memory: &mut [u32], words: &[u32])
+        requires sized { FoundIn self.now.layout.sizes.route self.now.layout.nest place.number place }
+        requires memory_len { (length memory.old ≡ cells self.now.layout.nest) × (length words.now ≡ place.words) }
+        ensures { memory.new
+            ≡ unpack memory.old (held_by (plan_of_table self.now) place.number) words.now }
+    {
+        let slot = place.slot;
+        if self.layout.nest.bounds == 0 {
+            parcels::unpack(&self.layout, slot, memory, words);
+            return;
+        }
+        let tile = shaped_table::box_of(
+            self.layout.nest,
+            &self.lens,
+            slot / self.layout.sizes.ways,
+        );
+        parcels::shaped::unpack(
+            &self.layout,
+            tile,
+            slot % self.layout.sizes.ways,
+            memory,
+            words,
+        );
+    }
 }

@@ -1,5 +1,5 @@
 // Scans of a table of parcel lengths by slot: numbers, offsets and totals of messages, whatever the slots hold.
-ghost use Rattle.std.specs.Prelude.{◌≡◌, ℕ, ◌≤◌, ◌<◌, length};
+ghost use Rattle.std.specs.Prelude.{◌≡◌, ℕ, ◌+◌, ◌≤◌, ◌<◌, length, IsSomeAnd};
 ghost use Rattle.machine.specs.Plan.{Message};
 ghost use Rattle.plan.specs.Messages.{messages_of};
 ghost use Rattle.tables.specs.scans.Scans.{Sheet, Lengths, Summing, Found};
@@ -27,51 +27,53 @@ pub fn sums_to(lens: &[u16; TABLE_WORDS], end: usize) -> Total
     ensures { (result.messages ≤ 7168) × ((result.words ≤ 117440512)
         × ((f : ℕ → Message) → Lengths f end lens.now → Summing f end result.messages result.words)) }
 {
-    let mut s = 0;
     let mut messages = 0;
     let mut words = 0;
-    while s < end {
-        let length = base::half_index(lens[s]);
+    for &length in &lens[..end] {
         if length != 0 {
             messages += 1;
         }
-        words += length;
-        s += 1;
+        words += length as usize;
     }
-    Total {
-        messages: messages,
-        words: words,
+    Total { messages, words }
+}
+
+// The message of a slot.
+pub fn message_of(lens: &[u16; TABLE_WORDS], slot: usize) -> MessageSlot
+    requires { Sheet lens.now (slot + 1) }
+    ensures { (f : ℕ → Message) → (n : ℕ) → Lengths f n lens.now → slot < n → 0 < length (f slot).cells
+        → Found f n (length (messages_of f slot)) result }
+{
+    let before = sums_to(lens, slot);
+    MessageSlot {
+        slot,
+        number: before.messages,
+        offset: before.words,
+        words: lens[slot] as usize,
     }
 }
 
-// Message m of so many slots.
-pub fn nth(lens: &[u16; TABLE_WORDS], slots: usize, m: usize) -> MessageSlot
+// Message m of so many slots, if there are so many messages.
+pub fn nth(lens: &[u16; TABLE_WORDS], slots: usize, m: usize) -> Option<MessageSlot>
     requires { Sheet lens.now slots }
-    ensures { (f : ℕ → Message) → Lengths f slots lens.now → m < length (messages_of f slots) → Found f slots m result }
+    ensures { (f : ℕ → Message) → Lengths f slots lens.now → m < length (messages_of f slots) → IsSomeAnd result (Found f slots m) }
 {
-    let mut slot = 0;
     let mut number = 0;
     let mut offset = 0;
-    while slot < slots {
-        let w = base::half_index(lens[slot]);
-        if w != 0 {
+    for (slot, &length) in lens[..slots].iter().enumerate() {
+        let words = length as usize;
+        if words != 0 {
             if number == m {
-                return MessageSlot {
-                    slot: slot,
-                    number: m,
-                    offset: offset,
-                    words: w,
-                };
+                return Some(MessageSlot {
+                    slot,
+                    number,
+                    offset,
+                    words,
+                });
             }
             number += 1;
         }
-        offset += w;
-        slot += 1;
+        offset += words;
     }
-    MessageSlot {
-        slot: 0,
-        number: 0,
-        offset: 0,
-        words: 0,
-    }
+    None
 }

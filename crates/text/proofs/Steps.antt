@@ -1,17 +1,17 @@
 -- What the writers' proofs cite: each step of the code over plain variables.
-use Prim.Native.Nat.{ℕ, zero, suc, ◌+◌, ◌-◌, ◌/◌, ◌%◌, ◌≤◌, ◌<◌}
+use Prim.Native.Nat.{ℕ, zero, suc, ◌+◌, ◌/◌, ◌%◌, ◌≤◌, ◌<◌}
 use mathlib.Core.Path.{◌≡◌, refl, sym, ap, ◌∙◌}
 use mathlib.Core.List.{List, [], ◌∷◌, ◌++◌}
 use native.Mathlib.Omega.{arith}
 use native.Mathlib.Numerals.{add-one}
-use lib.IntN.{ℤ, pos, negsuc, ◌-ℤ◌, nat_abs}
+use lib.IntN.{ℤ, pos, negsuc, nat_abs}
 use lib.Signed.{lt_z, non_neg, nat_abs-le}
 use lib.Dec.{T, lit<}
 use mathlib.Core.Bool.{Bool, true, false, true≢false}
 use mir.Syntax.{w32}
 use mir.Val.{Fits, SFits, to_z, of_z}
 use mir.ValLaws.{to_z-of_z}
-use borrow.Author.Tests.{ltb-true, le-ltb}
+use borrow.Author.Tests.{ltb-true}
 use native.Mathlib.Nat.{lt_of_le_of_lt}
 use lib.ListN.{length, get_or, drop, length-append}
 use lib.Seq.{drop-cons, drop-nil}
@@ -45,35 +45,6 @@ module _ (n : ℕ) (h : 10 ≤ n) (p : ℕ) (r : p + length (decimal n) ≤ most
 
     pub last_done : (u : Pen) → u ≡ write (pen q t) ((48 + n % 10) ∷ []) → u ≡ write (pen p s) (decimal n)
     last_done u f = rw (decimal_more n h) (next (pen q t) (pen p s) u (decimal (n / 10)) ((48 + n % 10) ∷ []) e f)
-
--- ---- numbers of either sign
-
-module _ (z : ℤ) (f : SFits w32 z) (neg : lt_z z (pos 0) ≡ true) where
-  less : (y : ℤ) → SFits w32 y → lt_z y (pos 0) ≡ true → negsuc 0 -ℤ y ≡ pos (nat_abs y - 1)
-  less (pos n) g e = absurd (omega (arith, ltb-true n 0 e))
-  less (negsuc n) g e = rw (le-ltb (suc n) 1 (omega arith))
-
-  size_small : (y : ℤ) → SFits w32 y → lt_z y (pos 0) ≡ true → (nat_abs y ≤ 2147483648) × (0 < nat_abs y)
-  size_small (pos n) g e = absurd (omega (arith, ltb-true n 0 e))
-  size_small (negsuc n) g e = (omega (arith, g.sfits), omega arith)
-
-  pub minus : negsuc 0 -ℤ to_z w32 (of_z w32 z) ≡ pos (nat_abs z - 1)
-  minus = rw (to_z-of_z w32 z f) (less z f neg)
-
-  pub minus_fits : SFits w32 (negsuc 0 -ℤ to_z w32 (of_z w32 z))
-  minus_fits = rw minus (record { sfits = omega (arith, (size_small z f neg).0) })
-
-  pub minus_read : to_z w32 (of_z w32 (negsuc 0 -ℤ to_z w32 (of_z w32 z))) ≡ pos (nat_abs z - 1)
-  minus_read = to_z-of_z w32 _ minus_fits ∙ minus
-
-  pub minus_cast : T (non_neg (to_z w32 (of_z w32 (negsuc 0 -ℤ to_z w32 (of_z w32 z))))) × Fits w32 (nat_abs (to_z w32 (of_z w32 (negsuc 0 -ℤ to_z w32 (of_z w32 z)))))
-  minus_cast = rw minus_read (tt, record { fits = omega (arith, (size_small z f neg).0) })
-
-  pub minus_add : Fits w32 (nat_abs (to_z w32 (of_z w32 (negsuc 0 -ℤ to_z w32 (of_z w32 z)))) + 1)
-  minus_add = rw minus_read (record { fits = omega (arith, (size_small z f neg).0) })
-
-  pub minus_done : nat_abs (to_z w32 (of_z w32 (negsuc 0 -ℤ to_z w32 (of_z w32 z)))) + 1 ≡ nat_abs z
-  minus_done = rw minus_read (omega (arith, (size_small z f neg).1))
 
 -- ---- loops: what is left to write at the place gives what the whole gives at the start
 

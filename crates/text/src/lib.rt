@@ -2,8 +2,7 @@
 // and not written, so that a text written to a space of one byte tells its length alone.
 #![tactic(auto)]
 
-ghost use Rattle.std.specs.Prelude.{◌≡◌, true, [], ◌∷◌, ◌+◌, ◌≤◌, length, pos, nat_abs};
-ghost use Rattle.std.specs.Int.Signed.{lt_z};
+ghost use Rattle.std.specs.Prelude.{◌≡◌, [], ◌∷◌, ◌+◌, ◌≤◌, length};
 ghost use Rattle.text.specs.Decimal.{decimal, signed};
 ghost use Rattle.text.specs.Writing.{pen, write};
 
@@ -14,7 +13,6 @@ pub fn put(space: &mut [u8], at: usize, byte: u8) -> usize
 {
     if at < space.len() {
         space[at] = byte;
-        return at + 1;
     }
     at + 1
 }
@@ -25,10 +23,8 @@ pub fn put_bytes(space: &mut [u8], at: usize, bytes: &[u8]) -> usize
     ensures { pen result space.new ≡ write (pen at space.old) bytes.now }
 {
     let mut place = at;
-    let mut i = 0;
-    while i < bytes.len() {
-        place = put(space, place, bytes[i]);
-        i += 1;
+    for &byte in bytes {
+        place = put(space, place, byte);
     }
     place
 }
@@ -39,18 +35,10 @@ pub fn put_decimal(space: &mut [u8], at: usize, n: u32) -> usize
     ensures { pen result space.new ≡ write (pen at space.old) (decimal n) }
 {
     if n < 10 {
-        return put(space, at, 48 + n as u8);
+        return put(space, at, b'0' + n as u8);
     }
     let next = put_decimal(space, at, n / 10);
-    put(space, next, 48 + (n % 10) as u8)
-}
-
-// How far a number below 0 is from 0.
-fn magnitude(z: i32) -> u32
-    requires { lt_z z (pos 0) ≡ true }
-    ensures { result ≡ nat_abs z }
-{
-    (-1 - z) as u32 + 1
+    put(space, next, b'0' + (n % 10) as u8)
 }
 
 // A number of either sign.
@@ -59,9 +47,8 @@ pub fn put_signed(space: &mut [u8], at: usize, z: i32) -> usize
     ensures { pen result space.new ≡ write (pen at space.old) (signed z) }
 {
     if z < 0 {
-        let size = magnitude(z);
-        let next = put(space, at, 45);
-        return put_decimal(space, next, size);
+        let next = put(space, at, b'-');
+        return put_decimal(space, next, z.unsigned_abs());
     }
     put_decimal(space, at, z as u32)
 }

@@ -4,7 +4,6 @@ use mathlib.Core.Path.{refl, sym, ap, ◌∙◌}
 use mathlib.Core.Logic.{inl, inr}
 use mathlib.Core.List.{append_assoc, append-nil}
 use native.Mathlib.Nat.{eq-or-lt_of_le, le_of_suc-le-suc}
-use native.Mathlib.Decide.{ℕ_discrete}
 use native.Mathlib.Numerals.{add-one}
 use native.Mathlib.Omega.{arith}
 use lib.ListN.{length-append, drop_of_length-le}
@@ -14,22 +13,15 @@ use Rattle.base.specs.Lists.{sublist, put}
 use Rattle.base.proofs.Lists.{part_left, part_right, length_put}
 use Rattle.machine.specs.Plan.{Plan, Message, count, offset}
 use Rattle.nest.specs.declared.Nest.{Nest}
-use Rattle.nest.specs.Shape.{tiles}
 use Rattle.plan.specs.declared.Route.{Route}
-use Rattle.plan.specs.declared.Route.TheVariants.{Direct}
-use Rattle.plan.specs.Messages.{slots, slot_message, messages_of, messages_to, box_plan}
-use Rattle.plan.specs.Shaped.{shaped_message, shaped_slots, plan_of}
-use Rattle.plan.proofs.ShapedBox.{plan_of_box}
-use Rattle.layout.specs.declared.Sizes.{Sizes}
-use Rattle.layout.specs.Sizes.{Sized}
-use Rattle.tables.specs.declared.scans.MessageSlot.{MessageSlot}
-use Rattle.tables.specs.scans.Scans.{Sheet, Lengths, Summing, Found}
+use Rattle.plan.specs.Messages.{messages_of}
+use Rattle.plan.specs.Shaped.{plan_of}
+use Rattle.tables.specs.declared.Table.{Table}
+use Rattle.tables.specs.Given.{plan_of_table}
+use Rattle.tables.specs.scans.Scans.{Lengths, Summing}
 use Rattle.tables.proofs.scans.Laws as scans
-use Rattle.tables.specs.boxes.Table.{FoundAt}
-use Rattle.tables.proofs.boxes.Scans as boxes
-use Rattle.tables.proofs.shaped_table.Laws as shapes
-use Rattle.tables.specs.Tables.{Tabled, FoundIn}
-use Rattle.tables.proofs.Laws as tables
+use Rattle.tables.specs.Tables.{FoundIn}
+use Rattle.tables.proofs.Slotted.{Slotted, slotted}
 use Rattle.summary.specs.declared.MessageLine.{MessageLine}
 use Rattle.summary.specs.Summary.{line_of}
 use Rattle.stages.proofs.Parts.{back, mid_length}
@@ -124,90 +116,10 @@ module _ (p : Plan) (old : List ℕ) where
       g.is ∙ ap (λ (k : ℕ). rows_to p k ++ drop (6 * k) old) e
       ∙ ap (λ (z : List ℕ). rows_to p (count p) ++ z) (drop_of_length-le old short) ∙ append-nil (rows_to p (count p))
 
--- ---- the slots of the table, box or shape: what each holds, and that a message found among them is found in the plan
+-- ---- the pass over the slots of the table
 
-pub record Slotted (r : Route) (x : Nest) (lens : List ℕ) (n : ℕ) : Type 0 where
-  pub slot : ℕ → Message
-  pub sheet : Sheet lens n
-  pub lengths : Lengths slot n lens
-  pub counts : count (plan_of r x) ≡ length (messages_of slot n)
-  pub found : (m : ℕ) (p : MessageSlot) → ((f : ℕ → Message) → Lengths f n lens → Found f n m p) → FoundIn r x m p
-
-module _ (x : Nest) (z : Sizes) (s : Sized x z) (lens : List ℕ) (t : Tabled x z lens) (k : ℕ) (is : k ≡ (plan_of z.route x).tiles) where
-  module _ (e : x.bounds ≡ 0) where
-    abbrev r : Route
-    r = z.route
-
-    slots_are : k * z.ways ≡ slots r x
-    slots_are = rw (is ∙ ap (λ (p : Plan). p.tiles) (plan_of_box r x s.accepted e), s.ways) refl
-
-    found_at : (m : ℕ) (p : MessageSlot) → Found (slot_message r x) (slots r x) m p → FoundAt r x m p
-    unfolding messages_to
-    found_at m p f =
-        record {
-          number = f.number;
-          low = f.low;
-          offset = f.offset;
-          slot = f.slot;
-          is = f.is;
-          words = f.words;
-          full = f.full;
-          room = f.room;
-        }
-
-    counts_are : count (box_plan r x) ≡ length (messages_of (slot_message r x) (slots r x))
-    unfolding messages_to
-    counts_are = refl
-
-    box_slotted : Slotted r x lens (k * z.ways)
-    box_slotted =
-        let b = t.box e in
-        rw slots_are (record {
-          slot = slot_message r x;
-          sheet = record {
-            long = b.long;
-            few = boxes.slots_few r x s.accepted e;
-            short = λ i h. rw (b.each i h) (boxes.parcel_few r x s.accepted i);
-          };
-          lengths = record { each = b.each };
-          counts = ap (λ (p : Plan). count p) (plan_of_box r x s.accepted e) ∙ counts_are;
-          found = λ m p f. tables.box_found x s.accepted r e m m p refl (found_at m p (f (slot_message r x) (record { each = b.each })));
-        })
-
-  module _ (n : x.bounds ≢ 0) where
-    direct : z.route ≡ Direct
-    direct = t.routed n
-
-    tiles_are : k ≡ tiles x
-    tiles_are = is ∙ ap (λ (q : Route). (plan_of q x).tiles) direct
-
-    shape_slots : k * z.ways ≡ shaped_slots x
-    shape_slots = tables.slots_are x s.accepted z.route n direct k z.ways tiles_are s.ways
-
-    of_shape : Lengths (shaped_message x) (k * z.ways) lens
-    of_shape = shapes.lengths x s.accepted lens (t.shape n) (k * z.ways) (omega (arith, shape_slots))
-
-    shape_counts : count (plan_of z.route x) ≡ length (messages_of (shaped_message x) (k * z.ways))
-    shape_counts = ap (λ (q : Route). count (plan_of q x)) direct ∙ ap (λ (i : ℕ). length (messages_of (shaped_message x) i)) (sym shape_slots)
-
-    shape_slotted : Slotted z.route x lens (k * z.ways)
-    shape_slotted =
-        record {
-          slot = shaped_message x;
-          sheet = shapes.sheet x s.accepted lens (t.shape n) (k * z.ways) (omega (arith, shape_slots));
-          lengths = of_shape;
-          counts = shape_counts;
-          found = λ m p f.
-              tables.shape_nth x s.accepted z.route n direct k z.ways tiles_are s.ways lens (t.shape n) m p
-              (omega (arith, (f (shaped_message x) of_shape).low, shape_counts)) (λ g i l. f g i);
-        }
-
-  pub slotted : Slotted z.route x lens (k * z.ways)
-  slotted = go (ℕ_discrete x.bounds 0)
-    where
-      go : Dec (x.bounds ≡ 0) → Slotted z.route x lens (k * z.ways)
-      go (yes e) = box_slotted e
-      go (no n) = shape_slotted n
+pub slots_of : (t : Table) (k : ℕ) → k ≡ (plan_of_table t).tiles → Slotted t.layout.sizes.route t.layout.nest t.lens (k * t.layout.sizes.ways)
+slots_of t k is = slotted t.layout.nest t.layout.sizes t.layout.sized t.lens t.tabled k is
 
 -- the slots before `slot` are passed: so many messages with so many words, and their rows are told
 pub record Passing (r : Route) (x : Nest) (lens : List ℕ) (n : ℕ) (old new : List ℕ) (s m o : ℕ) : Type 0 where
@@ -225,7 +137,7 @@ module _ (r : Route) (x : Nest) (lens : List ℕ) (n : ℕ) (old : List ℕ) whe
   module _ (new : List ℕ) (s m o : ℕ) (g : Passing r x lens n old new s m o) (t : Slotted r x lens n) where
     module _ (l : s < n) (w : ℕ) (e : w ≡ get_or lens s 0) where
       pub here : w ≢ 0 → FoundIn r x m (record { slot = s; number = m; offset = o; words = w })
-      here h = t.found m _ (λ f i. scans.found f n s m o w (g.sums f i) l (e ∙ i.each s l) (scans.positive w h))
+      here h = t.found m _ (scans.found t.slot n s m o w (g.sums t.slot t.lengths) l (e ∙ t.lengths.each s l) (scans.positive w h))
 
       pub pass_next : (new' : List ℕ) (m' : ℕ) → length old ≡ 6 * count (plan_of r x)
           → ((w ≢ 0) × ((new' ≡ put new (6 * m) (row_of (plan_of r x) m)) × (m' ≡ m + 1))) ⊎ ((w ≡ 0) × ((new' ≡ new) × (m' ≡ m)))
@@ -251,4 +163,4 @@ module _ (r : Route) (x : Nest) (lens : List ℕ) (n : ℕ) (old : List ℕ) whe
     pass_done h k =
         let z : s ≡ n = omega (arith, g.low) in
         tell_done (plan_of r x) old new m h
-        ((g.sums t.slot t.lengths).number ∙ ap (λ (i : ℕ). length (messages_of t.slot i)) z ∙ sym t.counts) g.told
+        ((g.sums t.slot t.lengths).number ∙ ap (λ (i : ℕ). length (messages_of t.slot i)) z ∙ sym (ap length t.all)) g.told

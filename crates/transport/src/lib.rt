@@ -3,6 +3,7 @@
 #![tactic(auto)]
 
 ghost use Rattle.std.specs.Prelude.{◌≡◌, []};
+ghost use Rattle.base.specs.Refusals.{number_of};
 ghost use Rattle.machine.specs.Machine.{state_of};
 ghost use Rattle.engine.specs.Calls.{answer};
 ghost use Rattle.transport.specs.Calls.{messages_call, owners_call, waits_of, awaited_call, take_in_call};
@@ -10,53 +11,54 @@ ghost use Rattle.transport.specs.Calls.{messages_call, owners_call, waits_of, aw
 pub mod inner; // inner.rt: the work of the calls, and those that are lent records without their form
 pub mod arrivals; // arrivals.rt: a message at its taker's: its words into their place, and its mark
 
-use base::refusals;
-use layout::sizes_of;
+use base::refusal::{Refusal, number_of};
+use layout::Layout;
 use plan::Route;
 use reader::read;
 use recipe::open;
 use records::flat_of;
-use tables::{TABLE_WORDS, totals};
+
+// The rows of all messages, where `out` has room for them and no more.
+fn list_messages(encoded: &[u8], route: u32, out: &mut [u32]) -> Result<(), Refusal>
+    ensures { answer (number_of result) out.new ≡ messages_call encoded.now route out.old }
+{
+    let table = open(encoded, route)?;
+    let total = table.totals();
+    if out.len() != 6 * total.messages {
+        return Err(Refusal::Area);
+    }
+    inner::put_rows(&table, out);
+    Ok(())
+}
 
 // All messages of the route, six words each: sending tile, taking tile, sending processor, taking processor, words, their place in the buffer.
 pub fn messages(encoded: &[u8], route: u32, out: &mut [u32]) -> u32
     ensures { answer result out.new ≡ messages_call encoded.now route out.old }
 {
-    let mut lens = [0u16; TABLE_WORDS];
-    let opening = open(encoded, route, &mut lens);
-    let number = opening.number;
-    if number != 0 {
-        return number;
+    number_of(&list_messages(encoded, route, out))
+}
+
+// The cells' processors, where `out` has a word for each cell.
+fn list_owners(encoded: &[u8], out: &mut [u32]) -> Result<(), Refusal>
+    ensures { answer (number_of result) out.new ≡ owners_call encoded.now out.old }
+{
+    let nest = read(encoded)?;
+    let layout = Layout::of(nest, Route::Direct);
+    if out.len() != layout.sizes.cells {
+        return Err(Refusal::Area);
     }
-    let nest = opening.nest;
-    let sizes = opening.sizes;
-    let total = totals(nest, sizes, &lens);
-    if out.len() != 6 * total.messages {
-        return refusals::AREA;
-    }
-    inner::put_rows(nest, sizes, &lens, out);
-    0
+    inner::put_owners(&layout, out);
+    Ok(())
 }
 
 // The processor of each cell, the number of processors for one outside the shape.
 pub fn owners(encoded: &[u8], out: &mut [u32]) -> u32
     ensures { answer result out.new ≡ owners_call encoded.now out.old }
 {
-    let reading = read(encoded);
-    let number = reading.number;
-    if number != 0 {
-        return number;
-    }
-    let nest = reading.nest;
-    let sizes = sizes_of(nest, Route::Direct);
-    if out.len() != sizes.cells {
-        return refusals::AREA;
-    }
-    inner::put_owners(nest, sizes, out);
-    0
+    number_of(&list_owners(encoded, out))
 }
 
-// What is told of a processor that waits: the call's number, and its tile, 0 at a refusal.
+// What is told of a processor that waits: the call's number, and its tile, 0 at a refusal. An answer to C, and so no Result.
 #[repr(C)]
 #[derive(Clone, Copy)]
 pub struct Waiting {
@@ -97,7 +99,7 @@ pub fn take_in(
         ≡ take_in_call encoded.now route source.now
         (state_of memories.now buffer.old progress.now status.old) processor message words.now }
 {
-    inner::take_in(
+    number_of(&inner::take_in(
         encoded,
         route,
         source,
@@ -108,5 +110,5 @@ pub fn take_in(
         processor,
         message,
         words,
-    )
+    ))
 }

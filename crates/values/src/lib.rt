@@ -10,7 +10,6 @@ ghost use Rattle.nest.specs.Nest.{cells, box_tiles};
 ghost use Rattle.plan.specs.Geometry.{cells_of, value};
 ghost use Rattle.plan.specs.declared.Route.TheVariants.{Direct};
 ghost use Rattle.plan.specs.Messages.{box_plan};
-ghost use Rattle.layout.specs.Sizes.{Sized};
 ghost use Rattle.layout.specs.Places.{nth};
 ghost use Rattle.nest.specs.declared.Nest.{Nest};
 ghost use Rattle.bands.specs.lagged.Bands.{rows_of};
@@ -20,7 +19,7 @@ ghost use Rattle.values.specs.row_values.Boxes.{Boxed, row_at, RowsGiven};
 use crate::row_values::{
     Body, backs_of, box_fours, box_rows, inner, lasts_of, least_of, margins_of,
 };
-use layout::Sizes;
+use layout::Layout;
 use nest::Nest;
 
 pub mod intervals; // intervals.rt: numbers from one on, below another: where in a row a distance reads
@@ -137,22 +136,22 @@ fn box_values(
 }
 
 // The values of a tile's cells, in index order.
-pub fn calculate(nest: Nest, sizes: Sizes, source: &[u32], memory: &mut [u32], tile: usize)
-    requires { Sized nest sizes × ((tile < box_tiles nest) × ((length source.now ≡ cells nest) × (length memory.old ≡ cells nest))) }
-    ensures { memory.new ≡ store_all (value nest source.now) memory.old (cells_of nest tile) }
+pub fn calculate(layout: &Layout, source: &[u32], memory: &mut [u32], tile: usize)
+    requires { (tile < box_tiles layout.now.nest) × ((length source.now ≡ cells layout.now.nest) × (length memory.old ≡ cells layout.now.nest)) }
+    ensures { memory.new ≡ store_all (value layout.now.nest source.now) memory.old (cells_of layout.now.nest tile) }
 {
-    let bounds = layout::bounds_of(nest, sizes, tile);
+    let bounds = layout.bounds_of(tile);
     let lengths = bounds.lengths;
     let corner = bounds.corner;
-    box_values(nest, source, memory, lengths, corner);
+    box_values(layout.nest, source, memory, lengths, corner);
 }
 
 // The sequential sweep: all cells in index order.
-pub fn sweep(nest: Nest, sizes: Sizes, source: &[u32], grid: &mut [u32])
-    requires { Sized nest sizes × ((length source.now ≡ cells nest) × (length grid.old ≡ cells nest)) }
-    ensures { grid.new ≡ sweep (box_plan Direct nest) source.now }
+pub fn sweep(layout: &Layout, source: &[u32], grid: &mut [u32])
+    requires { (length source.now ≡ cells layout.now.nest) × (length grid.old ≡ cells layout.now.nest) }
+    ensures { grid.new ≡ sweep (box_plan Direct layout.now.nest) source.now }
 {
-    let lengths = nest.lengths;
+    let lengths = layout.nest.lengths;
     let corner = [0; 4];
-    box_values(nest, source, grid, lengths, corner);
+    box_values(layout.nest, source, grid, lengths, corner);
 }

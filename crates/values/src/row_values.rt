@@ -35,7 +35,7 @@ fn back_of(nest: Nest, components: &[usize; 32], e: usize) -> usize
     let n = nest.dimensions;
     let mut back = 0;
     for j in 0..n {
-        let d = base::least(components[4 * e + j], lengths[j]);
+        let d = components[4 * e + j].min(lengths[j]);
         back = back * lengths[j] + d;
     }
     back
@@ -125,9 +125,8 @@ pub fn least_of(nest: Nest, back: &[usize; 8]) -> usize
     requires { Accepted nest }
 {
     let mut least = 16384;
-    let n = nest.distances;
-    for e in 0..n {
-        least = base::least(least, back[e]);
+    for e in 0..nest.distances {
+        least = least.min(back[e]);
     }
     least
 }
@@ -140,7 +139,7 @@ fn margin_of(nest: Nest, components: &[usize; 32], j: usize) -> usize
     let mut most = 0;
     let n = nest.distances;
     for e in 0..n {
-        most = base::greater(most, components[4 * e + j]);
+        most = most.max(components[4 * e + j]);
     }
     most
 }
@@ -271,7 +270,7 @@ pub fn box_rows(
     let last = n - 1;
     let width = lengths[last];
     for r in first..end {
-        let number = layout::rank_of(grid, at, n);
+        let number = layout::rank(*grid, *at, n);
         row(
             body, source, memory, components, lasts, back, weights, margin, at, number, width,
         );
@@ -329,7 +328,7 @@ fn four_rows(
         return;
     }
     let stride = grid[last];
-    let a = layout::rank_of(grid, at, n);
+    let a = layout::rank(*grid, *at, n);
     let b = a + stride;
     let c = b + stride;
     side_by_side(

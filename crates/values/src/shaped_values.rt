@@ -11,7 +11,6 @@ ghost use Rattle.nest.specs.Nest.{length_of, component, cells, processors, box_t
 ghost use Rattle.nest.specs.Spans.{last, Narrow};
 ghost use Rattle.plan.specs.declared.Route.TheVariants.{Direct};
 ghost use Rattle.plan.specs.Shaped.{plan_of, shaped_cells, shaped_value};
-ghost use Rattle.layout.specs.Sizes.{Sized};
 ghost use Rattle.layout.specs.Places.{Located};
 ghost use Rattle.layout.specs.CellRows.{Given, row_of};
 ghost use Rattle.values.specs.row_values.Reads.{Backs};
@@ -19,7 +18,7 @@ ghost use Rattle.values.specs.shaped_values.Rows.{inside_only, held_word, betwee
 
 use crate::row_values::Body;
 use kernels::{closed, word_of};
-use layout::{Cell, Sizes};
+use layout::{Cell, Layout};
 use nest::{Interval, Nest};
 
 // Where each distance reads in a row: last components from one number on, below another.
@@ -176,10 +175,7 @@ pub fn reads_of(nest: Nest, components: &[usize; 32], at: [usize; 4]) -> Reads
         firsts[e] = run.from;
         ends[e] = run.to;
     }
-    Reads {
-        firsts: firsts,
-        ends: ends,
-    }
+    Reads { firsts, ends }
 }
 
 // What an interval has of `width` components from `first` on.
@@ -187,7 +183,7 @@ pub fn overlap(s: Interval, first: usize, width: usize) -> Interval
     requires { first + width ≤ 1024 }
     ensures { Overlaps s first width result }
 {
-    let end = base::least(s.to, first + width);
+    let end = s.to.min(first + width);
     if end <= first {
         return Interval {
             from: first,
@@ -262,22 +258,22 @@ fn row(
 // ---- a tile, and the sweep
 
 // The values of the cells of the shape in a tile of the box, in index order, row by row.
-pub fn calculate(nest: Nest, sizes: Sizes, source: &[u32], memory: &mut [u32], tile: usize)
-    requires { Sized nest sizes × ((tile < box_tiles nest) × ((length source.now ≡ cells nest) × (length memory.old ≡ cells nest))) }
-    ensures { memory.new ≡ store_all (shaped_value nest source.now) memory.old (shaped_cells nest tile) }
+pub fn calculate(layout: &Layout, source: &[u32], memory: &mut [u32], tile: usize)
+    requires { (tile < box_tiles layout.now.nest) × ((length source.now ≡ cells layout.now.nest) × (length memory.old ≡ cells layout.now.nest)) }
+    ensures { memory.new ≡ store_all (shaped_value layout.now.nest source.now) memory.old (shaped_cells layout.now.nest tile) }
 {
-    let bounds = layout::bounds_of(nest, sizes, tile);
-    let components = nest.components;
-    let weights = nest.weights;
-    let back = crate::row_values::backs_of(nest, &components);
-    let last = nest.dimensions - 1;
+    let bounds = layout.bounds_of(tile);
+    let components = layout.nest.components;
+    let weights = layout.nest.weights;
+    let back = crate::row_values::backs_of(layout.nest, &components);
+    let last = layout.nest.dimensions - 1;
     let lengths = bounds.lengths;
     let rows = layout::product(lengths, last);
     let width = lengths[last];
     for r in 0..rows {
-        let cell = layout::cell_in(nest, bounds, r * width);
+        let cell = layout.cell_in(bounds, r * width);
         row(
-            nest,
+            layout.nest,
             source,
             memory,
             &components,
@@ -310,21 +306,21 @@ fn row_cell(nest: Nest, q: usize, width: usize) -> Cell
 }
 
 // The sequential sweep: cells of the shape in index order, row by row; the others are the boundary's.
-pub fn sweep(nest: Nest, sizes: Sizes, source: &[u32], grid: &mut [u32])
-    requires { Sized nest sizes × ((length source.now ≡ cells nest) × (length grid.old ≡ cells nest)) }
-    ensures { grid.new ≡ sweep (plan_of Direct nest) source.now }
+pub fn sweep(layout: &Layout, source: &[u32], grid: &mut [u32])
+    requires { (length source.now ≡ cells layout.now.nest) × (length grid.old ≡ cells layout.now.nest) }
+    ensures { grid.new ≡ sweep (plan_of Direct layout.now.nest) source.now }
 {
-    base::fill_words(grid, boundary_of(nest));
-    let components = nest.components;
-    let weights = nest.weights;
-    let back = crate::row_values::backs_of(nest, &components);
-    let lengths = nest.lengths;
-    let width = lengths[nest.dimensions - 1];
-    let rows = nest::row_count(nest);
+    grid.fill(boundary_of(layout.nest));
+    let components = layout.nest.components;
+    let weights = layout.nest.weights;
+    let back = crate::row_values::backs_of(layout.nest, &components);
+    let lengths = layout.nest.lengths;
+    let width = lengths[layout.nest.dimensions - 1];
+    let rows = nest::row_count(layout.nest);
     for q in 0..rows {
-        let cell = row_cell(nest, q, width);
+        let cell = row_cell(layout.nest, q, width);
         row(
-            nest,
+            layout.nest,
             source,
             grid,
             &components,
@@ -339,38 +335,38 @@ pub fn sweep(nest: Nest, sizes: Sizes, source: &[u32], grid: &mut [u32])
 // ---- collecting
 
 // The cells of a row of the nest that are in the shape, from the memory of their processor: the last dimension is not spread.
-fn copy_row(nest: Nest, sizes: Sizes, memories: &[u32], grid: &mut [u32], cell: Cell, width: usize)
-    requires sized { Sized nest sizes × ((length memories.now ≡ processors nest * cells nest) × (length grid.old ≡ cells nest)) }
-    requires located { Located nest cell.number cell × ((get_or cell.place (last nest) 0 ≡ 0) × (width ≡ length_of nest (last nest))) }
-    ensures { grid.new ≡ store_all (inside_only nest (held_word nest memories.now)) grid.old
+fn copy_row(layout: &Layout, memories: &[u32], grid: &mut [u32], cell: Cell, width: usize)
+    requires sized { (length memories.now ≡ processors layout.now.nest * cells layout.now.nest) × (length grid.old ≡ cells layout.now.nest) }
+    requires located { Located layout.now.nest cell.number cell × ((get_or cell.place (last layout.now.nest) 0 ≡ 0) × (width ≡ length_of layout.now.nest (last layout.now.nest))) }
+    ensures { grid.new ≡ store_all (inside_only layout.now.nest (held_word layout.now.nest memories.now)) grid.old
         (row_of cell.number width) }
 {
     let at = cell.place;
-    let own = nest::span(nest, at);
+    let own = nest::span(layout.nest, at);
     let kept = overlap(own, 0, width);
-    let tile = layout::tile_of(nest, sizes, cell.number);
-    let processor = layout::processor_of(nest, sizes, tile);
+    let tile = layout.tile_of(cell.number);
+    let processor = layout.processor_of(tile);
     let first = cell.number + kept.from;
     base::copy_part(
         grid,
         memories,
         first,
-        processor * sizes.cells + first,
+        processor * layout.sizes.cells + first,
         kept.to - kept.from,
     );
 }
 
 // Each cell of the shape from the memory of its tile's processor; the others are the boundary's.
-pub fn copy_cells(nest: Nest, sizes: Sizes, memories: &[u32], grid: &mut [u32])
-    requires { Sized nest sizes × ((length memories.now ≡ processors nest * cells nest) × (length grid.old ≡ cells nest)) }
-    ensures { grid.new ≡ collected (plan_of Direct nest) (state_of memories.now [] [] []) }
+pub fn copy_cells(layout: &Layout, memories: &[u32], grid: &mut [u32])
+    requires { (length memories.now ≡ processors layout.now.nest * cells layout.now.nest) × (length grid.old ≡ cells layout.now.nest) }
+    ensures { grid.new ≡ collected (plan_of Direct layout.now.nest) (state_of memories.now [] [] []) }
 {
-    base::fill_words(grid, boundary_of(nest));
-    let lengths = nest.lengths;
-    let width = lengths[nest.dimensions - 1];
-    let rows = nest::row_count(nest);
+    grid.fill(boundary_of(layout.nest));
+    let lengths = layout.nest.lengths;
+    let width = lengths[layout.nest.dimensions - 1];
+    let rows = nest::row_count(layout.nest);
     for q in 0..rows {
-        let cell = row_cell(nest, q, width);
-        copy_row(nest, sizes, memories, grid, cell, width);
+        let cell = row_cell(layout.nest, q, width);
+        copy_row(layout, memories, grid, cell, width);
     }
 }

@@ -1,7 +1,8 @@
 -- For the proofs alone.
 -- What receiving answers, line by line: a packet opened, whose it is, its chunk put to what came of its message, the whole message taken in.
-use Rattle.std.specs.Prelude.{◌≡◌, ℕ, zero, suc, ◌+◌, ◌-◌, ◌<◌, ◌≤◌, Bool, true, false, eqb, ltb, ◌≢◌, List, [], ◌∷◌, ◌++◌, length, get_or, take, drop, set}
+use Rattle.std.specs.Prelude.{◌≡◌, ℕ, zero, suc, ◌+◌, ◌-◌, ◌<◌, ◌≤◌, Bool, true, false, eqb, ltb, ◌≢◌, List, [], ◌∷◌, ◌++◌, length, get_or, take, drop, set, Result, Ok, Err, IfOk, is_err}
 use mathlib.Core.Path.{refl, sym, ap, ap₂, ◌∙◌, subst}
+use mathlib.Core.Bool.{false≢true}
 use mathlib.Core.Logic.{inl, inr}
 use native.Mathlib.Omega.{arith}
 use borrow.Author.Tests.{eq-eqb, ne_eqb, lt-ltb, le-ltb, eqb-true, ltb-true}
@@ -11,6 +12,8 @@ use lib.Seq.{take_at}
 use Rattle.base.specs.Tests.{◌and◌, not, pick, one}
 use Rattle.base.specs.Lists.{In, Rising, sublist, put}
 use Rattle.base.specs.Numbers.{Line, line, first_of}
+use Rattle.base.specs.Refusals.{code, number_of}
+use Rattle.base.specs.declared.refusal.Refusal.{Refusal}
 use Rattle.base.proofs.Tests.{both, and_true, and_left, and_false, or_right, not-true, not-false, true_not}
 use Rattle.base.proofs.Lists.{part_length, part_put_same}
 use Rattle.base.proofs.Numbers.{Numbered, first_nil, first_true, first_false, first_some, first_behind, none_first}
@@ -23,11 +26,16 @@ use Rattle.nest.specs.Nest.{cells}
 use Rattle.plan.specs.declared.Route.{Route}
 use Rattle.plan.specs.Shaped.{plan_of}
 use Rattle.plan.proofs.ShapedSound.{sound}
+use Rattle.layout.specs.declared.Layout.{Layout}
 use Rattle.layout.specs.declared.Sizes.{Sizes}
+use Rattle.layout.specs.Laid.{plan_of_layout}
 use Rattle.layout.specs.Sizes.{Sized}
 use Rattle.layout.specs.RouteWords.{route_of}
+use Rattle.recipe.specs.Given.{LaidOut}
 use Rattle.recipe.specs.Routes.{lines_for}
 use Rattle.recipe.proofs.Laws.{numbered_for}
+use Rattle.tables.specs.declared.Table.{Table}
+use Rattle.tables.specs.Given.{plan_of_table}
 use Rattle.tables.specs.declared.scans.MessageSlot.{MessageSlot}
 use Rattle.tables.specs.Tables.{FoundIn}
 use Rattle.summary.specs.declared.MessageLine.{MessageLine}
@@ -46,19 +54,19 @@ use Rattle.packets.specs.Fingerprint.{fingerprint_of}
 use Rattle.packets.specs.Packet.{count_of, header_of, words_of, damaged, stale, decode_lines}
 use Rattle.packets.specs.Calls.{Read, read_of, read_by, read_lines, read_call}
 use Rattle.packets.specs.Cut.{Chunk, chunk_of, Assembly, assembly, complete, fits, take_lines, Taking, taking_by, taking_of, take_chunk_call}
+use Rattle.base.proofs.Codes.{code_some}
 use Rattle.packets.proofs.Answers.{whole_is}
 use Rattle.packets.proofs.Assembling.{no_line, no_lines}
 use Rattle.packets.proofs.RoundTrip.{words_long}
-use Rattle.wire.specs.declared.inbox.Received as declared
 use Rattle.wire.specs.Wire.{Inbox, inbox_of, came_of, with_came, inbox_fits, address_lines, Received, received_as, came_now, came_with, taken_packet}
 use Rattle.wire.specs.Wire.{receive_call}
-use Rattle.wire.specs.Given.{OpenedAs, MayReceive, taken_or}
+use Rattle.wire.specs.Given.{ReadAs, MayReceive, taken_or}
 
 -- ---- lengths
 
 pub fits_no : (p : Plan) (parts masks w n : ℕ) → w ≡ words p → n ≡ count p → (parts ≡ w → ⊥)
-    → false ≡ (eqb parts (words p) and eqb masks (count p))
-fits_no p parts masks w n ew en h = sym (and_false _ _ (ne_eqb parts (words p) (λ q. h (q ∙ sym ew))))
+    → eqb parts w ≡ (eqb parts (words p) and eqb masks (count p))
+fits_no p parts masks w n ew en h = ne_eqb parts w h ∙ sym (and_false _ _ (ne_eqb parts (words p) (λ q. h (q ∙ sym ew))))
 
 pub fits_by : (p : Plan) (parts masks w n : ℕ) → w ≡ words p → n ≡ count p → parts ≡ w
     → eqb masks n ≡ (eqb parts (words p) and eqb masks (count p))
@@ -100,32 +108,48 @@ pub read_number : (k : ℕ) (p ws : List ℕ) → (read_by k p ws).number ≡ k
 read_number zero p ws = refl
 read_number (suc k) p ws = refl
 
-pub opened : (f g n : ℕ) (q ws out : List ℕ) (r : Reading) → f ≡ g → length ws ≡ 285 → read_of r out ≡ read_call f n q ws → OpenedAs g n q r out
+told_number : (r : Result Reading Refusal) (out : List ℕ) → number_of r ≡ (read_of r out).number
+told_number (Ok x) out = refl
+told_number (Err y) out = refl
+
+pub opened_number : (f g n : ℕ) (q ws out : List ℕ) (r : Result Reading Refusal) → f ≡ g → length ws ≡ 285 → read_of r out ≡ read_call f n q ws
+    → number_of r ≡ first_of (decode_lines g n q)
 unfolding read_call
-opened f g n q ws out r ef long e =
+opened_number f g n q ws out r ef long e =
+    told_number r out ∙ ap (λ (x : Read). x.number) e ∙ read_number (first_of (read_lines f n q (length ws))) q ws
+    ∙ ap (λ (k : ℕ). first_of (read_lines f n q k)) long ∙ room_enough f n q
+    ∙ ap (λ (x : ℕ). first_of (decode_lines x n q)) ef
+
+pub opened : (f n : ℕ) (q ws out : List ℕ) (r : Result Reading Refusal) → read_of r out ≡ read_call f n q ws → IfOk r (λ x. ReadAs q x out)
+unfolding read_call
+opened f n q ws out (Err y) e = tt
+opened f n q ws out (Ok x) e =
     record {
-      is = number_is ∙ ap (λ (x : ℕ). first_of (decode_lines x n q)) ef;
-      header_is = λ z. ap (λ (x : Read). x.header) (passed z);
-      words_are = λ z. ap (take r.count) (out_is z) ∙ take_at (words_of q) (drop (count_of q) ws) r.count (sym (count_long z));
-      fits = λ z. omega (arith, count_long z, ap length (out_is z), length-append (words_of q) (drop (count_of q) ws));
+      header_is = ap (λ (x : Read). x.header) passed;
+      words_are = ap (take x.count) out_is ∙ take_at (words_of q) (drop (count_of q) ws) x.count (sym count_long);
+      fits = omega (arith, count_long, ap length out_is, length-append (words_of q) (drop (count_of q) ws));
     }
   where
-    number_is : r.number ≡ first_of (decode_lines f n q)
-    number_is =
-        ap (λ (x : Read). x.number) e ∙ read_number (first_of (read_lines f n q (length ws))) q ws
-        ∙ ap (λ (k : ℕ). first_of (read_lines f n q k)) long ∙ room_enough f n q
+    passed : read_of (Ok x) out ≡ read_by 0 q ws
+    passed =
+        e ∙ ap (λ (k : ℕ). read_by k q ws)
+        (sym (read_number (first_of (read_lines f n q (length ws))) q ws) ∙ sym (ap (λ (x : Read). x.number) e))
 
-    passed : r.number ≡ 0 → read_of r out ≡ read_by 0 q ws
-    passed z =
-        e ∙ ap (λ (k : ℕ). read_by k q ws) (ap (λ (k : ℕ). first_of (read_lines f n q k)) long ∙ room_enough f n q ∙ sym number_is ∙ z)
+    count_long : x.count ≡ length (words_of q)
+    count_long = ap (λ (x : Read). x.count) passed ∙ sym (words_long q)
 
-    count_long : r.number ≡ 0 → r.count ≡ length (words_of q)
-    count_long z = ap (λ (x : Read). x.count) (passed z) ∙ sym (words_long q)
-
-    out_is : r.number ≡ 0 → out ≡ words_of q ++ drop (count_of q) ws
-    out_is z = ap (λ (x : Read). x.words) (passed z)
+    out_is : out ≡ words_of q ++ drop (count_of q) ws
+    out_is = ap (λ (x : Read). x.words) passed
 
 -- ---- whose it is
+
+pub some_err : {A : Type 0} (r : Result A Refusal) → is_err r ≡ true → number_of r ≢ 0
+some_err (Ok x) e = absurd (false≢true e)
+some_err (Err y) e = code_some y
+
+pub no_err : {A : Type 0} (r : Result A Refusal) → is_err r ≡ false → number_of r ≡ 0
+no_err (Ok x) e = refl
+no_err (Err y) e = absurd (false≢true (sym e))
 
 module _ (p : Plan) (status : List ℕ) (b : ℕ) (h : Header) (ws : List ℕ) where
   abbrev chunk : Chunk
@@ -229,17 +253,10 @@ addressed p status b h ws z =
 
 -- ---- its chunk
 
--- a refusal tells 0
-pub told_no : (r : declared.Received) (j : ℕ) (i : Inbox) (s : State) → (r.number ≡ j) × ((r.whole ≡ 0) × (r.message ≡ 0))
-    → answer r.number (received_as r.whole r.message i s) ≡ answer j (received_as 0 0 i s)
-told_no r j i s is = rw (is.0, is.1.0, is.1.1)
-
 module _ (p : Plan) (s : State) (b : ℕ) (h : Header) (ws : List ℕ) (i : Inbox) where
-  pub took_none : (r : declared.Received) (j : ℕ) → (r.number ≡ j) × ((r.whole ≡ 0) × (r.message ≡ 0)) → j ≡ first_of (address_lines p s.status b h ws)
-      → j ≢ 0 → answer r.number (received_as r.whole r.message i s) ≡ taken_or p s b h ws i
-  took_none r j is e n =
-      told_no r j i s is
-      ∙ answered_no j (taken_packet p s i h ws) (received_as 0 0 i s) n
+  pub took_none : (j : ℕ) → j ≡ first_of (address_lines p s.status b h ws) → j ≢ 0 → answer j (received_as 0 0 i s) ≡ taken_or p s b h ws i
+  took_none j e n =
+      answered_no j (taken_packet p s i h ws) (received_as 0 0 i s) n
       ∙ ap (λ (x : ℕ). answered x (taken_packet p s i h ws) (received_as 0 0 i s)) e
 
   took_all : first_of (address_lines p s.status b h ws) ≡ 0 → (x : Received) → x ≡ taken_packet p s i h ws → answer 0 x ≡ taken_or p s b h ws i
@@ -327,7 +344,7 @@ module _ (r : Route) (x : Nest) (z : Sizes) (sized : Sized x z) (same : z.route 
     inbox_is = ap₂ inbox_of parts_are masks_are
 
     pub took_part : t.whole ≡ 0
-        → answer 0 (received_as 0 h.item (inbox_of (put_mid at.offset (at.offset + at.words - at.offset) i.parts ys) (set i.masks m t.mask)) s)
+        → answer 0 (received_as (one false) h.item (inbox_of (put_mid at.offset (at.offset + at.words - at.offset) i.parts ys) (set i.masks m t.mask)) s)
         ≡ taken_or p s b h ws i
     unfolding taken_packet came_now one pick
     took_part w =
@@ -368,13 +385,20 @@ module _ (r : Route) (x : Nest) (z : Sizes) (sized : Sized x z) (same : z.route 
         first_false 11 _ _ (not-true (and_true (lt-ltb m (count p) low) (eq-eqb _ _ (ap (taker_at p) em ∙ known.here))))
         ∙ first_false 14 _ _ (not-true (eq-eqb _ _ (ap (λ (k : ℕ). get_or s.status k 0) em ∙ known.free))) ∙ first_nil
 
-    pub took_whole : t.whole ≢ 0 → (last : ℕ) (after : State)
-        → answer last after ≡ received_or p s b m
+    -- so it is never refused
+    pub took_refused : (e : Refusal) (after : State)
+        → answer (code e) after ≡ received_or p s b m
         (take (at.offset + at.words - at.offset) (drop at.offset (put_mid at.offset (at.offset + at.words - at.offset) i.parts ys)))
-        → answer last (received_as 1 h.item (inbox_of (put_mid at.offset (at.offset + at.words - at.offset) i.parts ys) (set i.masks m t.mask))
+        → ⊥
+    took_refused e after g = code_some e (ap (λ (k : Answered State). k.number) g ∙ no_lines_left)
+
+    pub took_whole : t.whole ≢ 0 → (after : State)
+        → answer 0 after ≡ received_or p s b m
+        (take (at.offset + at.words - at.offset) (drop at.offset (put_mid at.offset (at.offset + at.words - at.offset) i.parts ys)))
+        → answer 0 (received_as (one true) h.item (inbox_of (put_mid at.offset (at.offset + at.words - at.offset) i.parts ys) (set i.masks m t.mask))
         after) ≡ taken_or p s b h ws i
     unfolding taken_packet came_now one pick
-    took_whole w last after g =
+    took_whole w after g =
         ap (λ (k : Answered State). answer k.number (received_as 1 h.item inbox k.after))
         (g ∙ sym (answered_yes _ (received p s m message) s no_lines_left)
         ∙ ap₂ (λ (k : ℕ) (l : List ℕ). answer 0 (received p s k l)) em message_is)
@@ -393,6 +417,10 @@ module _ (r : Route) (x : Nest) (z : Sizes) (sized : Sized x z) (same : z.route 
 
 -- ---- the call
 
+-- opened too with its table
+pub opened_with : {bytes : List ℕ} {word : ℕ} {l : Layout} → LaidOut bytes word l → (t : Table) → t.layout ≡ l → Opened bytes word (plan_of_table t)
+opened_with {bytes} {word} o t e = subst (λ (k : Layout). Opened bytes word (plan_of_layout k)) (sym e) o.opened
+
 pub decoded_numbered : (f n : ℕ) (q : List ℕ) → Numbered (decode_lines f n q)
 decoded_numbered f n q = (λ e. omega arith, (λ e. omega arith, tt))
 
@@ -403,11 +431,10 @@ module _ (bytes : List ℕ) (route run : ℕ) (source : List ℕ) (s : State) (b
   abbrev behind : Plan → List Line
   behind p = line 9 (not (inbox_fits p i)) ∷ (unfit_lines p source s ++ address_lines p s.status b (header_of q) (words_of q))
 
-  pub receive_read : (r : declared.Received) (j : ℕ) → (r.number ≡ j) × ((r.whole ≡ 0) × (r.message ≡ 0)) → j ≡ first_of (lines_for (route_of route) bytes)
-      → j ≢ 0 → answer r.number (received_as r.whole r.message i s) ≡ receive_call bytes route run source s b q i
+  pub receive_read : (j : ℕ) → j ≡ first_of (lines_for (route_of route) bytes) → j ≢ 0 → answer j unchanged ≡ receive_call bytes route run source s b q i
   unfolding receive_call
-  receive_read r j is e h =
-      told_no r j i s is ∙ call_read (lines_for (route_of route) bytes) (numbered_for (route_of route) bytes) _ j _ unchanged e h
+  receive_read j e h =
+      call_read (lines_for (route_of route) bytes) (numbered_for (route_of route) bytes) _ j _ unchanged e h
 
   module _ (p : Plan) (o : Opened bytes route p) where
     -- past the recipe's lines
@@ -422,31 +449,28 @@ module _ (bytes : List ℕ) (route run : ℕ) (source : List ℕ) (s : State) (b
         (λ (x : Plan). answered (first_of (lines_for (route_of route) bytes ++ (decode_lines (fingerprint_of bytes route) run q ++ behind x)))
         (taken_packet x s i (header_of q) (words_of q)) unchanged) o.is
 
-    refused_at : (r : declared.Received) (j : ℕ) → (r.number ≡ j) × ((r.whole ≡ 0) × (r.message ≡ 0))
-        → j ≡ first_of (decode_lines (fingerprint_of bytes route) run q ++ behind p) → j ≢ 0
-        → answer r.number (received_as r.whole r.message i s) ≡ receive_call bytes route run source s b q i
-    refused_at r j is e h =
-        told_no r j i s is ∙ answered_no j (taken_packet p s i (header_of q) (words_of q)) unchanged h
+    refused_at : (j : ℕ) → j ≡ first_of (decode_lines (fingerprint_of bytes route) run q ++ behind p) → j ≢ 0
+        → answer j unchanged ≡ receive_call bytes route run source s b q i
+    refused_at j e h =
+        answered_no j (taken_packet p s i (header_of q) (words_of q)) unchanged h
         ∙ ap (λ (k : ℕ). answered k (taken_packet p s i (header_of q) (words_of q)) unchanged) e ∙ receive_at
 
-    module _ (k : Reading) (out : List ℕ) (open' : OpenedAs (fingerprint_of bytes route) run q k out) where
-      pub receive_damaged : (r : declared.Received) → (r.number ≡ k.number) × ((r.whole ≡ 0) × (r.message ≡ 0)) → k.number ≢ 0
-          → answer r.number (received_as r.whole r.message i s) ≡ receive_call bytes route run source s b q i
-      receive_damaged r is h =
-          refused_at r k.number is
-          (open'.is ∙ sym (first_some (decode_lines (fingerprint_of bytes route) run q) (behind p) (λ e. h (open'.is ∙ e)))) h
+    module _ (d : ℕ) (is-decoded : d ≡ first_of (decode_lines (fingerprint_of bytes route) run q)) where
+      pub receive_damaged : d ≢ 0 → answer d unchanged ≡ receive_call bytes route run source s b q i
+      receive_damaged h =
+          refused_at d
+          (is-decoded ∙ sym (first_some (decode_lines (fingerprint_of bytes route) run q) (behind p) (λ e. h (is-decoded ∙ e)))) h
 
-      module _ (z : k.number ≡ 0) where
+      module _ (z : d ≡ 0) where
         past_packet : first_of (decode_lines (fingerprint_of bytes route) run q ++ behind p) ≡ first_of (behind p)
         past_packet =
             first_behind (decode_lines (fingerprint_of bytes route) run q) (behind p) (decoded_numbered (fingerprint_of bytes route) run q)
-            (sym open'.is ∙ z)
+            (sym is-decoded ∙ z)
 
-        pub receive_inbox : (r : declared.Received) → (r.number ≡ 9) × ((r.whole ≡ 0) × (r.message ≡ 0))
-            → (eqb (length i.parts) (words p) and eqb (length i.masks) (count p)) ≡ false
-            → answer r.number (received_as r.whole r.message i s) ≡ receive_call bytes route run source s b q i
+        pub receive_inbox : (eqb (length i.parts) (words p) and eqb (length i.masks) (count p)) ≡ false
+            → answer 9 unchanged ≡ receive_call bytes route run source s b q i
         unfolding inbox_fits
-        receive_inbox r is h = refused_at r 9 is (sym (past_packet ∙ first_true 9 _ _ (not-false h))) (λ e. omega arith)
+        receive_inbox h = refused_at 9 (sym (past_packet ∙ first_true 9 _ _ (not-false h))) (λ e. omega arith)
 
         module _ (fit-in : (eqb (length i.parts) (words p) and eqb (length i.masks) (count p)) ≡ true) (j : ℕ)
             (ej : j ≡ first_of (unfit_lines p source s)) where
@@ -455,10 +479,9 @@ module _ (bytes : List ℕ) (route run : ℕ) (source : List ℕ) (s : State) (b
           unfolding inbox_fits
           past_inbox = past_packet ∙ first_false 9 _ _ (not-true fit-in)
 
-          pub receive_unfit : (r : declared.Received) → (r.number ≡ j) × ((r.whole ≡ 0) × (r.message ≡ 0)) → j ≢ 0
-              → answer r.number (received_as r.whole r.message i s) ≡ receive_call bytes route run source s b q i
-          receive_unfit r is h =
-              refused_at r j is (ej ∙ sym (past_inbox ∙ first_some (unfit_lines p source s) _ (λ e. h (ej ∙ e)))) h
+          pub receive_unfit : j ≢ 0 → answer j unchanged ≡ receive_call bytes route run source s b q i
+          receive_unfit h =
+              refused_at j (ej ∙ sym (past_inbox ∙ first_some (unfit_lines p source s) _ (λ e. h (ej ∙ e)))) h
 
           module _ (none : j ≡ 0) where
             pub may_receive : MayReceive p s.buffer s.status i
@@ -477,13 +500,14 @@ module _ (bytes : List ℕ) (route run : ℕ) (source : List ℕ) (s : State) (b
                 let y = unfit_none p source s j ej none in
                 past_inbox ∙ first_false 9 (not (areas p source s)) _ (not-true y.0) ∙ first_false 10 (not (fit p s)) _ (not-true y.1)
 
-            pub receive_packet : (c : ℕ) → c ≡ k.count → (a : Answered Received) → a ≡ taken_or p s b k.header (take (c - 0) (drop 0 out)) i
+            pub receive_packet : (k : Reading) (out : List ℕ) → ReadAs q k out → (a : Answered Received)
+                → a ≡ taken_or p s b k.header (take (k.count - 0) (drop 0 out)) i
                 → a ≡ receive_call bytes route run source s b q i
-            receive_packet c ec a t =
+            receive_packet k out read a t =
                 t
-                ∙ ap₂ (λ (h : Header) (ws : List ℕ). taken_or p s b h ws i) (open'.header_is z) words_are
+                ∙ ap₂ (λ (h : Header) (ws : List ℕ). taken_or p s b h ws i) read.header_is words_are
                 ∙ ap (λ (x : ℕ). answered x (taken_packet p s i (header_of q) (words_of q)) unchanged) (sym past_areas)
                 ∙ receive_at
               where
-                words_are : take (c - 0) (drop 0 out) ≡ words_of q
-                words_are = ap (λ (x : ℕ). take x out) (let e : c - 0 ≡ k.count = omega (arith, ec) in e) ∙ open'.words_are z
+                words_are : take (k.count - 0) (drop 0 out) ≡ words_of q
+                words_are = ap (λ (x : ℕ). take x out) (let e : k.count - 0 ≡ k.count = omega arith in e) ∙ read.words_are

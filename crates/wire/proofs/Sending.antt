@@ -37,71 +37,69 @@ use Rattle.packets.specs.Fingerprint.{fingerprint_of}
 use Rattle.packets.specs.Packet.{packet_length, encode_packet, unfit}
 use Rattle.packets.specs.Cut.{chunks_of, chunk_length, cut}
 use Rattle.packets.specs.Calls.{Written, written_of, write_call}
+use Rattle.base.specs.Refusals.{code}
+use Rattle.base.specs.declared.refusal.Refusal.{Refusal}
 use Rattle.packets.proofs.Answers.{header_from, fit_is, write_done}
+use Rattle.base.proofs.Codes.{code_some}
 use Rattle.packets.proofs.Assembling.{ends, cut_length}
 use Rattle.packets.proofs.RoundTrip.{encode_length}
 use Rattle.wire.specs.Wire.{Label, label, headed, item_packet, Letter, letter_of, letter, packet_lines, packet_call, message_label, packet_of, send_lines}
 use Rattle.wire.specs.Wire.{sent_or, send_call}
-use Rattle.wire.specs.declared.Written as declared
 
 -- ---- a packet into a space
 
 -- written into its first n bytes, which is the packet's length
-pub put_in : (h : Header) (ws space ys : List ℕ) (a n : ℕ) → n ≡ 60 + 4 * length ws → length ws ≤ 285 → length space ≡ 1200
-    → written_of a ys ≡ write_call h ws (take (n - 0) (drop 0 space))
-    → letter_of n (put_mid 0 (n - 0) space ys) ≡ letter (encode_packet h ws) space
-unfolding letter
-put_in h ws space ys a n e few long w = ap₂ letter_of as_long_lem bytes
-  where
-    many : n - 0 ≡ n
-    many = sub-zero n
+module _ (h : Header) (ws space ys : List ℕ) (n : ℕ) (e : n ≡ 60 + 4 * length ws) (few : length ws ≤ 285) (long : length space ≡ 1200) where
+  many : n - 0 ≡ n
+  many = sub-zero n
 
-    fits_is : unfit (length ws) (length (take (n - 0) (drop 0 space))) ≡ false
-    fits_is = fit_is (length ws) (length (take (n - 0) (drop 0 space))) few (length-take (n - 0) space ∙ least)
-      where
-        least : Prim.Native.Nat.min (n - 0) (length space) ≡ packet_length (length ws)
-        least = omega (arith, e, few, long)
+  fits_is : unfit (length ws) (length (take (n - 0) (drop 0 space))) ≡ false
+  fits_is = fit_is (length ws) (length (take (n - 0) (drop 0 space))) few (length-take (n - 0) space ∙ least)
+    where
+      least : Prim.Native.Nat.min (n - 0) (length space) ≡ packet_length (length ws)
+      least = omega (arith, e, few, long)
 
-    is : ys ≡ encode_packet h ws
-    is = ap (λ (z : Written). z.space) (w ∙ sym (write_done h ws (take (n - 0) (drop 0 space)) (encode_packet h ws) fits_is refl))
+  -- it is never refused
+  pub put_refused : (r : Refusal) → written_of (code r) ys ≡ write_call h ws (take (n - 0) (drop 0 space)) → ⊥
+  put_refused r w =
+      code_some r (ap (λ (z : Written). z.number) (w ∙ sym (write_done h ws (take (n - 0) (drop 0 space)) (encode_packet h ws) fits_is refl)))
 
-    as_long_lem : n ≡ length (encode_packet h ws)
-    as_long_lem = omega (arith, e, encode_length h ws)
+  pub put_in : (a : ℕ) → written_of a ys ≡ write_call h ws (take (n - 0) (drop 0 space))
+      → answer 0 (letter_of n (put_mid 0 (n - 0) space ys)) ≡ answer 0 (letter (encode_packet h ws) space)
+  unfolding letter
+  put_in a w = ap (answer 0) (ap₂ letter_of as_long_lem bytes)
+    where
+      is : ys ≡ encode_packet h ws
+      is = ap (λ (z : Written). z.space) (w ∙ sym (write_done h ws (take (n - 0) (drop 0 space)) (encode_packet h ws) fits_is refl))
 
-    bytes : put_mid 0 (n - 0) space ys ≡ encode_packet h ws ++ drop (length (encode_packet h ws)) space
-    bytes = ap₂ (λ (l : List ℕ) (k : ℕ). l ++ drop k space) is (many ∙ as_long_lem)
+      as_long_lem : n ≡ length (encode_packet h ws)
+      as_long_lem = omega (arith, e, encode_length h ws)
+
+      bytes : put_mid 0 (n - 0) space ys ≡ encode_packet h ws ++ drop (length (encode_packet h ws)) space
+      bytes = ap₂ (λ (l : List ℕ) (k : ℕ). l ++ drop k space) is (many ∙ as_long_lem)
 
 -- ---- any item
 
--- a refusal tells 0
-pub told_no : {A : Type 0} (r : declared.Written) (j : ℕ) (f : ℕ → A) → (r.number ≡ j) × (r.length ≡ 0) → answer r.number (f r.length) ≡ answer j (f 0)
-told_no r j f is = ap₂ (λ (x y : ℕ). answer x (f y)) is.0 is.1
-
 module _ (l : Label) (ws : List ℕ) (k : ℕ) (space : List ℕ) where
-  packet_no : (r : declared.Written) (j : ℕ) → (r.number ≡ j) × (r.length ≡ 0) → j ≡ first_of (packet_lines ws k space) → j ≢ 0
-      → answer r.number (letter_of r.length space) ≡ packet_call l ws k space
+  packet_no : (j : ℕ) → j ≡ first_of (packet_lines ws k space) → j ≢ 0 → answer j (letter_of 0 space) ≡ packet_call l ws k space
   unfolding packet_call
-  packet_no r j is e h =
-      told_no r j (λ n. letter_of n space) is
-      ∙ answered_no j (letter (item_packet l ws k) space) (letter_of 0 space) h
+  packet_no j e h =
+      answered_no j (letter (item_packet l ws k) space) (letter_of 0 space) h
       ∙ ap (λ (x : ℕ). answered x (letter (item_packet l ws k) space) (letter_of 0 space)) e
 
-  pub packet_space : (r : declared.Written) → (r.number ≡ 9) × (r.length ≡ 0) → (length space ≡ 1200 → ⊥)
-      → answer r.number (letter_of r.length space) ≡ packet_call l ws k space
-  packet_space r is h = packet_no r 9 is (sym (first_true 9 _ _ (not-false (ne_eqb (length space) 1200 h)))) (λ q. omega arith)
+  pub packet_space : (length space ≡ 1200 → ⊥) → answer 9 (letter_of 0 space) ≡ packet_call l ws k space
+  packet_space h = packet_no 9 (sym (first_true 9 _ _ (not-false (ne_eqb (length space) 1200 h)))) (λ q. omega arith)
 
   module _ (e : length space ≡ 1200) where
-    pub packet_long : (r : declared.Written) → (r.number ≡ 9) × (r.length ≡ 0) → 18240 < length ws
-        → answer r.number (letter_of r.length space) ≡ packet_call l ws k space
-    packet_long r is h =
-        packet_no r 9 is (sym (first_false 9 _ _ (not-true (eq-eqb (length space) 1200 e)) ∙ first_true 9 _ _ (lt-ltb 18240 (length ws) h)))
+    pub packet_long : 18240 < length ws → answer 9 (letter_of 0 space) ≡ packet_call l ws k space
+    packet_long h =
+        packet_no 9 (sym (first_false 9 _ _ (not-true (eq-eqb (length space) 1200 e)) ∙ first_true 9 _ _ (lt-ltb 18240 (length ws) h)))
         (λ q. omega arith)
 
     module _ (few : length ws ≤ 18240) where
-      pub packet_none : (r : declared.Written) → (r.number ≡ 11) × (r.length ≡ 0) → chunks_of (length ws) ≤ k
-          → answer r.number (letter_of r.length space) ≡ packet_call l ws k space
-      packet_none r is h =
-          packet_no r 11 is
+      pub packet_none : chunks_of (length ws) ≤ k → answer 11 (letter_of 0 space) ≡ packet_call l ws k space
+      packet_none h =
+          packet_no 11
           (sym (first_false 9 _ _ (not-true (eq-eqb (length space) 1200 e)) ∙ first_false 9 _ _ (le-ltb 18240 (length ws) few)
           ∙ first_true 11 _ _ (not-false (le-ltb k (chunks_of (length ws)) h)))) (λ q. omega arith)
 
@@ -110,46 +108,45 @@ module _ (l : Label) (ws : List ℕ) (k : ℕ) (space : List ℕ) where
           first_false 9 _ _ (not-true (eq-eqb (length space) 1200 e)) ∙ first_false 9 _ _ (le-ltb 18240 (length ws) few)
           ∙ first_false 11 _ _ (not-true (lt-ltb k (chunks_of (length ws)) h)) ∙ first_nil
 
-      pub packet_done : (n : ℕ) (out : List ℕ) → k < chunks_of (length ws) → letter_of n out ≡ letter (item_packet l ws k) space
-          → answer 0 (letter_of n out) ≡ packet_call l ws k space
+      pub packet_done : (a : Answered Letter) → k < chunks_of (length ws) → a ≡ answer 0 (letter (item_packet l ws k) space)
+          → a ≡ packet_call l ws k space
       unfolding packet_call
-      packet_done n out h w =
-          ap (answer 0) w ∙ answered_yes (first_of (packet_lines ws k space)) (letter (item_packet l ws k) space) (letter_of 0 space) (packet_lines_lem h)
+      packet_done a h w =
+          w ∙ answered_yes (first_of (packet_lines ws k space)) (letter (item_packet l ws k) space) (letter_of 0 space) (packet_lines_lem h)
 
 -- the chunk, as the code has it
-module _ (ws : List ℕ) (k j s : ℕ) (ej : j ≡ k) (es : s ≡ chunk_length (length ws) k) (low : k < chunks_of (length ws)) where
-  pub chunk_room : j * 285 + s ≤ length ws
-  chunk_room = omega (arith, ej, es, ends (length ws) k low)
+module _ (ws : List ℕ) (k s : ℕ) (es : s ≡ chunk_length (length ws) k) (low : k < chunks_of (length ws)) where
+  pub chunk_room : k * 285 + s ≤ length ws
+  chunk_room = omega (arith, es, ends (length ws) k low)
 
-  pub chunk_words : take (j * 285 + s - j * 285) (drop (j * 285) ws) ≡ (cut ws k).words
+  pub chunk_words : take (k * 285 + s - k * 285) (drop (k * 285) ws) ≡ (cut ws k).words
   unfolding cut sublist
   chunk_words =
-      ap (λ (x : ℕ). take x (drop (j * 285) ws)) (add-sub_cancel_left (j * 285) s)
-      ∙ ext_get_or 0 (take s (drop (j * 285) ws)) (take 285 (drop (k * 285) ws)) (left ∙ sym right) each
+      ap (λ (x : ℕ). take x (drop (k * 285) ws)) (add-sub_cancel_left (k * 285) s)
+      ∙ ext_get_or 0 (take s (drop (k * 285) ws)) (take 285 (drop (k * 285) ws)) (left ∙ sym right) each
     where
-      left : length (take s (drop (j * 285) ws)) ≡ s
-      left = length-take s (drop (j * 285) ws) ∙ inner (length-drop (j * 285) ws)
+      left : length (take s (drop (k * 285) ws)) ≡ s
+      left = length-take s (drop (k * 285) ws) ∙ inner (length-drop (k * 285) ws)
         where
-          inner : length (drop (j * 285) ws) ≡ length ws - j * 285 → Prim.Native.Nat.min s (length (drop (j * 285) ws)) ≡ s
+          inner : length (drop (k * 285) ws) ≡ length ws - k * 285 → Prim.Native.Nat.min s (length (drop (k * 285) ws)) ≡ s
           inner q = omega (arith, q, chunk_room)
 
       right : length (take 285 (drop (k * 285) ws)) ≡ s
       right = cut_length ws k ∙ sym es
 
-      each : (i : ℕ) → i < length (take s (drop (j * 285) ws)) → get_or (take s (drop (j * 285) ws)) i 0 ≡ get_or (take 285 (drop (k * 285) ws)) i 0
+      each : (i : ℕ) → i < length (take s (drop (k * 285) ws)) → get_or (take s (drop (k * 285) ws)) i 0 ≡ get_or (take 285 (drop (k * 285) ws)) i 0
       each i h =
           let below : i < s = omega (arith, h, left) in
-          get_or-take s (drop (j * 285) ws) i 0 below
-          ∙ ap (λ (x : ℕ). get_or (drop (x * 285) ws) i 0) ej
+          get_or-take s (drop (k * 285) ws) i 0 below
           ∙ sym (get_or-take 285 (drop (k * 285) ws) i 0 (omega (arith, es, below)))
 
   -- and its packet
-  pub chunk_packet : (f n life kind from to item c : ℕ) (space : List ℕ) → c ≡ chunks_of (length ws) → (x : Letter)
-      → x ≡ letter (encode_packet (header_from f n life kind from to item k c) (take (j * 285 + s - j * 285) (drop (j * 285) ws))) space
-      → x ≡ letter (item_packet (label f n life kind from to item) ws k) space
+  pub chunk_packet : (f n life kind from to item c : ℕ) (space : List ℕ) → c ≡ chunks_of (length ws) → (x : Answered Letter)
+      → x ≡ answer 0 (letter (encode_packet (header_from f n life kind from to item k c) (take (k * 285 + s - k * 285) (drop (k * 285) ws))) space)
+      → x ≡ answer 0 (letter (item_packet (label f n life kind from to item) ws k) space)
   unfolding item_packet headed
   chunk_packet f n life kind from to item c space ec x e =
-      e ∙ ap₂ (λ (y : ℕ) (l : List ℕ). letter (encode_packet (header_from f n life kind from to item k y) l) space) ec chunk_words
+      e ∙ ap₂ (λ (y : ℕ) (l : List ℕ). answer 0 (letter (encode_packet (header_from f n life kind from to item k y) l) space)) ec chunk_words
 
 -- ---- a message: the number
 
@@ -242,11 +239,10 @@ sendable p buffer status b m k space z =
 -- ---- a message: past the recipe's lines
 
 module _ (p : Plan) (f n life : ℕ) (buffer status : List ℕ) (b m k : ℕ) (space : List ℕ) where
-  pub sent_no : (r : declared.Written) (j : ℕ) → (r.number ≡ j) × (r.length ≡ 0) → j ≡ first_of (send_lines p (length buffer) status b m k (length space))
-      → j ≢ 0 → answer r.number (letter_of r.length space) ≡ sent_or p f n life buffer status b m k space
-  sent_no r j is e h =
-      told_no r j (λ x. letter_of x space) is
-      ∙ answered_no j (letter (packet_of p f n life buffer m k) space) (letter_of 0 space) h
+  pub sent_no : (j : ℕ) → j ≡ first_of (send_lines p (length buffer) status b m k (length space)) → j ≢ 0
+      → answer j (letter_of 0 space) ≡ sent_or p f n life buffer status b m k space
+  sent_no j e h =
+      answered_no j (letter (packet_of p f n life buffer m k) space) (letter_of 0 space) h
       ∙ ap (λ (x : ℕ). answered x (letter (packet_of p f n life buffer m k) space) (letter_of 0 space)) e
 
   module _ (z : first_of (send_lines p (length buffer) status b m k (length space)) ≡ 0) (few : length (held_by p m) ≤ 18240) where
@@ -272,26 +268,25 @@ module _ (p : Plan) (f n life : ℕ) (buffer status : List ℕ) (b m k : ℕ) (s
         new = letter (item_packet (message_label p f n life m) (place_of p buffer m) k) space
 
 -- from the place and the line that were found
-pub sent_found : (r : Route) (x : Nest) (f n life : ℕ) (buffer : List ℕ) (i m k : ℕ) (space : List ℕ) (at : MessageSlot) → FoundIn r x i at → i ≡ m
+pub sent_found : (r : Route) (x : Nest) (f n life : ℕ) (buffer : List ℕ) (m k : ℕ) (space : List ℕ) (at : MessageSlot) → FoundIn r x m at
     → (l : MessageLine) → l ≡ line_of (plan_of r x) at.number → (a : Answered Letter)
     → a ≡ packet_call (label f n life 1 l.from l.to m) (take (at.offset + at.words - at.offset) (drop at.offset buffer)) k space
     → a ≡ packet_call (message_label (plan_of r x) f n life m) (place_of (plan_of r x) buffer m) k space
-sent_found r x f n life buffer i m k space at g e l is a q =
+sent_found r x f n life buffer m k space at g l is a q =
     q
     ∙ ap₂ (λ (y : MessageLine) (w : List ℕ). packet_call (label f n life 1 y.from y.to m) w k space)
-    (is ∙ ap (line_of (plan_of r x)) (g.number ∙ e))
+    (is ∙ ap (line_of (plan_of r x)) g.number)
     (mid_is buffer at.offset at.words
-    ∙ ap₂ (λ (o w : ℕ). sublist buffer o w) (g.offset ∙ ap (offset (plan_of r x).messages) e) (g.words ∙ ap (λ (y : ℕ). length (held_by (plan_of r x) y)) e))
+    ∙ ap₂ (λ (o w : ℕ). sublist buffer o w) g.offset g.words)
 
 -- ---- the call
 
 module _ (bytes : List ℕ) (route run life : ℕ) (buffer status : List ℕ) (b m k : ℕ) (space : List ℕ) where
-  pub send_read : (r : declared.Written) (j : ℕ) → (r.number ≡ j) × (r.length ≡ 0) → j ≡ first_of (lines_for (route_of route) bytes) → j ≢ 0
-      → answer r.number (letter_of r.length space) ≡ send_call bytes route run life buffer status b m k space
+  pub send_read : (j : ℕ) → j ≡ first_of (lines_for (route_of route) bytes) → j ≢ 0
+      → answer j (letter_of 0 space) ≡ send_call bytes route run life buffer status b m k space
   unfolding send_call
-  send_read r j is e h =
-      told_no r j (λ x. letter_of x space) is
-      ∙ call_read (lines_for (route_of route) bytes) (numbered_for (route_of route) bytes) _ j _ (letter_of 0 space) e h
+  send_read j e h =
+      call_read (lines_for (route_of route) bytes) (numbered_for (route_of route) bytes) _ j _ (letter_of 0 space) e h
 
   pub send_rest : (p : Plan) → Opened bytes route p → (f : ℕ) → f ≡ fingerprint_of bytes route
       → sent_or p f run life buffer status b m k space ≡ send_call bytes route run life buffer status b m k space

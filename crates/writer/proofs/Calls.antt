@@ -9,10 +9,10 @@ use native.Mathlib.Decide.{ℕ_discrete}
 use lib.ListN.{length, get_or, take}
 use lib.Seq.{ext_get_or, get_or-take, length-take-le}
 use lib.Dec.{eqb}
-use borrow.Author.Tests.{eq-eqb, ne_eqb, le-leb, lt-leb}
-use Rattle.base.specs.Tests.{not, tabulate}
+use borrow.Author.Tests.{eq-eqb, ne_eqb, leb-true}
+use Rattle.base.specs.Tests.{not}
 use Rattle.base.specs.Numbers.{line, first_of}
-use Rattle.base.proofs.Tests.{and_true, and_false, and_no, not-true, not-false, is_true, pick_true, pick_false, length_tabulate, tabulate_at}
+use Rattle.base.proofs.Tests.{both, not-true, not-false, is_true, pick_true, pick_false}
 use Rattle.base.proofs.Numbers.{first_nil, first_true, first_false, first_some, first_behind}
 use Rattle.machine.specs.Machine.{Answered, answered}
 use Rattle.nest.specs.declared.Nest.{Nest}
@@ -20,7 +20,7 @@ use Rattle.nest.specs.Reader.{filled, read_lines}
 use Rattle.nest.specs.Encode.{encode}
 use Rattle.nest.proofs.Laws.{filled_length, filled_in}
 use Rattle.nest.proofs.Numbered.{numbered}
-use Rattle.writer.specs.Writing.{written, write_lines, writing, fits, bounds_fit, nest_writable, write_nest_call}
+use Rattle.writer.specs.Writing.{written, write_lines, writing, nest_writable, write_nest_call}
 use Rattle.writer.proofs.Places.{encode_length}
 
 -- ---- by the line that counts
@@ -83,54 +83,42 @@ module _ (can : Bool) (b s : List ℕ) where
 
 -- ---- the returns
 
+pub writable_few : (x : Nest) → nest_writable x ≡ true → (x.dimensions ≤ 4) × (x.distances ≤ 8) × (x.bounds ≤ 4)
+unfolding nest_writable
+writable_few x h =
+    let p = both h in
+    let q = both p.1 in
+    let r = both q.1 in
+    (leb-true _ _ p.0, leb-true _ _ q.0, leb-true _ _ r.0)
+
 module _ (x : Nest) (s : List ℕ) where
-  not_writable : nest_writable x ≡ false → written 2 s ≡ write_nest_call x s
+  pub not_writable : nest_writable x ≡ false → written 2 s ≡ write_nest_call x s
   unfolding write_nest_call
   not_writable h = sym (two (nest_writable x) (encode x) s h)
 
-  pub many_dimensions : 4 < x.dimensions → written 2 s ≡ write_nest_call x s
-  unfolding nest_writable
-  many_dimensions h = not_writable (and_false _ _ (lt-leb x.dimensions 4 h))
-
-  pub many_distances : 8 < x.distances → written 2 s ≡ write_nest_call x s
-  unfolding nest_writable
-  many_distances h = not_writable (and_no _ _ (and_false _ _ (lt-leb x.distances 8 h)))
-
-  pub many_bounds : 4 < x.bounds → written 2 s ≡ write_nest_call x s
-  unfolding nest_writable
-  many_bounds h = not_writable (and_no _ _ (and_no _ _ (and_false _ _ (lt-leb x.bounds 4 h))))
-
-  pub bounds_two : bounds_fit x ≡ false → written 2 s ≡ write_nest_call x s
-  unfolding nest_writable
-  bounds_two h = not_writable (and_no _ _ (and_no _ _ (and_no _ _ (and_false _ _ h))))
-
-  pub unfit_two : fits x ≡ false → written 2 s ≡ write_nest_call x s
-  unfolding nest_writable
-  unfit_two h = not_writable (and_no _ _ (and_no _ _ (and_no _ _ (and_no _ _ h))))
-
-  module _ (n4 : x.dimensions ≤ 4) (e8 : x.distances ≤ 8) (b4 : x.bounds ≤ 4) (bound : bounds_fit x ≡ true) (fit : fits x ≡ true) (k : ℕ) (b : List ℕ)
+  module _ (can : nest_writable x ≡ true) (k : ℕ) (b : List ℕ)
       (len : k ≡ 16 * (x.dimensions + x.bounds + x.distances + 1))
       (is : b ≡ filled 272 (16 * (x.dimensions + x.bounds + x.distances + 1)) (λ (p : ℕ). get_or (encode x) p 0)) where
-    can : nest_writable x ≡ true
-    unfolding nest_writable
-    can = and_true (le-leb _ _ n4) (and_true (le-leb _ _ e8) (and_true (le-leb _ _ b4) (and_true bound fit)))
+    few : (x.dimensions ≤ 4) × (x.distances ≤ 8) × (x.bounds ≤ 4)
+    few = writable_few x can
 
     room : k ≤ 272
-    room = omega arith
+    room = omega (arith, few.0, few.1, few.2)
 
     long : length (encode x) ≡ k
     long = encode_length x ∙ sym len
 
     byte_is : (i : ℕ) → i < k → get_or b i 0 ≡ get_or (encode x) i 0
     byte_is i h =
-        rw is (filled_in 272 (λ (p : ℕ). get_or (encode x) p 0) (16 * (x.dimensions + x.bounds + x.distances + 1)) i (omega arith) (omega arith))
+        rw is (filled_in 272 (λ (p : ℕ). get_or (encode x) p 0) (16 * (x.dimensions + x.bounds + x.distances + 1)) i (omega arith) (omega (arith, room)))
+
+    pub part_long : length (take k b) ≡ k
+    part_long = let l : length b ≡ 272 = ap length is ∙ filled_length 272 _ _ in length-take-le k b (rw l room)
 
     recipe_is : take k b ≡ encode x
     recipe_is =
-        let l : length b ≡ 272 = ap length is ∙ filled_length 272 _ _ in
-        let w : length (take k b) ≡ k = length-take-le k b (rw l room) in
-        ext_get_or 0 (take k b) (encode x) (w ∙ sym long)
-        (λ i h. let q : i < k = rw w at h in get_or-take k b i 0 q ∙ byte_is i q)
+        ext_get_or 0 (take k b) (encode x) (part_long ∙ sym long)
+        (λ i h. let q : i < k = rw part_long at h in get_or-take k b i 0 q ∙ byte_is i q)
 
     module _ (r : ℕ) (read : r ≡ first_of (read_lines (take k b))) where
       read_is : first_of (read_lines (encode x)) ≡ r
@@ -144,15 +132,6 @@ module _ (x : Nest) (s : List ℕ) where
       unfolding write_nest_call
       no_room z q = sym (nine (nest_writable x) (encode x) s can (read_is ∙ z) (λ e. q (e ∙ long)))
 
-      pub recipe_written : r ≡ 0 → length s ≡ k → (t : List ℕ) → t ≡ tabulate (λ (i : ℕ). get_or b i 0) (length s)
-          → written 0 t ≡ write_nest_call x s
+      pub recipe_written : r ≡ 0 → length s ≡ k → (t : List ℕ) → t ≡ take k b → written 0 t ≡ write_nest_call x s
       unfolding write_nest_call
-      recipe_written z q t e =
-          ap (written 0) (e ∙ bytes_are) ∙ sym (produces (nest_writable x) (encode x) s can (read_is ∙ z) (q ∙ sym long))
-        where
-          bytes_are : tabulate (λ (i : ℕ). get_or b i 0) (length s) ≡ encode x
-          bytes_are =
-              ext_get_or 0 (tabulate (λ (i : ℕ). get_or b i 0) (length s)) (encode x)
-              (length_tabulate (λ (i : ℕ). get_or b i 0) (length s) ∙ (q ∙ sym long))
-              (λ i h. let w : i < length s = rw (length_tabulate (λ (i : ℕ). get_or b i 0) (length s)) at h in
-              tabulate_at (λ (j : ℕ). get_or b j 0) (length s) i w ∙ byte_is i (rw q at w))
+      recipe_written z q t e = ap (written 0) (e ∙ recipe_is) ∙ sym (produces (nest_writable x) (encode x) s can (read_is ∙ z) (q ∙ sym long))

@@ -9,3 +9,4 @@ pub mod FromFields
 pub mod Demand202
 pub mod Computed
 pub mod Told
+pub mod Tables

@@ -4,14 +4,9 @@ use mathlib.Core.Path.{◌≡◌, sym, ap, ◌∙◌}
 use mathlib.Core.Bool.{Bool, true, false}
 use mathlib.Core.List.{List}
 use native.Mathlib.Omega.{arith}
-use borrow.Author.Tests.{le-ltb}
 use lib.ListN.{get_or}
-use lib.Dec.{ltb}
-use Rattle.base.specs.Tests.{every}
-use Rattle.base.proofs.Tests.{every_not}
 use Rattle.nest.specs.declared.Nest.{Nest}
 use Rattle.nest.specs.Nest.{length_of, tile_length, processor_count, component, weight, side, bounded, earlier, slope, bound_offset}
-use Rattle.nest.proofs.Laws.{every_end}
 use Rattle.nest.specs.Encode.{dimension_record, narrow_record, wide_record, bound_record, close_record, dimension_of, bound_of, narrow, distance_of, encode}
 use Rattle.writer.proofs.Places.{spelled_narrow, spelled_wide, at_dimension, at_bound, at_distance, at_close}
 
@@ -37,15 +32,6 @@ module _ (x : Nest) (k p q r s : ℕ) (e1 : p ≡ get_or x.components (4 * k) 0)
   wide_is t w y h = (rw (first, e2, e3, e4) at h) ∙ sym (spelled_wide x k (sym w ∙ y))
 
 -- the loop of `narrow`
-
-module _ (x : Nest) (k : ℕ) where
-  pub not_narrow : (j : ℕ) → j < 4 → 255 < component x k j → false ≡ narrow x k
-  unfolding narrow
-  not_narrow j h q = sym (every_not _ 4 j h (le-ltb (component x k j) 256 q))
-
-  pub all_narrow : (j : ℕ) → j ≤ 4 → 4 ≤ j → every (λ i. ltb (component x k i) 256) j ≡ true → true ≡ narrow x k
-  unfolding narrow
-  all_narrow j a b h = sym (every_end _ 4 j a b h)
 
 -- record r
 

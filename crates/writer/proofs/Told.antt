@@ -1,6 +1,6 @@
 -- What reading tells by value is what the recipe holds, and writing it rebuilds the recipe: `reads_back`.
 use Prim.Native.Nat.{ℕ, zero, suc, ◌+◌, ◌*◌, ◌%◌, ◌≤◌, ◌<◌}
-use mathlib.Core.Path.{◌≡◌, refl, sym, ap, subst, ◌∙◌}
+use mathlib.Core.Path.{◌≡◌, refl, sym, ap, ◌∙◌}
 use mathlib.Core.Logic.{◌≢◌}
 use mathlib.Core.Bool.{true}
 use mathlib.Core.List.{List}
@@ -8,14 +8,17 @@ use native.Mathlib.Omega.{arith}
 use native.Mathlib.Decide.{dec_lt}
 use lib.ListN.{length, get_or, take}
 use lib.Seq.{ext_get_or, get_or-take, length-take-le}
+use Rattle.std.specs.Prelude.{Ok}
 use Rattle.base.specs.Tests.{tabulate}
 use Rattle.base.specs.Lists.{Bytes}
 use Rattle.base.specs.Numbers.{first_of}
 use Rattle.base.proofs.Tests.{length_tabulate, tabulate_at}
 use Rattle.nest.specs.declared.Nest.{Nest}
-use Rattle.nest.specs.declared.Reading.{Reading}
-use Rattle.nest.specs.Reader.{filled, nest_of, read_lines, reading_of}
-use Rattle.nest.proofs.Answers.{number_read, nest_read}
+use Rattle.nest.specs.Reader.{filled, nest_of, read_lines, Reads}
+use Rattle.nest.proofs.Answers.{none_read, nest_read}
+use Rattle.std.proofs.lemmas.List.{get_or_default}
+use Rattle.writer.specs.Tables.{IsTable}
+use Rattle.writer.proofs.Tables.{table_is}
 use Rattle.nest.proofs.Laws.{filled_length, filled_in, filled_out}
 use Rattle.writer.specs.declared.reading.RecipeFields.{RecipeFields}
 use Rattle.writer.specs.Fields.{Fields, fields_of}
@@ -93,6 +96,26 @@ table_wide size n bound l z t i = go (dec_lt i n)
     go : Dec (i < n) → get_or l i 0 < bound
     go (yes h) = t.fit i h
     go (no h) = rw (t.rest i (omega arith)) z
+
+-- each can be cast
+pub table_each : (size n bound : ℕ) (l : List ℕ) → 0 < bound → Table size n bound l → (k d : ℕ) → k < length l → get_or l k d < bound
+table_each size n bound l z t k d h = rw (get_or_default l k d 0 h) (table_wide size n bound l z t k)
+
+-- a table made from one as long, of the same numbers, and from the first n of one
+pub same_table : {Made : ℕ → ℕ → Type 0} {l t : List ℕ} (size : ℕ) → IsTable Made l 0 size t → length l ≡ size
+    → ((i y : ℕ) → i < length l → Made (get_or l i 0) y → y ≡ get_or l i 0) → t ≡ l
+same_table {Made} {l} size p e h =
+    table_is p (omega arith) (λ i. get_or l i 0) h ∙ ap (λ (k : ℕ). filled size k (λ i. get_or l i 0)) e ∙ all_filled size l e
+
+pub part_table : {Made : ℕ → ℕ → Type 0} {t : List ℕ} (size n : ℕ) (l : List ℕ) (g : ℕ → ℕ) → n ≤ size → length l ≡ size → IsTable Made (take n l) 0 size t
+    → ((i y : ℕ) → i < length (take n l) → Made (get_or (take n l) i 0) y → y ≡ g (get_or (take n l) i 0))
+    → t ≡ filled size n (λ i. g (get_or l i 0))
+part_table {Made} {t} size n l g few long p h = made (length-take-le n l (omega arith))
+  where
+    made : length (take n l) ≡ n → t ≡ filled size n (λ i. g (get_or l i 0))
+    made e =
+        table_is p (omega arith) (λ i. g (get_or l i 0)) (λ i y q m. h i y q m ∙ ap g (get_or-take n l i 0 (rw e at q)))
+        ∙ ap (λ (k : ℕ). filled size k (λ i. g (get_or l i 0))) e
 
 same_told : (n d b w : ℕ) (l t p c v o sd bd er sl l' t' p' c' v' o' sd' bd' er' sl' : List ℕ) (s n' d' b' : ℕ)
     → n ≡ n' → d ≡ d' → b ≡ b' → l ≡ l' → t ≡ t' → p ≡ p' → c ≡ c' → v ≡ v' → o ≡ o' → sd ≡ sd' → bd ≡ bd' → er ≡ er' → sl ≡ sl'
@@ -243,13 +266,8 @@ read_held bytes small z = (
     f = read_fits bytes small z
 
 -- by what the reader gave
-module _ (bytes : List ℕ) (r : Reading) (e : r ≡ reading_of bytes) where
-  none_true : r.number ≡ 0 → first_of (read_lines bytes) ≡ 0
-  none_true z = sym (number_read bytes r e) ∙ z
+pub read_nest : {bytes : List ℕ} {x : Nest} → Reads bytes (Ok x) → Tables x × (nest_writable x ≡ true)
+read_nest {bytes} {x} is = rw is.nest (read_held bytes is.bytes_are (none_read is))
 
-  pub read_nest : Bytes bytes → r.number ≡ 0 → Tables r.nest × (nest_writable r.nest ≡ true)
-  read_nest small z =
-      subst (λ (x : Nest). Tables x × (nest_writable x ≡ true)) (sym (nest_read bytes r e z)) (read_held bytes small (none_true z))
-
-  pub read_told : r.number ≡ 0 → told_fields (fields_of r.nest) ≡ read_call bytes
-  read_told z = ap (λ (x : Nest). told_fields (fields_of x)) (nest_read bytes r e z) ∙ sym (read_done bytes (none_true z))
+pub read_told : {bytes : List ℕ} {x : Nest} → Reads bytes (Ok x) → told_fields (fields_of x) ≡ read_call bytes
+read_told {bytes} {x} is = ap (λ (y : Nest). told_fields (fields_of y)) (nest_read is) ∙ sym (read_done bytes (none_read is))

@@ -2,22 +2,22 @@
 // The bytes are made in an array of the largest recipe's size and the reader itself is asked about them, so its lines stand in one place.
 #![tactic(auto)]
 
-ghost use Rattle.std.specs.Prelude.{◌≡◌, true, ℕ, ◌+◌, ◌*◌, ◌%◌, ◌<◌, ◌≤◌, length, get_or, take, ltb};
+ghost use Rattle.std.specs.Prelude.{◌≡◌, true, ℕ, List, ◌+◌, ◌*◌, ◌%◌, ◌<◌, ◌≤◌, length, get_or, ltb, All};
 ghost use Rattle.base.specs.Tests.{pick, keep, tabulate};
-ghost use Rattle.base.specs.Numbers.{first_of};
-ghost use Rattle.nest.specs.Reader.{filled, read_lines};
+ghost use Rattle.base.specs.Refusals.{number_of};
+ghost use Rattle.nest.specs.Reader.{filled};
 ghost use Rattle.nest.specs.Encode.{encode};
 ghost use Rattle.writer.specs.Fields.{fields, counted, bounds, agree, nest_from};
-ghost use Rattle.writer.specs.Writing.{written, fits_in, fits, bounds_fit, write_nest_call, write_call};
+ghost use Rattle.writer.specs.Tables.{IsTable, AreNumbers};
+ghost use Rattle.writer.specs.Writing.{written, fits_in, fits, bounds_fit, nest_writable, write_nest_call, write_call};
 
-use base::index_wide;
 use nest::Nest;
 
 mod nest_records; // nest_records.rt: the records of a nest, each spelled from its numbers
 pub mod spelling; // spelling.rt: the sixteen bytes of each kind of record
 pub mod reading; // reading.rt: the fields of a recipe by value
 
-use base::refusals;
+use base::refusal::Refusal;
 use nest_records::record_of;
 
 // ---- the recipe
@@ -28,9 +28,7 @@ fn put_record(mut bytes: [u8; 272], at: usize, row: [u8; 16]) -> [u8; 272]
     ensures { (f : ℕ → ℕ) → bytes ≡ filled 272 at f → ((i : ℕ) → i < 16 → get_or row i 0 ≡ f (at + i))
         → result ≡ filled 272 (at + 16) f }
 {
-    for i in 0..16 {
-        bytes[at + i] = row[i];
-    }
+    bytes[at..at + 16].copy_from_slice(&row);
     bytes
 }
 
@@ -49,24 +47,6 @@ fn bytes_of(nest: Nest) -> [u8; 272]
     bytes
 }
 
-// The number that the reader gives for the first bytes.
-fn number_of(bytes: [u8; 272], length: usize) -> u32
-    requires { length ≤ 272 }
-    ensures { result ≡ first_of (read_lines (take length bytes)) }
-{
-    let reading = reader::read(&bytes[0..length]);
-    reading.number
-}
-
-fn copy(bytes: [u8; 272], space: &mut [u8])
-    requires { length space.old ≤ 272 }
-    ensures { space.new ≡ tabulate (λ (i : ℕ). get_or bytes i 0) (length space.old) }
-{
-    for i in 0..space.len() {
-        space[i] = bytes[i];
-    }
-}
-
 // ---- values that a recipe can hold
 
 // Below the bound, or 0 where there is no field.
@@ -79,44 +59,13 @@ fn limit(i: usize, n: usize, bound: usize) -> usize
     1
 }
 
-fn fits_in(values: &[usize], n: usize, bound: usize) -> bool
-    ensures { result ≡ fits_in n bound values.now }
+// Each of the first n numbers is below the bound, and the others have no field and are 0.
+fn fits_in<T: Copy, F: Fn(T) -> usize>(values: &[T], n: usize, bound: usize, of: F) -> bool
+    requires callable { All (F.pre of) values.now }
+    ensures { (numbers : List ℕ) → AreNumbers (F.post of) values.now numbers → result ≡ fits_in n bound numbers }
 {
-    for i in 0..values.len() {
-        if values[i] >= limit(i, n, bound) {
-            return false;
-        }
-    }
-    true
-}
-
-fn weights_fit(values: &[u64], n: usize) -> bool
-    ensures { result ≡ fits_in n 65536 values.now }
-{
-    for i in 0..values.len() {
-        if values[i] >= index_wide(limit(i, n, 65536)) {
-            return false;
-        }
-    }
-    true
-}
-
-fn bytes_fit(values: &[u8], n: usize) -> bool
-    ensures { result ≡ fits_in n 256 values.now }
-{
-    for i in 0..values.len() {
-        if values[i] as usize >= limit(i, n, 256) {
-            return false;
-        }
-    }
-    true
-}
-
-fn halves_fit(values: &[u16], n: usize) -> bool
-    ensures { result ≡ fits_in n 65536 values.now }
-{
-    for i in 0..values.len() {
-        if values[i] as usize >= limit(i, n, 65536) {
+    for (i, &value) in values.iter().enumerate() {
+        if of(value) >= limit(i, n, bound) {
             return false;
         }
     }
@@ -128,13 +77,7 @@ fn spread_of(counts: [usize; 4], n: usize) -> usize
     requires { n ≤ 4 }
     ensures { result ≡ length (keep (λ (j : ℕ). ltb 0 (get_or counts j 0)) n) }
 {
-    let mut m: usize = 0;
-    for j in 0..n {
-        if 0 < counts[j] {
-            m += 1;
-        }
-    }
-    m
+    counts[..n].iter().filter(|&&count| count > 0).count()
 }
 
 fn fits(nest: Nest) -> bool
@@ -143,167 +86,89 @@ fn fits(nest: Nest) -> bool
 {
     let n = nest.dimensions;
     let e = nest.distances;
-    let lengths = nest.lengths;
-    if !fits_in(&lengths, n, 65536) {
-        return false;
-    }
-    let tiling = nest.tiling;
-    if !fits_in(&tiling, n, 65536) {
-        return false;
-    }
-    let counts = nest.counts;
-    if !fits_in(&counts, n, 65536) {
-        return false;
-    }
-    let components = nest.components;
-    if !fits_in(&components, 4 * e, 65536) {
-        return false;
-    }
-    let weights = nest.weights;
-    if !weights_fit(&weights, e) {
-        return false;
-    }
-    if nest.shift >= 256 {
-        return false;
-    }
-    if nest.boundary >= 4294967296 {
-        return false;
-    }
-    nest.spread == spread_of(counts, n)
-}
-
-fn offsets_fit(nest: Nest) -> bool
-    ensures { result ≡ fits_in nest.bounds 65536 nest.offsets }
-{
-    let b = nest.bounds;
-    let offsets = nest.offsets;
-    halves_fit(&offsets, b)
+    let lengths = fits_in(&nest.lengths, n, 65536, |length: usize| length);
+    let tiling = fits_in(&nest.tiling, n, 65536, |tile: usize| tile);
+    let counts = fits_in(&nest.counts, n, 65536, |count: usize| count);
+    let components = fits_in(&nest.components, 4 * e, 65536, |component: usize| component);
+    let weights = fits_in(&nest.weights, e, 65536, |weight: u64| weight as usize);
+    lengths
+        && tiling
+        && counts
+        && components
+        && weights
+        && nest.shift < 256
+        && nest.boundary < 4294967296
+        && nest.spread == spread_of(nest.counts, n)
 }
 
 fn bounds_fit(nest: Nest) -> bool
     ensures { result ≡ bounds_fit nest }
 {
     let b = nest.bounds;
-    let sides = nest.sides;
-    if !bytes_fit(&sides, b) {
-        return false;
-    }
-    let bounded = nest.bounded;
-    if !bytes_fit(&bounded, b) {
-        return false;
-    }
-    let earlier = nest.earlier;
-    if !bytes_fit(&earlier, b) {
-        return false;
-    }
-    let slopes = nest.slopes;
-    if !bytes_fit(&slopes, b) {
-        return false;
-    }
-    offsets_fit(nest)
+    let sides = fits_in(&nest.sides, b, 256, |side: u8| usize::from(side));
+    let bounded = fits_in(
+        &nest.bounded,
+        b,
+        256,
+        |dimension: u8| usize::from(dimension),
+    );
+    let earlier = fits_in(
+        &nest.earlier,
+        b,
+        256,
+        |dimension: u8| usize::from(dimension),
+    );
+    let slopes = fits_in(&nest.slopes, b, 256, |slope: u8| usize::from(slope));
+    let offsets = fits_in(&nest.offsets, b, 65536, |offset: u16| usize::from(offset));
+    sides && bounded && earlier && slopes && offsets
 }
 
 // ---- the calls
 
-// The nest's recipe into the space, which must have exactly its length; or the number that refuses it, and the space as it was.
-// A nest that no recipe can hold gives 2.
-pub fn write_nest(nest: Nest, space: &mut [u8]) -> u32
-    ensures { written result space.new ≡ write_nest_call nest space.old }
+// A recipe can hold the nest.
+fn is_writable(nest: Nest) -> bool
+    ensures { result ≡ nest_writable nest }
 {
-    if nest.dimensions > 4 {
-        return 2;
-    }
-    if nest.distances > 8 {
-        return 2;
-    }
-    if nest.bounds > 4 {
-        return 2;
-    }
-    if !bounds_fit(nest) {
-        return 2;
-    }
-    if !fits(nest) {
-        return 2;
+    nest.dimensions <= 4
+        && nest.distances <= 8
+        && nest.bounds <= 4
+        && bounds_fit(nest)
+        && fits(nest)
+}
+
+// The nest's recipe into the space, which must have exactly its length; or why it is refused, and the space as it was.
+// A nest that no recipe can hold is refused as a stray record.
+pub fn write_nest(nest: Nest, space: &mut [u8]) -> Result<(), Refusal>
+    ensures { written (number_of result) space.new ≡ write_nest_call nest space.old }
+{
+    if !is_writable(nest) {
+        return Err(Refusal::StrayRecord);
     }
     let length = 16 * (nest.dimensions + nest.bounds + nest.distances + 1);
     let bytes = bytes_of(nest);
-    let number = number_of(bytes, length);
-    if number != 0 {
-        return number;
-    }
+    reader::read(&bytes[..length])?;
     if space.len() != length {
-        return refusals::AREA;
+        return Err(Refusal::Area);
     }
-    copy(bytes, space);
-    0
+    space.copy_from_slice(&bytes[..length]);
+    Ok(())
 }
 
 // ---- from fields
 
-fn table_4(values: &[u16]) -> [usize; 4]
-    requires { length values.now ≤ 4 }
-    ensures { result ≡ filled 4 (length values.now) (λ (i : ℕ). get_or values.now i 0) }
+// Each number as `of` has it, then none where the table has more room.
+pub(crate) fn table<T: Copy, U: Copy, const N: usize, F: Fn(T) -> U>(
+    values: &[T],
+    none: U,
+    of: F,
+) -> [U; N]
+    requires fits { length values.now ≤ N }
+    requires callable { All (F.pre of) values.now }
+    ensures { IsTable (F.post of) values.now none N result }
 {
-    let mut table = [0usize; 4];
-    for i in 0..values.len() {
-        table[i] = base::half_index(values[i]);
-    }
-    table
-}
-
-fn table_8(values: &[u16]) -> [u64; 8]
-    requires { length values.now ≤ 8 }
-    ensures { result ≡ filled 8 (length values.now) (λ (i : ℕ). get_or values.now i 0) }
-{
-    let mut table = [0u64; 8];
-    for i in 0..values.len() {
-        table[i] = base::half_wide(values[i]);
-    }
-    table
-}
-
-fn table_32(values: &[u16]) -> [usize; 32]
-    requires { length values.now ≤ 32 }
-    ensures { result ≡ filled 32 (length values.now) (λ (i : ℕ). get_or values.now i 0) }
-{
-    let mut table = [0usize; 32];
-    for i in 0..values.len() {
-        table[i] = base::half_index(values[i]);
-    }
-    table
-}
-
-fn table_of_bytes(values: &[u8]) -> [u8; 4]
-    requires { length values.now ≤ 4 }
-    ensures { result ≡ filled 4 (length values.now) (λ (i : ℕ). get_or values.now i 0) }
-{
-    let mut table = [0u8; 4];
-    for i in 0..values.len() {
-        table[i] = values[i];
-    }
-    table
-}
-
-// Slopes plus 1.
-fn slopes_from(values: &[u8]) -> [u8; 4]
-    requires { length values.now ≤ 4 }
-    ensures { result ≡ filled 4 (length values.now) (λ (i : ℕ). (get_or values.now i 0 + 1) % 256) }
-{
-    let mut table = [0u8; 4];
-    for i in 0..values.len() {
-        table[i] = ((base::byte_index(values[i]) + 1) % 256) as u8;
-    }
-    table
-}
-
-// Offsets plus 32,768.
-fn offsets_from(values: &[u16]) -> [u16; 4]
-    requires { length values.now ≤ 4 }
-    ensures { result ≡ filled 4 (length values.now) (λ (i : ℕ). (get_or values.now i 0 + 32768) % 65536) }
-{
-    let mut table = [0u16; 4];
-    for i in 0..values.len() {
-        table[i] = ((base::half_index(values[i]) + 32768) % 65536) as u16;
+    let mut table = [none; N];
+    for (i, &value) in values.iter().enumerate() {
+        table[i] = of(value);
     }
     table
 }
@@ -329,24 +194,24 @@ fn nest_from(
         offsets.now shift boundary) }
 {
     let n = lengths.len();
-    let spread_over = table_4(counts);
+    let spread_over = table(counts, 0, |count: u16| usize::from(count));
     Nest {
         dimensions: n,
         spread: spread_of(spread_over, n),
         distances: weights.len(),
         bounds: sides.len(),
-        lengths: table_4(lengths),
-        tiling: table_4(tiling),
+        lengths: table(lengths, 0, |length: u16| usize::from(length)),
+        tiling: table(tiling, 0, |tile: u16| usize::from(tile)),
         counts: spread_over,
-        components: table_32(components),
-        weights: table_8(weights),
-        sides: table_of_bytes(sides),
-        bounded: table_of_bytes(bounded),
-        earlier: table_of_bytes(earlier),
-        slopes: slopes_from(slopes),
-        offsets: offsets_from(offsets),
-        shift: base::byte_wide(shift),
-        boundary: base::word_wide(boundary),
+        components: table(components, 0, |component: u16| usize::from(component)),
+        weights: table(weights, 0, |weight: u16| u64::from(weight)),
+        sides: table(sides, 0, |number: u8| number),
+        bounded: table(bounded, 0, |number: u8| number),
+        earlier: table(earlier, 0, |number: u8| number),
+        slopes: table(slopes, 0, |slope: u8| slope.wrapping_add(1)),
+        offsets: table(offsets, 0, |offset: u16| offset.wrapping_add(32768)),
+        shift: u64::from(shift),
+        boundary: u64::from(boundary),
     }
 }
 
@@ -354,38 +219,18 @@ fn nest_from(
 fn counted(lengths: usize, tiling: usize, counts: usize, components: usize, weights: usize) -> bool
     ensures { result ≡ counted lengths tiling counts components weights }
 {
-    if lengths > 4 {
-        return false;
-    }
-    if weights > 8 {
-        return false;
-    }
-    if tiling != lengths {
-        return false;
-    }
-    if counts != lengths {
-        return false;
-    }
-    components == 4 * weights
+    lengths <= 4
+        && weights <= 8
+        && tiling == lengths
+        && counts == lengths
+        && components == 4 * weights
 }
 
 // The bounds' lists of these lengths agree.
 fn bounds(sides: usize, bounded: usize, earlier: usize, slopes: usize, offsets: usize) -> bool
     ensures { result ≡ bounds sides bounded earlier slopes offsets }
 {
-    if sides > 4 {
-        return false;
-    }
-    if bounded != sides {
-        return false;
-    }
-    if earlier != sides {
-        return false;
-    }
-    if slopes != sides {
-        return false;
-    }
-    offsets == sides
+    sides <= 4 && bounded == sides && earlier == sides && slopes == sides && offsets == sides
 }
 
 // The recipe of the fields: of each dimension its length, tile length and processor count, of each distance its four components and
@@ -411,27 +256,26 @@ pub fn write(
         weights.now sides.now bounded.now earlier.now slopes.now
         offsets.now shift boundary) space.old }
 {
-    if !counted(
+    let dimensions_counted = counted(
         lengths.len(),
         tiling.len(),
         counts.len(),
         components.len(),
         weights.len(),
-    ) {
-        return 2;
-    }
-    if !bounds(
+    );
+    let bounds_counted = bounds(
         sides.len(),
         bounded.len(),
         earlier.len(),
         slopes.len(),
         offsets.len(),
-    ) {
-        return 2;
+    );
+    if !dimensions_counted || !bounds_counted {
+        return Refusal::StrayRecord.number();
     }
     let nest = nest_from(
         lengths, tiling, counts, components, weights, sides, bounded, earlier, slopes, offsets,
         shift, boundary,
     );
-    write_nest(nest, space)
+    base::refusal::number_of(&write_nest(nest, space))
 }

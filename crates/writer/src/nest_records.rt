@@ -3,20 +3,16 @@ ghost use Rattle.std.specs.Prelude.{◌≡◌, ℕ, ◌+◌, ◌*◌, ◌<◌, �
 ghost use Rattle.nest.specs.Encode.{dimension_of, bound_of, narrow, distance_of, encode};
 
 use crate::spelling::{bound_record, close_record, dimension_record, narrow_record, wide_record};
-use base::{byte_wide, half_wide, index_wide};
 use nest::Nest;
 
 fn dimension_of(nest: Nest, j: usize) -> [u8; 16]
     requires { j < 4 }
     ensures { result ≡ dimension_of nest j }
 {
-    let lengths = nest.lengths;
-    let tiling = nest.tiling;
-    let counts = nest.counts;
     dimension_record(
-        index_wide(lengths[j]),
-        index_wide(tiling[j]),
-        index_wide(counts[j]),
+        nest.lengths[j] as u64,
+        nest.tiling[j] as u64,
+        nest.counts[j] as u64,
     )
 }
 
@@ -24,17 +20,12 @@ fn bound_of(nest: Nest, k: usize) -> [u8; 16]
     requires { k < 4 }
     ensures { result ≡ bound_of nest k }
 {
-    let sides = nest.sides;
-    let bounded = nest.bounded;
-    let earlier = nest.earlier;
-    let slopes = nest.slopes;
-    let offsets = nest.offsets;
     bound_record(
-        byte_wide(sides[k]),
-        byte_wide(bounded[k]),
-        byte_wide(earlier[k]),
-        byte_wide(slopes[k]),
-        half_wide(offsets[k]),
+        u64::from(nest.sides[k]),
+        u64::from(nest.bounded[k]),
+        u64::from(nest.earlier[k]),
+        u64::from(nest.slopes[k]),
+        u64::from(nest.offsets[k]),
     )
 }
 
@@ -44,12 +35,7 @@ fn narrow(nest: Nest, e: usize) -> bool
     ensures { result ≡ narrow nest e }
 {
     let components = nest.components;
-    for j in 0..4 {
-        if components[4 * e + j] > 255 {
-            return false;
-        }
-    }
-    true
+    (0..4).all(|j| components[4 * e + j] < 256)
 }
 
 // Kind 4 only where kind 2 can't hold the distance.
@@ -58,16 +44,15 @@ fn distance_of(nest: Nest, e: usize) -> [u8; 16]
     ensures { result ≡ distance_of nest e }
 {
     let d = nest.components;
-    let weights = nest.weights;
     let at = 4 * e;
-    let d1 = index_wide(d[at]);
-    let d2 = index_wide(d[at + 1]);
-    let d3 = index_wide(d[at + 2]);
-    let d4 = index_wide(d[at + 3]);
+    let d1 = d[at] as u64;
+    let d2 = d[at + 1] as u64;
+    let d3 = d[at + 2] as u64;
+    let d4 = d[at + 3] as u64;
     if narrow(nest, e) {
-        return narrow_record(d1, d2, d3, d4, weights[e]);
+        return narrow_record(d1, d2, d3, d4, nest.weights[e]);
     }
-    wide_record(d1, d2, d3, d4, weights[e])
+    wide_record(d1, d2, d3, d4, nest.weights[e])
 }
 
 // Record r: the dimensions, the bounds, the distances, the close.

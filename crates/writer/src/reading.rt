@@ -1,11 +1,11 @@
 // The fields of a recipe by value, as the writer takes them: with these a recipe is rebuilt byte for byte.
-ghost use Rattle.std.specs.Prelude.{◌≡◌, true, ℕ, ◌+◌, ◌%◌, ◌<◌, ◌≤◌, length, get_or};
-ghost use Rattle.nest.specs.Reader.{filled};
+ghost use Rattle.std.specs.Prelude.{◌≡◌, true};
 ghost use Rattle.writer.specs.Fields.{fields_of};
 ghost use Rattle.writer.specs.Writing.{nest_writable};
 ghost use Rattle.writer.specs.Demand202.{Tables};
 ghost use Rattle.writer.specs.Told.{told_fields, no_fields, read_call};
 
+use crate::table;
 use nest::Nest;
 
 // What reading tells: its number; how many dimensions, distances and bounds there are, whose numbers stand first in each table, 0 behind them;
@@ -31,95 +31,38 @@ pub struct RecipeFields {
     pub shift: u8,
 }
 
-// The same numbers in two bytes each.
-fn halves_4(values: [usize; 4]) -> [u16; 4]
-    requires { (length values ≡ 4) × ((i : ℕ) → get_or values i 0 < 65536) }
-    ensures { result ≡ values }
-{
-    let mut table = [0u16; 4];
-    for i in 0..4 {
-        table[i] = values[i] as u16;
-    }
-    table
-}
-
-fn halves_8(values: [u64; 8]) -> [u16; 8]
-    requires { (length values ≡ 8) × ((i : ℕ) → get_or values i 0 < 65536) }
-    ensures { result ≡ values }
-{
-    let mut table = [0u16; 8];
-    for i in 0..8 {
-        table[i] = values[i] as u16;
-    }
-    table
-}
-
-fn halves_32(values: [usize; 32]) -> [u16; 32]
-    requires { (length values ≡ 32) × ((i : ℕ) → get_or values i 0 < 65536) }
-    ensures { result ≡ values }
-{
-    let mut table = [0u16; 32];
-    for i in 0..32 {
-        table[i] = values[i] as u16;
-    }
-    table
-}
-
-// Slopes from slopes plus 1.
-fn slopes_of(values: [u8; 4], n: usize) -> [u8; 4]
-    requires { (n ≤ 4) × ((i : ℕ) → get_or values i 0 < 256) }
-    ensures { result ≡ filled 4 n (λ (i : ℕ). (get_or values i 0 + 255) % 256) }
-{
-    let mut table = [0u8; 4];
-    for i in 0..n {
-        table[i] = ((base::byte_index(values[i]) + 255) % 256) as u8;
-    }
-    table
-}
-
-// Offsets from offsets plus 32,768.
-fn offsets_of(values: [u16; 4], n: usize) -> [u16; 4]
-    requires { (n ≤ 4) × ((i : ℕ) → get_or values i 0 < 65536) }
-    ensures { result ≡ filled 4 n (λ (i : ℕ). (get_or values i 0 + 32768) % 65536) }
-{
-    let mut table = [0u16; 4];
-    for i in 0..n {
-        table[i] = ((base::half_index(values[i]) + 32768) % 65536) as u16;
-    }
-    table
-}
-
 fn fields_of(nest: Nest) -> RecipeFields
     requires { Tables nest × (nest_writable nest ≡ true) }
     ensures { result ≡ told_fields (fields_of nest) }
 {
-    let bounds = nest.bounds;
-    let lengths = nest.lengths;
-    let tiling = nest.tiling;
-    let counts = nest.counts;
-    let components = nest.components;
-    let weights = nest.weights;
-    let offsets = nest.offsets;
+    // By names of their own: the borrow checker stores no array straight from a field.
     let sides = nest.sides;
     let bounded = nest.bounded;
     let earlier = nest.earlier;
-    let slopes = nest.slopes;
     RecipeFields {
         number: 0,
         dimensions: nest.dimensions as u32,
         distances: nest.distances as u32,
-        bounds: bounds as u32,
+        bounds: nest.bounds as u32,
         boundary: nest.boundary as u32,
-        lengths: halves_4(lengths),
-        tiling: halves_4(tiling),
-        counts: halves_4(counts),
-        components: halves_32(components),
-        weights: halves_8(weights),
-        offsets: offsets_of(offsets, bounds),
-        sides: sides,
-        bounded: bounded,
-        earlier: earlier,
-        slopes: slopes_of(slopes, bounds),
+        lengths: table(&nest.lengths, 0, |length: usize| length as u16),
+        tiling: table(&nest.tiling, 0, |tile: usize| tile as u16),
+        counts: table(&nest.counts, 0, |count: usize| count as u16),
+        components: table(&nest.components, 0, |component: usize| component as u16),
+        weights: table(&nest.weights, 0, |weight: u64| weight as u16),
+        offsets: table(
+            &nest.offsets[..nest.bounds],
+            0,
+            |offset: u16| offset.wrapping_add(32768),
+        ),
+        sides,
+        bounded,
+        earlier,
+        slopes: table(
+            &nest.slopes[..nest.bounds],
+            0,
+            |slope: u8| slope.wrapping_add(255),
+        ),
         shift: nest.shift as u8,
     }
 }
@@ -128,7 +71,7 @@ fn no_fields(number: u32) -> RecipeFields
     ensures { result ≡ no_fields number }
 {
     RecipeFields {
-        number: number,
+        number,
         dimensions: 0,
         distances: 0,
         bounds: 0,
@@ -151,10 +94,8 @@ fn no_fields(number: u32) -> RecipeFields
 pub fn read(encoded: &[u8]) -> RecipeFields
     ensures { result ≡ read_call encoded.now }
 {
-    let reading = reader::read(encoded);
-    let number = reading.number;
-    if number != 0 {
-        return no_fields(number);
+    match reader::read(encoded) {
+        Ok(nest) => fields_of(nest),
+        Err(refusal) => no_fields(refusal.number()),
     }
-    fields_of(reading.nest)
 }

@@ -5,16 +5,6 @@ use Rattle.bands.proofs.lagged.Waves.{band_mixes}
 use Rattle.bands.proofs.Columns.{columns_fit, beside_stored}
 use Rattle.bands.proofs.beside.Goals as goal
 
-pub overflow_sub-few : goal.overflow_sub-few
-overflow_sub-few c =
-    let p = c.requires.1 in
-    omega (arith, p.0.1.0.three)
-
-pub overflow_add-full : goal.overflow_add-full
-overflow_add-full c =
-    let p = c.requires.1 in
-    omega (arith, (p.0.1.0.each 0 (omega arith)).few, p.0.1.0.three, p.0.1.0.low)
-
 pub edge_row-requires : goal.edge_row-requires
 edge_row-requires c =
     let p = c.requires.1 in
@@ -38,21 +28,6 @@ edge_row-requires-4 c =
     let p = c.requires.1 in
     band_mixes _ p.0.0 (four c.args.a c.args.b c.args.c c.args.d) _ _ _ _ _ _ p.0.1.0 3 _ (omega arith)
     (omega (arith, p.0.1.0.low)) _ _ p.0.1.1.0 (omega arith)
-
-pub overflow_sub-lag : goal.overflow_sub-lag
-overflow_sub-lag c =
-    let p = c.requires.1 in
-    omega (arith, p.0.1.0.rows.apart 0 1 (omega arith) (omega arith), p.0.1.0.three, p.0.1.0.low)
-
-pub overflow_sub-rest : goal.overflow_sub-rest
-overflow_sub-rest c =
-    let p = c.requires.1 in
-    omega (arith, p.0.1.0.rows.apart 0 1 (omega arith) (omega arith), p.0.1.0.three, p.0.1.0.low)
-
-pub overflow_add-a : goal.overflow_add-a
-overflow_add-a c =
-    let p = c.requires.1 in
-    omega (arith, (p.0.1.0.each 0 (omega arith)).low, p.0.1.0.low, p.0.0.cells_most)
 
 pub wave-requires : goal.wave-requires
 wave-requires c =

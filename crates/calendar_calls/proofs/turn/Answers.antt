@@ -17,4 +17,4 @@ pub returns : goal.returns
 returns c =
     let A = c.args in
     let done = c.turn-after.ensures A.progress.now c.flat_of.ensures in
-    lines.turn_stored c.turn-after.result _ _ A.progress.now _ A.processor _ done _ c.store_after.ensures
+    rw c.store_after.ensures.1 (lines.turn_stored c.turn-after.result _ _ A.progress.now _ A.processor _ done _ c.store_after.ensures.0)

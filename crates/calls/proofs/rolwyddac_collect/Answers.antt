@@ -3,4 +3,5 @@ use Rattle.records.specs.Records.{flat_words}
 use Rattle.calls.proofs.rolwyddac_collect.Goals as goal
 
 pub returns : goal.returns
-returns c = c.collect.ensures (flat_words c.args.progress.now) c.flatten-flat.ensures
+returns c =
+    rw c.number_of.ensures (c.collect.ensures (flat_words c.args.progress.now) c.flatten-flat.ensures)

@@ -3,4 +3,5 @@ use Rattle.records.specs.Records.{flat_words}
 use Rattle.calls.proofs.rolwyddac_deliver.Goals as goal
 
 pub returns : goal.returns
-returns c = c.deliver.ensures (flat_words c.args.progress.now) c.flatten-flat.ensures
+returns c =
+    rw c.number_of.ensures (c.deliver.ensures (flat_words c.args.progress.now) c.flatten-flat.ensures)

@@ -1,6 +1,5 @@
 -- `calls::rolwyddac_write` meets its contract: the writer's own, and each number is a value of its argument's type.
 use native.Mathlib.Omega.{arith}
-use borrow.Author.Rules.{rules}
 use Rattle.calls.proofs.rolwyddac_write.Goals as goal
 
 pub returns : goal.returns

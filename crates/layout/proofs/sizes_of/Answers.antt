@@ -13,9 +13,6 @@ product-tiles-requires c = across_countable _ c.requires _ c.across_of-across.en
 pub product-processors-requires : goal.product-processors-requires
 product-processors-requires c = counts_countable _ c.requires
 
-pub ways_of-ways-requires : goal.ways_of-ways-requires
-ways_of-ways-requires c = c.requires
-
 pub returns : goal.returns
 unfolding cells processors
 returns c = (

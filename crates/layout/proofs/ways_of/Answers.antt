@@ -12,6 +12,3 @@ overflow_sub-result c = more_directions _ c.requires _ c.product.ensures
 
 pub returns-in-Direct : goal.returns-in-Direct
 returns-in-Direct c = ways_direct _ c.requires _ c.in-Direct.is _ c.product.ensures
-
-pub returns-in-Indirect : goal.returns-in-Indirect
-returns-in-Indirect c = ways_indirect _ c.requires _ c.in-Indirect.is

@@ -8,7 +8,7 @@ returns-then-double_at-fingerprint c =
     stale_recipe c.args.packet.now c.args.fingerprint c.args.run c.double_at.result c.double_at.ensures
     c.if-double_at-fingerprint.true
 
-pub returns : goal.returns
-returns c =
-    stale_run c.args.packet.now c.args.fingerprint c.args.run c.double_at.result c.double_at-2.result _ c.double_at.ensures
-    c.if-double_at-fingerprint.false c.double_at-2.ensures refl
+pub returns-else-double_at-fingerprint : goal.returns-else-double_at-fingerprint
+returns-else-double_at-fingerprint c =
+    stale_run c.args.packet.now c.args.fingerprint c.args.run c.double_at.result c.double_at-else-double_at-fingerprint.result _ c.double_at.ensures
+    c.if-double_at-fingerprint.false c.double_at-else-double_at-fingerprint.ensures refl

@@ -1,18 +1,10 @@
--- Four stores.
-use Rattle.packets.proofs.Bytes.{put_four}
+-- Four bytes at their place.
+use mathlib.Core.Path.{◌∙◌}
 use native.Mathlib.Omega.{arith}
-use lib.ListN.{length-set}
-use borrow.Author.Rules.{rules}
+use Rattle.packets.specs.Packet.{word_bytes}
+use Rattle.packets.proofs.Bytes.{put_four}
 use Rattle.packets.proofs.put_word.Goals as goal
 
-pub bounds-space-at-2 : goal.bounds-space-at-2
-bounds-space-at-2 c = simp length-set (omega arith)
-
-pub bounds-space-at-3 : goal.bounds-space-at-3
-bounds-space-at-3 c = simp length-set (omega arith)
-
-pub bounds-space-at-4 : goal.bounds-space-at-4
-bounds-space-at-4 c = simp length-set (omega arith)
-
 pub returns : goal.returns
-returns c = put_four c.args.space.now c.args.at c.args.word (search rules)
+unfolding word_bytes
+returns c = put_four c.args.space.now _ c.args.at _ c.args.word c.requires (omega arith) (c.copy_from_slice.ensures.after ∙ c.to_le_bytes.ensures)

@@ -8,8 +8,5 @@ use Rattle.parcels.proofs.block_of.Given as goal
 
 abbrev pub invariant-loop-j : goal.invariant-loop-j
 invariant-loop-j l =
-    Filled 4 (λ i. (get_or l.at i 0 - one (ltb i l.earlier)) * get_or l.tiling i 0) l.n l.corner l.j
-    × Filled 4 (λ i. min (get_or l.at i 0 * get_or l.tiling i 0 + get_or l.tiling i 0) (get_or l.ends i 0) - (get_or l.at i 0 - one (ltb i l.earlier)) * get_or l.tiling i 0) l.n l.lengths l.j
-
-abbrev pub decreases-loop-j : goal.decreases-loop-j
-decreases-loop-j l = l.n - l.j
+    Filled 4 (λ i. (get_or l.at i 0 - one (ltb i l.earlier)) * get_or l.fn.nest.tiling i 0) l.fn.nest.dimensions l.corner l.j
+    × Filled 4 (λ i. min (get_or l.at i 0 * get_or l.fn.nest.tiling i 0 + get_or l.fn.nest.tiling i 0) (get_or l.fn.nest.lengths i 0) - (get_or l.at i 0 - one (ltb i l.earlier)) * get_or l.fn.nest.tiling i 0) l.fn.nest.dimensions l.lengths l.j

@@ -9,18 +9,6 @@ loop-e-init c = ending_none _ _ _ _ (omega arith)
 pub end_in_row-requires : goal.end_in_row-requires
 end_in_row-requires c = record { accepted = (c.requires.accepted.0, (c.loop-e-test.true, c.requires.accepted.1)); dimensions_value = c.requires.dimensions_value }
 
-pub offset_bounds-ends-e : goal.offset_bounds-ends-e
-offset_bounds-ends-e c = omega (arith, c.requires.accepted.0.distances_most, c.loop-e-test.true)
-
-pub bounds-ends-e : goal.bounds-ends-e
-bounds-ends-e c = omega (arith, c.requires.accepted.0.distances_most, c.loop-e-test.true)
-
-pub overflow_step-e : goal.overflow_step-e
-overflow_step-e c = omega (arith, c.requires.accepted.0.distances_most, c.loop-e-test.true)
-
-pub loop-e-smaller : goal.loop-e-smaller
-loop-e-smaller c = omega (arith, c.loop-e-test.true)
-
 pub loop-e-preserved : goal.loop-e-preserved
 loop-e-preserved c =
     ending_more _ _ _ _ _ _ c.loop-e.invariant c.loop-e-test.true

@@ -1,5 +1,4 @@
 -- `parcels::leaves` meets its contract: none of the first j steps comes to another processor.
-use native.Mathlib.Omega.{arith}
 use mathlib.Core.Path.{sym, ◌∙◌}
 use Rattle.base.proofs.Tests.{some_one}
 use Rattle.layout.proofs.Loops.{nowhere_none, nowhere_more, nowhere_end}
@@ -8,26 +7,8 @@ use Rattle.parcels.proofs.leaves.Goals as goal
 pub loop-j-init : goal.loop-j-init
 loop-j-init c = nowhere_none _ _
 
-pub offset_bounds-ahead-j : goal.offset_bounds-ahead-j
-offset_bounds-ahead-j c = omega (arith, c.loop-j-test.true, c.requires)
-
-pub bounds-ahead-j : goal.bounds-ahead-j
-bounds-ahead-j c = omega (arith, c.loop-j-test.true, c.requires)
-
-pub offset_bounds-counts-j : goal.offset_bounds-counts-j
-offset_bounds-counts-j c = omega (arith, c.loop-j-test.true, c.requires)
-
-pub bounds-counts-j : goal.bounds-counts-j
-bounds-counts-j c = omega (arith, c.loop-j-test.true, c.requires)
-
 pub returns-then-hops : goal.returns-then-hops
 returns-then-hops c = sym (some_one _ _ c.loop-j.j c.loop-j-test.true (sym c.hops.ensures ∙ c.if-hops.true))
-
-pub overflow_step-j : goal.overflow_step-j
-overflow_step-j c = omega (arith, c.loop-j-test.true, c.requires)
-
-pub loop-j-smaller : goal.loop-j-smaller
-loop-j-smaller c = omega (arith, c.loop-j-test.true)
 
 pub loop-j-preserved : goal.loop-j-preserved
 loop-j-preserved c = nowhere_more _ _ _ c.loop-j.invariant c.loop-j-test.true (sym c.hops.ensures ∙ c.if-hops.false)

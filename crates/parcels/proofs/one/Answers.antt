@@ -1,10 +1,14 @@
 -- `parcels::one` meets its contract.
-use mathlib.Core.Path.{sym}
-use Rattle.base.proofs.Tests.{one_true, one_false}
+use mathlib.Core.Path.{◌≡◌, refl, ◌∙◌}
+use mathlib.Core.Bool.{Bool, true, false}
+use mir.Val.{bool_byte}
+use Rattle.base.specs.Tests.{one}
 use Rattle.parcels.proofs.one.Goals as goal
 
-pub returns-then-test : goal.returns-then-test
-returns-then-test c = sym (one_true c.if-test.true)
+as_one : (b : Bool) → bool_byte b ≡ one b
+unfolding one
+as_one true = refl
+as_one false = refl
 
-pub returns-else-test : goal.returns-else-test
-returns-else-test c = sym (one_false c.if-test.false)
+pub returns : goal.returns
+returns c = c.from.ensures ∙ as_one c.args.test

@@ -4,7 +4,7 @@ use Rattle.parcels.proofs.Packing.{PackedTo}
 use Rattle.parcels.proofs.pack.Given as goal
 
 abbrev pub invariant-loop-r : goal.invariant-loop-r
-invariant-loop-r l = PackedTo l.nest l.sending l.memory l.words l.count (l.r * l.sending.width)
+invariant-loop-r l = PackedTo l.layout.nest l.sending l.memory l.words l.count (l.r * l.sending.width)
 
 abbrev pub decreases-loop-r : goal.decreases-loop-r
-decreases-loop-r l = l.rows - l.r
+decreases-loop-r l = l.sending.rows - l.r

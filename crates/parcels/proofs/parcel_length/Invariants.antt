@@ -4,7 +4,7 @@ use Rattle.parcels.proofs.Walks.{Measuring}
 use Rattle.parcels.proofs.parcel_length.Given as goal
 
 abbrev pub invariant-loop-r : goal.invariant-loop-r
-invariant-loop-r l = Measuring l.nest l.sending l.count (l.r * l.sending.width)
+invariant-loop-r l = Measuring l.layout.nest l.sending l.count (l.r * l.sending.width)
 
 abbrev pub decreases-loop-r : goal.decreases-loop-r
-decreases-loop-r l = l.rows - l.r
+decreases-loop-r l = l.sending.rows - l.r

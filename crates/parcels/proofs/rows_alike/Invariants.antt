@@ -1,10 +1,6 @@
 -- `parcels::rows_alike` meets its contract: so many rows are alike for the first e distances.
-use Prim.Native.Nat.{◌-◌}
 use Rattle.parcels.proofs.Alike.{Steady}
 use Rattle.parcels.proofs.rows_alike.Given as goal
 
 abbrev pub invariant-loop-e : goal.invariant-loop-e
-invariant-loop-e l = Steady l.components l.j l.component l.low l.high l.n l.initial.rows l.rows l.e
-
-abbrev pub decreases-loop-e : goal.decreases-loop-e
-decreases-loop-e l = l.n - l.e
+invariant-loop-e l = Steady l.components l.j l.component l.low l.high l.fn.nest.distances l.initial.rows l.rows l.e

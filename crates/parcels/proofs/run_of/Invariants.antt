@@ -1,10 +1,6 @@
--- `parcels::run_of` meets its contract: the highest of the first e ends, none below the row's first component.
-use Prim.Native.Nat.{◌-◌}
+-- `parcels::run_of` meets its contract: the highest of the ends so far, none below the row's first component.
 use Rattle.parcels.proofs.Windows.{Highest}
 use Rattle.parcels.proofs.run_of.Given as goal
 
-abbrev pub invariant-loop-e : goal.invariant-loop-e
-invariant-loop-e l = Highest l.ends l.n l.component l.end l.e
-
-abbrev pub decreases-loop-e : goal.decreases-loop-e
-decreases-loop-e l = l.n - l.e
+abbrev pub invariant-loop-last : goal.invariant-loop-last
+invariant-loop-last l = Highest l.fn.ends l.fn.n l.component l.end l.last-index

@@ -7,50 +7,27 @@ use mathlib.Core.List.{List}
 use Prim.Native.Nat.{ℕ}
 use Rattle.base.specs.Lists.{unpack}
 use Rattle.base.proofs.Copies.{put_row}
-use Rattle.layout.proofs.Steps.{ways_some, way_low}
 use Rattle.parcels.proofs.Walks.{found_few, unpacking_none, unpacking_long, unpacked}
 use Rattle.parcels.proofs.Windows.{run_room}
-use Rattle.parcels.proofs.Rows.{size_few, rows_few, row_ranked}
+use Rattle.parcels.proofs.Rows.{size_few, row_ranked}
 use Rattle.parcels.proofs.Alike.{row_first, unpacked_over, unpacked_next}
-use Rattle.parcels.proofs.Sendings.{headed, full_found, words_found}
+use Rattle.parcels.proofs.Sendings.{full_found, words_found}
 use Rattle.parcels.proofs.unpack.Goals as goal
 
-pub nonzero_div-slot : goal.nonzero_div-slot
-nonzero_div-slot c = ways_some _ c.requires.0.accepted c.args.sizes.route _ c.requires.0.ways
-
-pub place_of_tile-at-requires : goal.place_of_tile-at-requires
-place_of_tile-at-requires c = c.requires.0
-
-pub nonzero_rem-slot : goal.nonzero_rem-slot
-nonzero_rem-slot c = ways_some _ c.requires.0.accepted c.args.sizes.route _ c.requires.0.ways
-
-pub along_of-ahead-requires : goal.along_of-ahead-requires
-along_of-ahead-requires c = (c.requires.0, way_low _ c.requires.0.accepted c.args.sizes.route _ c.requires.0.ways c.args.slot)
-
-pub sending_of-sending-requires : goal.sending_of-sending-requires
-sending_of-sending-requires c = (
-  c.requires.0,
-  headed c.args.sizes.route _ _ _ _ _ c.requires.0.ways c.requires.1.0 c.place_of_tile-at.ensures
-      c.along_of-ahead.ensures,
-)
+pub sending_at-sending-requires : goal.sending_at-sending-requires
+sending_at-sending-requires c = c.requires.0
 
 pub loop-r-init : goal.loop-r-init
-loop-r-init c = rw (zero-mul c.sending_of-sending.result.width) (unpacking_none _ _ _ _)
+loop-r-init c = rw (zero-mul c.sending_at-sending.result.width) (unpacking_none _ _ _ _)
 
 pub row_at-row-requires : goal.row_at-row-requires
-row_at-row-requires c = (c.requires.0.accepted, (record { is = refl }, (c.sending_of-sending.ensures.shape, c.loop-r-test.true)))
-
-pub overflow_add-r : goal.overflow_add-r
-overflow_add-r c = omega (arith, c.row_at-row.ensures.room, rows_few _ c.requires.0.accepted _ c.sending_of-sending.ensures.shape)
-
-pub loop-r-smaller-then-row-eq0 : goal.loop-r-smaller-then-row-eq0
-loop-r-smaller-then-row-eq0 c = omega (arith, c.row_at-row.ensures.least, c.loop-r-test.true)
+row_at-row-requires c = (c.args.layout.now.sized.accepted, (record { is = refl }, (c.sending_at-sending.ensures.shape, c.loop-r-test.true)))
 
 pub loop-r-preserved-then-row-eq0 : goal.loop-r-preserved-then-row-eq0
 loop-r-preserved-then-row-eq0 c = unpacked_over _ _ _ _ c.row_at-row.ensures c.if-row-eq0.true _ _ _ _ c.loop-r.invariant
 
 pub rank-number-requires : goal.rank-number-requires
-rank-number-requires c = row_ranked _ _ _ _ c.row_at-row.ensures.place c.requires.0.accepted c.sending_of-sending.ensures.shape
+rank-number-requires c = row_ranked _ _ _ _ c.row_at-row.ensures.place c.args.layout.now.sized.accepted c.sending_at-sending.ensures.shape
 
 pub copy_part-requires : goal.copy_part-requires
 copy_part-requires c = (
@@ -59,13 +36,13 @@ copy_part-requires c = (
     (row_first _ _ _ _ c.row_at-row.ensures _ c.rank-number.ensures).low,
     c.row_at-row.ensures.run.low,
     unpacking_long _ _ _ _ _ _ _ c.loop-r.invariant,
-    c.requires.1.1.0,
+    c.requires.1.0,
   ),
   omega (
     arith,
     run_room _ _ _ _ _ _ _ (row_first _ _ _ _ c.row_at-row.ensures _ c.rank-number.ensures) _ c.row_at-row.ensures.run _
         c.loop-r.invariant.count_is,
-    (words_found _ _ _ _ c.sending_of-sending.ensures _ c.requires.1.1.1),
+    (words_found _ _ _ _ c.sending_at-sending.ensures _ c.requires.1.1),
   ),
 )
 
@@ -75,23 +52,17 @@ overflow_add-count c =
       arith,
       run_room _ _ _ _ _ _ _ (row_first _ _ _ _ c.row_at-row.ensures _ c.rank-number.ensures) _ c.row_at-row.ensures.run _
           c.loop-r.invariant.count_is,
-      found_few c.args.nest c.sending_of-sending.result
-          (c.sending_of-sending.result.rows * c.sending_of-sending.result.width),
-      size_few _ c.requires.0.accepted _
-          c.sending_of-sending.ensures.shape,
+      found_few c.args.layout.now.nest c.sending_at-sending.result
+          (c.sending_at-sending.result.rows * c.sending_at-sending.result.width),
+      size_few _ c.args.layout.now.sized.accepted _
+          c.sending_at-sending.ensures.shape,
     )
-
-pub overflow_add-r-in-loop-r : goal.overflow_add-r-in-loop-r
-overflow_add-r-in-loop-r c = omega (arith, c.loop-r-test.true, rows_few _ c.requires.0.accepted _ c.sending_of-sending.ensures.shape)
-
-pub loop-r-smaller : goal.loop-r-smaller
-loop-r-smaller c = omega (arith, c.loop-r-test.true)
 
 pub loop-r-preserved : goal.loop-r-preserved
 loop-r-preserved c =
     let first = row_first _ _ _ _ c.row_at-row.ensures _ c.rank-number.ensures in
     let room = run_room _ _ _ _ _ _ _ first _ c.row_at-row.ensures.run _ c.loop-r.invariant.count_is in
-    let found = words_found _ _ _ _ c.sending_of-sending.ensures _ c.requires.1.1.1 in
+    let found = words_found _ _ _ _ c.sending_at-sending.ensures _ c.requires.1.1 in
     unpacked_next _ _ _ _ c.row_at-row.ensures _ first _ _ _ _ _ c.loop-r.invariant (omega (arith, room, found))
     (c.copy_part.ensures ∙ put_row _ _ _ _ _
     (omega (
@@ -99,15 +70,12 @@ loop-r-preserved c =
       first.low,
       c.row_at-row.ensures.run.low,
       unpacking_long _ _ _ _ _ _ _ c.loop-r.invariant,
-      c.requires.1.1.0,
+      c.requires.1.0,
     ))
     (omega (arith, room, found)))
 
-pub shape_of-memory : goal.shape_of-memory
-shape_of-memory c = unpacking_long _ _ _ _ _ _ _ c.loop-r.invariant
-
 pub returns : goal.returns
 returns c =
-    unpacked _ _ _ _ _ _ _ c.loop-r.invariant (mul-le-mul_right c.sending_of-sending.result.width c.loop-r-test.false)
-    (words_found _ _ _ _ c.sending_of-sending.ensures _ c.requires.1.1.1) ∙ ap (λ (l : List ℕ). unpack c.args.memory.now l
-    c.args.words.now) (sym (full_found _ _ _ _ c.sending_of-sending.ensures _ c.requires.1.1.1))
+    unpacked _ _ _ _ _ _ _ c.loop-r.invariant (mul-le-mul_right c.sending_at-sending.result.width c.loop-r-test.false)
+    (words_found _ _ _ _ c.sending_at-sending.ensures _ c.requires.1.1) ∙ ap (λ (l : List ℕ). unpack c.args.memory.now l
+    c.args.words.now) (sym (full_found _ _ _ _ c.sending_at-sending.ensures _ c.requires.1.1))

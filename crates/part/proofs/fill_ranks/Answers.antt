@@ -4,56 +4,45 @@ use mathlib.Core.Path.{ap}
 use Prim.Native.Nat.{ℕ, ◌*◌}
 use mathlib.Core.Logic.{inl, inr}
 use Rattle.plan.specs.Shaped.{plan_of}
-use Rattle.part.proofs.Slotted as rows
+use Rattle.tables.proofs.Slotted as rows
 use Rattle.part.proofs.Slots as pass
 use Rattle.part.proofs.Handling as handling
 use Rattle.part.proofs.fill_ranks.Goals as goal
 use Rattle.part.proofs.fill_ranks.Goals.{then-words-ne0, else-words-ne0}
 
-pub tiles_of-requires : goal.tiles_of-requires
-tiles_of-requires c = c.requires.sized.0
-
 pub overflow_mul-slots : goal.overflow_mul-slots
 overflow_mul-slots c =
     omega (
       arith,
-      ((let S = c in
-          rows.slotted S.args.nest S.args.sizes S.requires.sized.0.0 S.args.lens.now S.requires.sized.0.1 c.tiles_of.result c.tiles_of.ensures.0)).sheet.few,
+      (rows.slotted c.args.table.now.layout.nest c.args.table.now.layout.sizes c.args.table.now.layout.sized c.args.table.now.lens c.args.table.now.tabled c.tiles_of.result c.tiles_of.ensures.0).sheet.few,
     )
 
 pub loop-slot-init : goal.loop-slot-init
 loop-slot-init c = (
-  pass.past_start c.args.lens.now (c.tiles_of.result * c.args.sizes.ways),
-  handling.rank_start (plan_of c.args.sizes.route c.args.nest) c.args.b c.args.ordinals.now c.args.starts.now c.requires.ordinals_len.0
+  pass.past_start c.args.table.now.lens (c.tiles_of.result * c.args.table.now.layout.sizes.ways),
+  handling.rank_start (plan_of c.args.table.now.layout.sizes.route c.args.table.now.layout.nest) c.args.b c.args.ordinals.now c.args.starts.now c.requires.ordinals_len.0
       c.requires.ordinals_len.1,
 )
 
-pub offset_bounds-lens-slot : goal.offset_bounds-lens-slot
-offset_bounds-lens-slot c =
+pub offset_bounds-table-slot : goal.offset_bounds-table-slot
+offset_bounds-table-slot c =
     let test = c.loop-slot-test.true in
     omega (
       arith,
       test,
-      ((let S = c in
-          rows.slotted S.args.nest S.args.sizes S.requires.sized.0.0 S.args.lens.now S.requires.sized.0.1 c.tiles_of.result c.tiles_of.ensures.0)).sheet.few,
-      ((let S = c in
-          rows.slotted S.args.nest S.args.sizes S.requires.sized.0.0 S.args.lens.now S.requires.sized.0.1 c.tiles_of.result c.tiles_of.ensures.0)).sheet.long,
+      (rows.slotted c.args.table.now.layout.nest c.args.table.now.layout.sizes c.args.table.now.layout.sized c.args.table.now.lens c.args.table.now.tabled c.tiles_of.result c.tiles_of.ensures.0).sheet.few,
+      (rows.slotted c.args.table.now.layout.nest c.args.table.now.layout.sizes c.args.table.now.layout.sized c.args.table.now.lens c.args.table.now.tabled c.tiles_of.result c.tiles_of.ensures.0).sheet.long,
     )
 
-pub bounds-lens-slot : goal.bounds-lens-slot
-bounds-lens-slot c =
+pub bounds-table-slot : goal.bounds-table-slot
+bounds-table-slot c =
     let test = c.loop-slot-test.true in
     omega (
       arith,
       test,
-      ((let S = c in
-          rows.slotted S.args.nest S.args.sizes S.requires.sized.0.0 S.args.lens.now S.requires.sized.0.1 c.tiles_of.result c.tiles_of.ensures.0)).sheet.few,
-      ((let S = c in
-          rows.slotted S.args.nest S.args.sizes S.requires.sized.0.0 S.args.lens.now S.requires.sized.0.1 c.tiles_of.result c.tiles_of.ensures.0)).sheet.long,
+      (rows.slotted c.args.table.now.layout.nest c.args.table.now.layout.sizes c.args.table.now.layout.sized c.args.table.now.lens c.args.table.now.tabled c.tiles_of.result c.tiles_of.ensures.0).sheet.few,
+      (rows.slotted c.args.table.now.layout.nest c.args.table.now.layout.sizes c.args.table.now.layout.sized c.args.table.now.lens c.args.table.now.tabled c.tiles_of.result c.tiles_of.ensures.0).sheet.long,
     )
-
-pub half_index-words-requires : goal.half_index-words-requires
-half_index-words-requires c = tt
 
 pub offset_bounds-ordinals-number : goal.offset_bounds-ordinals-number
 offset_bounds-ordinals-number c =
@@ -63,8 +52,7 @@ offset_bounds-ordinals-number c =
       arith,
       test,
       loop.invariant.0.few,
-      ((let S = c in
-          rows.slotted S.args.nest S.args.sizes S.requires.sized.0.0 S.args.lens.now S.requires.sized.0.1 c.tiles_of.result c.tiles_of.ensures.0)).sheet.few,
+      (rows.slotted c.args.table.now.layout.nest c.args.table.now.layout.sizes c.args.table.now.layout.sized c.args.table.now.lens c.args.table.now.tabled c.tiles_of.result c.tiles_of.ensures.0).sheet.few,
     )
 
 pub bounds-ordinals-number : goal.bounds-ordinals-number
@@ -75,8 +63,7 @@ bounds-ordinals-number c =
       arith,
       test,
       loop.invariant.0.few,
-      ((let S = c in
-          rows.slotted S.args.nest S.args.sizes S.requires.sized.0.0 S.args.lens.now S.requires.sized.0.1 c.tiles_of.result c.tiles_of.ensures.0)).sheet.few,
+      (rows.slotted c.args.table.now.layout.nest c.args.table.now.layout.sizes c.args.table.now.layout.sized c.args.table.now.lens c.args.table.now.tabled c.tiles_of.result c.tiles_of.ensures.0).sheet.few,
     )
 
 pub offset_bounds-starts-number : goal.offset_bounds-starts-number
@@ -87,8 +74,7 @@ offset_bounds-starts-number c =
       arith,
       test,
       loop.invariant.0.few,
-      ((let S = c in
-          rows.slotted S.args.nest S.args.sizes S.requires.sized.0.0 S.args.lens.now S.requires.sized.0.1 c.tiles_of.result c.tiles_of.ensures.0)).sheet.few,
+      (rows.slotted c.args.table.now.layout.nest c.args.table.now.layout.sizes c.args.table.now.layout.sized c.args.table.now.lens c.args.table.now.tabled c.tiles_of.result c.tiles_of.ensures.0).sheet.few,
     )
 
 pub bounds-starts-number : goal.bounds-starts-number
@@ -99,8 +85,7 @@ bounds-starts-number c =
       arith,
       test,
       loop.invariant.0.few,
-      ((let S = c in
-          rows.slotted S.args.nest S.args.sizes S.requires.sized.0.0 S.args.lens.now S.requires.sized.0.1 c.tiles_of.result c.tiles_of.ensures.0)).sheet.few,
+      (rows.slotted c.args.table.now.layout.nest c.args.table.now.layout.sizes c.args.table.now.layout.sized c.args.table.now.lens c.args.table.now.tabled c.tiles_of.result c.tiles_of.ensures.0).sheet.few,
     )
 
 pub bounds-sides-slot : goal.bounds-sides-slot
@@ -110,9 +95,8 @@ bounds-sides-slot c =
     omega (
       arith,
       test,
-      ((let S = c in
-          rows.slotted S.args.nest S.args.sizes S.requires.sized.0.0 S.args.lens.now S.requires.sized.0.1 c.tiles_of.result c.tiles_of.ensures.0)).sheet.few,
-      S.requires.sized.1.0,
+      (rows.slotted c.args.table.now.layout.nest c.args.table.now.layout.sizes c.args.table.now.layout.sized c.args.table.now.lens c.args.table.now.tabled c.tiles_of.result c.tiles_of.ensures.0).sheet.few,
+      S.requires.sides_len.0,
     )
 
 pub handled_one-own-requires : goal.handled_one-own-requires
@@ -120,10 +104,9 @@ handled_one-own-requires c =
     let S = c in
     let loop = c.loop-slot in
     let test = c.loop-slot-test.true in
-    let half-index = c.half_index-words in
-    let here = pass.here S.args.sizes.route S.args.nest S.args.lens.now _ loop.slot loop.number loop.offset loop.invariant.0 ((let S = c in
-    rows.slotted S.args.nest S.args.sizes S.requires.sized.0.0 S.args.lens.now S.requires.sized.0.1 c.tiles_of.result c.tiles_of.ensures.0))
-    test half-index.result half-index.ensures in record { sized = ((S.requires.sized.0.0, S.requires.sized.0.1.routed), here c.if-words-ne0.true); side_value = S.requires.sized.1.1.each loop.slot (omega (arith, test, ap (λ (i : ℕ). i * S.args.sizes.ways) c.tiles_of.ensures.0)) }
+    let words = c.from-words in
+    let here = pass.here S.args.table.now.layout.sizes.route S.args.table.now.layout.nest S.args.table.now.lens _ loop.slot loop.number loop.offset loop.invariant.0 (rows.slotted c.args.table.now.layout.nest c.args.table.now.layout.sizes c.args.table.now.layout.sized c.args.table.now.lens c.args.table.now.tabled c.tiles_of.result c.tiles_of.ensures.0)
+    test words.result words.ensures in record { sized = here c.if-words-ne0.true; side_value = S.requires.sides_len.1.each loop.slot (omega (arith, test, ap (λ (i : ℕ). i * S.args.table.now.layout.sizes.ways) c.tiles_of.ensures.0)) }
 
 pub overflow_add-number : goal.overflow_add-number
 overflow_add-number c =
@@ -133,8 +116,7 @@ overflow_add-number c =
       arith,
       test,
       loop.invariant.0.few,
-      ((let S = c in
-          rows.slotted S.args.nest S.args.sizes S.requires.sized.0.0 S.args.lens.now S.requires.sized.0.1 c.tiles_of.result c.tiles_of.ensures.0)).sheet.few,
+      (rows.slotted c.args.table.now.layout.nest c.args.table.now.layout.sizes c.args.table.now.layout.sized c.args.table.now.lens c.args.table.now.tabled c.tiles_of.result c.tiles_of.ensures.0).sheet.few,
     )
 
 pub overflow_add-rank : goal.overflow_add-rank
@@ -146,9 +128,8 @@ overflow_add-rank c =
       arith,
       test,
       loop.invariant.0.few,
-      ((let S = c in
-          rows.slotted S.args.nest S.args.sizes S.requires.sized.0.0 S.args.lens.now S.requires.sized.0.1 c.tiles_of.result c.tiles_of.ensures.0)).sheet.few,
-      handling.few (plan_of S.args.sizes.route S.args.nest) S.args.b loop.ordinals loop.starts loop.number loop.offset
+      (rows.slotted c.args.table.now.layout.nest c.args.table.now.layout.sizes c.args.table.now.layout.sized c.args.table.now.lens c.args.table.now.tabled c.tiles_of.result c.tiles_of.ensures.0).sheet.few,
+      handling.few (plan_of S.args.table.now.layout.sizes.route S.args.table.now.layout.nest) S.args.b loop.ordinals loop.starts loop.number loop.offset
           loop.rank loop.at loop.invariant.1,
       handling.at_most _ c.handled_one-own.result c.handled_one-own.ensures,
     )
@@ -158,10 +139,9 @@ overflow_cast-at c =
     let S = c in
     let loop = c.loop-slot in
     let test = c.loop-slot-test.true in
-    let half-index = c.half_index-words in
-    let short = pass.short S.args.sizes.route S.args.nest S.args.lens.now _ loop.slot loop.number loop.offset loop.invariant.0 ((let S = c in
-    rows.slotted S.args.nest S.args.sizes S.requires.sized.0.0 S.args.lens.now S.requires.sized.0.1 c.tiles_of.result c.tiles_of.ensures.0))
-    test half-index.result half-index.ensures in
+    let words = c.from-words in
+    let short = pass.short S.args.table.now.layout.sizes.route S.args.table.now.layout.nest S.args.table.now.lens _ loop.slot loop.number loop.offset loop.invariant.0 (rows.slotted c.args.table.now.layout.nest c.args.table.now.layout.sizes c.args.table.now.layout.sized c.args.table.now.lens c.args.table.now.tabled c.tiles_of.result c.tiles_of.ensures.0)
+    test words.result words.ensures in
     omega (arith, short)
 
 pub overflow_mul-at : goal.overflow_mul-at
@@ -169,11 +149,10 @@ overflow_mul-at c =
     let S = c in
     let loop = c.loop-slot in
     let test = c.loop-slot-test.true in
-    let half-index = c.half_index-words in
-    let short = pass.short S.args.sizes.route S.args.nest S.args.lens.now _ loop.slot loop.number loop.offset loop.invariant.0 ((let S = c in
-    rows.slotted S.args.nest S.args.sizes S.requires.sized.0.0 S.args.lens.now S.requires.sized.0.1 c.tiles_of.result c.tiles_of.ensures.0))
-    test half-index.result half-index.ensures in
-    let own = handling.at_most_words _ c.handled_one-own.result half-index.result c.handled_one-own.ensures in
+    let words = c.from-words in
+    let short = pass.short S.args.table.now.layout.sizes.route S.args.table.now.layout.nest S.args.table.now.lens _ loop.slot loop.number loop.offset loop.invariant.0 (rows.slotted c.args.table.now.layout.nest c.args.table.now.layout.sizes c.args.table.now.layout.sized c.args.table.now.lens c.args.table.now.tabled c.tiles_of.result c.tiles_of.ensures.0)
+    test words.result words.ensures in
+    let own = handling.at_most_words _ c.handled_one-own.result words.result c.handled_one-own.ensures in
     omega (arith, short, own)
 
 pub overflow_add-at : goal.overflow_add-at
@@ -181,11 +160,10 @@ overflow_add-at c =
     let S = c in
     let loop = c.loop-slot in
     let test = c.loop-slot-test.true in
-    let half-index = c.half_index-words in
-    let short = pass.short S.args.sizes.route S.args.nest S.args.lens.now _ loop.slot loop.number loop.offset loop.invariant.0 ((let S = c in
-    rows.slotted S.args.nest S.args.sizes S.requires.sized.0.0 S.args.lens.now S.requires.sized.0.1 c.tiles_of.result c.tiles_of.ensures.0))
-    test half-index.result half-index.ensures in
-    let own = handling.at_most_words _ c.handled_one-own.result half-index.result c.handled_one-own.ensures in
+    let words = c.from-words in
+    let short = pass.short S.args.table.now.layout.sizes.route S.args.table.now.layout.nest S.args.table.now.lens _ loop.slot loop.number loop.offset loop.invariant.0 (rows.slotted c.args.table.now.layout.nest c.args.table.now.layout.sizes c.args.table.now.layout.sized c.args.table.now.lens c.args.table.now.tabled c.tiles_of.result c.tiles_of.ensures.0)
+    test words.result words.ensures in
+    let own = handling.at_most_words _ c.handled_one-own.result words.result c.handled_one-own.ensures in
     omega (
       arith,
       short,
@@ -193,8 +171,7 @@ overflow_add-at c =
       loop.invariant.1.small,
       loop.invariant.0.small,
       test,
-      ((let S = c in
-          rows.slotted S.args.nest S.args.sizes S.requires.sized.0.0 S.args.lens.now S.requires.sized.0.1 c.tiles_of.result c.tiles_of.ensures.0)).sheet.few,
+      (rows.slotted c.args.table.now.layout.nest c.args.table.now.layout.sizes c.args.table.now.layout.sized c.args.table.now.lens c.args.table.now.tabled c.tiles_of.result c.tiles_of.ensures.0).sheet.few,
     )
 
 pub overflow_add-offset : goal.overflow_add-offset
@@ -202,53 +179,35 @@ overflow_add-offset c =
     let S = c in
     let loop = c.loop-slot in
     let test = c.loop-slot-test.true in
-    let half-index = c.half_index-words in
-    let short = pass.short S.args.sizes.route S.args.nest S.args.lens.now _ loop.slot loop.number loop.offset loop.invariant.0 ((let S = c in
-    rows.slotted S.args.nest S.args.sizes S.requires.sized.0.0 S.args.lens.now S.requires.sized.0.1 c.tiles_of.result c.tiles_of.ensures.0))
-    test half-index.result half-index.ensures in
+    let words = c.from-words in
+    let short = pass.short S.args.table.now.layout.sizes.route S.args.table.now.layout.nest S.args.table.now.lens _ loop.slot loop.number loop.offset loop.invariant.0 (rows.slotted c.args.table.now.layout.nest c.args.table.now.layout.sizes c.args.table.now.layout.sized c.args.table.now.lens c.args.table.now.tabled c.tiles_of.result c.tiles_of.ensures.0)
+    test words.result words.ensures in
     omega (
       arith,
       short,
       loop.invariant.0.small,
       test,
-      ((let S = c in
-          rows.slotted S.args.nest S.args.sizes S.requires.sized.0.0 S.args.lens.now S.requires.sized.0.1 c.tiles_of.result c.tiles_of.ensures.0)).sheet.few,
+      (rows.slotted c.args.table.now.layout.nest c.args.table.now.layout.sizes c.args.table.now.layout.sized c.args.table.now.lens c.args.table.now.tabled c.tiles_of.result c.tiles_of.ensures.0).sheet.few,
     )
-
-pub overflow_add-slot : goal.overflow_add-slot
-overflow_add-slot c =
-    let test = c.loop-slot-test.true in
-    omega (
-      arith,
-      test,
-      ((let S = c in
-          rows.slotted S.args.nest S.args.sizes S.requires.sized.0.0 S.args.lens.now S.requires.sized.0.1 c.tiles_of.result c.tiles_of.ensures.0)).sheet.few,
-    )
-
-pub loop-slot-smaller : goal.loop-slot-smaller
-loop-slot-smaller c = omega (arith, c.loop-slot-test.true)
 
 pub loop-slot-preserved : goal.loop-slot-preserved
 loop-slot-preserved c =
     let S = c in
     let loop = c.loop-slot in
     let test = c.loop-slot-test.true in
-    let half-index = c.half_index-words in
-    let here = pass.here S.args.sizes.route S.args.nest S.args.lens.now _ loop.slot loop.number loop.offset loop.invariant.0 ((let S = c in
-    rows.slotted S.args.nest S.args.sizes S.requires.sized.0.0 S.args.lens.now S.requires.sized.0.1 c.tiles_of.result c.tiles_of.ensures.0))
-    test half-index.result half-index.ensures in (
-      pass.past_next S.args.sizes.route S.args.nest S.args.lens.now _ loop.slot loop.number loop.offset loop.invariant.0 ((let S = c in
-          rows.slotted S.args.nest S.args.sizes S.requires.sized.0.0 S.args.lens.now S.requires.sized.0.1 c.tiles_of.result c.tiles_of.ensures.0))
-          test half-index.result half-index.ensures c.if-words-ne0.number
+    let words = c.from-words in
+    let here = pass.here S.args.table.now.layout.sizes.route S.args.table.now.layout.nest S.args.table.now.lens _ loop.slot loop.number loop.offset loop.invariant.0 (rows.slotted c.args.table.now.layout.nest c.args.table.now.layout.sizes c.args.table.now.layout.sized c.args.table.now.lens c.args.table.now.tabled c.tiles_of.result c.tiles_of.ensures.0)
+    test words.result words.ensures in (
+      pass.past_next S.args.table.now.layout.sizes.route S.args.table.now.layout.nest S.args.table.now.lens _ loop.slot loop.number loop.offset loop.invariant.0 (rows.slotted c.args.table.now.layout.nest c.args.table.now.layout.sizes c.args.table.now.layout.sized c.args.table.now.lens c.args.table.now.tabled c.tiles_of.result c.tiles_of.ensures.0)
+          test words.result words.ensures c.if-words-ne0.number
           (elim c.if-words-ne0.branch [ then-words-ne0 w ↦ inl (w.if-words-ne0.true, w.number-is) | else-words-ne0 w ↦ inr (w.if-words-ne0.false, w.number-is) ]),
-      handling.rank_turn (plan_of S.args.sizes.route S.args.nest) S.args.b loop.ordinals loop.starts loop.number loop.offset
+      handling.rank_turn (plan_of S.args.table.now.layout.sizes.route S.args.table.now.layout.nest) S.args.b loop.ordinals loop.starts loop.number loop.offset
           loop.rank loop.at loop.invariant.1
-          half-index.result c.if-words-ne0.number c.if-words-ne0.rank c.if-words-ne0.at (omega (
+          words.result c.if-words-ne0.number c.if-words-ne0.rank c.if-words-ne0.at (omega (
             arith,
             test,
             loop.invariant.0.few,
-            ((let S = c in
-                rows.slotted S.args.nest S.args.sizes S.requires.sized.0.0 S.args.lens.now S.requires.sized.0.1 c.tiles_of.result c.tiles_of.ensures.0)).sheet.few,
+            (rows.slotted c.args.table.now.layout.nest c.args.table.now.layout.sizes c.args.table.now.layout.sized c.args.table.now.lens c.args.table.now.tabled c.tiles_of.result c.tiles_of.ensures.0).sheet.few,
           ))
           (elim c.if-words-ne0.branch [ then-words-ne0 w ↦ inl (w.handled_one-own.result, w.handled_one-own.ensures, (here w.if-words-ne0.true).words, w.number-is, w.rank-is, w.at-is) | else-words-ne0 w ↦ inr (w.number-is, w.rank-is, w.at-is) ]),
     )
@@ -260,8 +219,7 @@ offset_bounds-ordinals-number-2 c =
       arith,
       loop.invariant.0.few,
       loop.invariant.0.low,
-      ((let S = c in
-          rows.slotted S.args.nest S.args.sizes S.requires.sized.0.0 S.args.lens.now S.requires.sized.0.1 c.tiles_of.result c.tiles_of.ensures.0)).sheet.few,
+      (rows.slotted c.args.table.now.layout.nest c.args.table.now.layout.sizes c.args.table.now.layout.sized c.args.table.now.lens c.args.table.now.tabled c.tiles_of.result c.tiles_of.ensures.0).sheet.few,
     )
 
 pub bounds-ordinals-number-2 : goal.bounds-ordinals-number-2
@@ -271,8 +229,7 @@ bounds-ordinals-number-2 c =
       arith,
       loop.invariant.0.few,
       loop.invariant.0.low,
-      ((let S = c in
-          rows.slotted S.args.nest S.args.sizes S.requires.sized.0.0 S.args.lens.now S.requires.sized.0.1 c.tiles_of.result c.tiles_of.ensures.0)).sheet.few,
+      (rows.slotted c.args.table.now.layout.nest c.args.table.now.layout.sizes c.args.table.now.layout.sized c.args.table.now.lens c.args.table.now.tabled c.tiles_of.result c.tiles_of.ensures.0).sheet.few,
     )
 
 pub offset_bounds-starts-number-2 : goal.offset_bounds-starts-number-2
@@ -282,8 +239,7 @@ offset_bounds-starts-number-2 c =
       arith,
       loop.invariant.0.few,
       loop.invariant.0.low,
-      ((let S = c in
-          rows.slotted S.args.nest S.args.sizes S.requires.sized.0.0 S.args.lens.now S.requires.sized.0.1 c.tiles_of.result c.tiles_of.ensures.0)).sheet.few,
+      (rows.slotted c.args.table.now.layout.nest c.args.table.now.layout.sizes c.args.table.now.layout.sized c.args.table.now.lens c.args.table.now.tabled c.tiles_of.result c.tiles_of.ensures.0).sheet.few,
     )
 
 pub bounds-starts-number-2 : goal.bounds-starts-number-2
@@ -293,23 +249,20 @@ bounds-starts-number-2 c =
       arith,
       loop.invariant.0.few,
       loop.invariant.0.low,
-      ((let S = c in
-          rows.slotted S.args.nest S.args.sizes S.requires.sized.0.0 S.args.lens.now S.requires.sized.0.1 c.tiles_of.result c.tiles_of.ensures.0)).sheet.few,
+      (rows.slotted c.args.table.now.layout.nest c.args.table.now.layout.sizes c.args.table.now.layout.sized c.args.table.now.lens c.args.table.now.tabled c.tiles_of.result c.tiles_of.ensures.0).sheet.few,
     )
 
 pub returns : goal.returns
 returns c =
     let S = c in
     let loop = c.loop-slot in
-    let all = pass.past_all S.args.sizes.route S.args.nest S.args.lens.now _ loop.slot loop.number loop.offset loop.invariant.0 ((let S = c in
-    rows.slotted S.args.nest S.args.sizes S.requires.sized.0.0 S.args.lens.now S.requires.sized.0.1 c.tiles_of.result c.tiles_of.ensures.0))
+    let all = pass.past_all S.args.table.now.layout.sizes.route S.args.table.now.layout.nest S.args.table.now.lens _ loop.slot loop.number loop.offset loop.invariant.0 (rows.slotted c.args.table.now.layout.nest c.args.table.now.layout.sizes c.args.table.now.layout.sized c.args.table.now.lens c.args.table.now.tabled c.tiles_of.result c.tiles_of.ensures.0)
     c.loop-slot-test.false in
-    λ m h. handling.told (plan_of S.args.sizes.route S.args.nest) S.args.b loop.ordinals loop.starts loop.number loop.offset
+    λ m h. handling.told (plan_of S.args.table.now.layout.sizes.route S.args.table.now.layout.nest) S.args.b loop.ordinals loop.starts loop.number loop.offset
     loop.rank loop.at loop.invariant.1
     (omega (
       arith,
       loop.invariant.0.few,
       loop.invariant.0.low,
-      ((let S = c in
-          rows.slotted S.args.nest S.args.sizes S.requires.sized.0.0 S.args.lens.now S.requires.sized.0.1 c.tiles_of.result c.tiles_of.ensures.0)).sheet.few,
+      (rows.slotted c.args.table.now.layout.nest c.args.table.now.layout.sizes c.args.table.now.layout.sized c.args.table.now.lens c.args.table.now.tabled c.tiles_of.result c.tiles_of.ensures.0).sheet.few,
     )) m (omega (arith, h, all))

@@ -9,10 +9,10 @@ use Rattle.part.proofs.mark_brought.Goals as goal
 
 pub returns-then-is_taker : goal.returns-then-is_taker
 returns-then-is_taker c =
-    let x = c.args.nest in
-    let z = c.args.sizes in
+    let x = c.args.table.now.layout.nest in
+    let z = c.args.table.now.layout.sizes in
     let is-taker = c.is_taker in
-    let ends = chains.ends x z c.requires.sized.0.0.accepted c.requires.sized.0.1.routed c.args.place.number c.args.place c.requires.sized.1 in
+    let ends = chains.ends x z c.args.table.now.layout.sized.accepted c.args.table.now.layout.routed c.args.place.number c.args.place c.requires.sized in
     let taken = is-taker.ensures _ _ (chains.side_ends z.route x c.args.b _ _ c.args.side c.requires.side_value)
     ∙ ap (λ (i : ℕ). eqb i c.args.b) (sym ends.1) in
     brings.brought (plan_of z.route x) c.args.b c.args.place.number is-taker.result taken c.args.marks.now _ c.if-is_taker.true
@@ -20,10 +20,10 @@ returns-then-is_taker c =
 
 pub returns-else-is_taker : goal.returns-else-is_taker
 returns-else-is_taker c =
-    let x = c.args.nest in
-    let z = c.args.sizes in
+    let x = c.args.table.now.layout.nest in
+    let z = c.args.table.now.layout.sizes in
     let is-taker = c.is_taker in
-    let ends = chains.ends x z c.requires.sized.0.0.accepted c.requires.sized.0.1.routed c.args.place.number c.args.place c.requires.sized.1 in
+    let ends = chains.ends x z c.args.table.now.layout.sized.accepted c.args.table.now.layout.routed c.args.place.number c.args.place c.requires.sized in
     let taken = is-taker.ensures _ _ (chains.side_ends z.route x c.args.b _ _ c.args.side c.requires.side_value)
     ∙ ap (λ (i : ℕ). eqb i c.args.b) (sym ends.1) in
     brings.elsewhere (plan_of z.route x) c.args.b c.args.place.number is-taker.result taken c.args.marks.now _ c.if-is_taker.false

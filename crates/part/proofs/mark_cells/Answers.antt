@@ -5,41 +5,26 @@ use Rattle.base.proofs.Entries.{at_in}
 use Rattle.part.proofs.Brought as brings
 use Rattle.part.proofs.mark_cells.Goals as goal
 
-pub loop-i-init : goal.loop-i-init
-loop-i-init c = brings.list_start c.args.marks.now c.args.cells.now
+pub loop-c-init : goal.loop-c-init
+loop-c-init c = brings.list_start c.args.marks.now c.args.cells.now
 
-pub offset_bounds-cells-i : goal.offset_bounds-cells-i
-offset_bounds-cells-i c = omega (arith, c.loop-i-test.true)
+pub bounds-marks-from : goal.bounds-marks-from
+bounds-marks-from c =
+    let loop = c.loop-c in
+    let test = c.loop-c-test.true in
+    let low = c.requires (get_or c.args.cells.now loop.c-index 0) (at_in c.args.cells.now loop.c-index test) in
+    omega (arith, low, c.from.ensures, loop.invariant.long)
 
-pub bounds-cells-i : goal.bounds-cells-i
-bounds-cells-i c = omega (arith, c.loop-i-test.true)
-
-pub half_index-c-requires : goal.half_index-c-requires
-half_index-c-requires c = tt
-
-pub bounds-marks-c : goal.bounds-marks-c
-bounds-marks-c c =
-    let loop = c.loop-i in
-    let test = c.loop-i-test.true in
-    let low = c.requires (get_or c.args.cells.now loop.i 0) (at_in c.args.cells.now loop.i test) in
-    omega (arith, low, c.half_index-c.ensures, loop.invariant.long)
-
-pub overflow_add-i : goal.overflow_add-i
-overflow_add-i c = omega (arith, c.loop-i-test.true)
-
-pub loop-i-smaller : goal.loop-i-smaller
-loop-i-smaller c = omega (arith, c.loop-i-test.true)
-
-pub loop-i-preserved : goal.loop-i-preserved
-loop-i-preserved c =
-    let loop = c.loop-i in
-    brings.list_next c.args.marks.now c.args.cells.now loop.marks loop.i loop.invariant c.loop-i-test.true
-    c.half_index-c.result c.half_index-c.ensures
+pub loop-c-preserved : goal.loop-c-preserved
+loop-c-preserved c =
+    let loop = c.loop-c in
+    brings.list_next c.args.marks.now c.args.cells.now loop.marks loop.c-index loop.invariant c.loop-c-test.true
+    c.from.result c.from.ensures
 
 pub shape_of-marks : goal.shape_of-marks
-shape_of-marks c = c.loop-i.invariant.long
+shape_of-marks c = c.loop-c.invariant.long
 
 pub returns : goal.returns
 returns c =
-    let loop = c.loop-i in
-    brings.list_done c.args.marks.now c.args.cells.now loop.marks loop.i loop.invariant c.loop-i-test.false
+    let loop = c.loop-c in
+    brings.list_done c.args.marks.now c.args.cells.now loop.marks loop.c-index loop.invariant c.loop-c-test.false

@@ -10,8 +10,8 @@ use Rattle.part.proofs.mark_held.Goals as goal
 
 pub mark_cells-requires : goal.mark_cells-requires
 mark_cells-requires c =
-    brings.held_below (plan_of c.args.sizes.route c.args.nest) (sound c.args.sizes.route c.args.nest c.requires.sized.0.0.accepted)
-    c.args.place.number c.requires.sized.1.low _ c.args.marks.now c.cells_of.ensures c.requires.list_len.1
+    brings.held_below (plan_of c.args.table.now.layout.sizes.route c.args.table.now.layout.nest) (sound c.args.table.now.layout.sizes.route c.args.table.now.layout.nest c.args.table.now.layout.sized.accepted)
+    c.args.place.number c.requires.sized.low _ c.args.marks.now c.cells_of.ensures c.requires.list_len.1
 
 pub returns : goal.returns
 returns c =

@@ -6,4 +6,4 @@ pub mark_messages-requires : goal.mark_messages-requires
 mark_messages-requires c =
     let fill-sides = c.fill_sides in
     let mark_own = c.mark_own in
-    record { sized = (c.requires.0, refl); sides_len = (fill-sides.auto.sides, fill-sides.ensures); marks_value = mark_own.ensures }
+    record { list_len = refl; sides_len = (fill-sides.auto.sides, fill-sides.ensures); marks_value = mark_own.ensures }

@@ -8,58 +8,47 @@ use lib.ListN.{length}
 use Rattle.base.proofs.Tests.{length_tabulate}
 use Rattle.plan.specs.Shaped.{plan_of}
 use Rattle.plan.proofs.ShapedSound.{sound}
-use Rattle.part.proofs.Slotted as rows
+use Rattle.tables.proofs.Slotted as rows
 use Rattle.part.proofs.Slots as pass
 use Rattle.part.proofs.Brought as brings
 use Rattle.part.proofs.mark_messages.Goals as goal
 use Rattle.part.proofs.mark_messages.Goals.{then-words-ne0, else-words-ne0}
 
-pub tiles_of-requires : goal.tiles_of-requires
-tiles_of-requires c = c.requires.sized.0
-
 pub overflow_mul-slots : goal.overflow_mul-slots
 overflow_mul-slots c =
     omega (
       arith,
-      ((let S = c in
-          rows.slotted S.args.nest S.args.sizes S.requires.sized.0.0 S.args.lens.now S.requires.sized.0.1 c.tiles_of.result c.tiles_of.ensures.0)).sheet.few,
+      (rows.slotted c.args.table.now.layout.nest c.args.table.now.layout.sizes c.args.table.now.layout.sized c.args.table.now.lens c.args.table.now.tabled c.tiles_of.result c.tiles_of.ensures.0).sheet.few,
     )
 
 pub loop-slot-init : goal.loop-slot-init
 loop-slot-init c = (
   (
-    pass.past_start c.args.lens.now (c.tiles_of.result * c.args.sizes.ways),
-    brings.keep_start (plan_of c.args.sizes.route c.args.nest) c.args.b c.args.marks.now c.requires.marks_value,
+    pass.past_start c.args.table.now.lens (c.tiles_of.result * c.args.table.now.layout.sizes.ways),
+    brings.keep_start (plan_of c.args.table.now.layout.sizes.route c.args.table.now.layout.nest) c.args.b c.args.marks.now c.requires.marks_value,
   ),
-  c.requires.sized.1,
+  c.requires.list_len,
 )
 
-pub offset_bounds-lens-slot : goal.offset_bounds-lens-slot
-offset_bounds-lens-slot c =
+pub offset_bounds-table-slot : goal.offset_bounds-table-slot
+offset_bounds-table-slot c =
     let test = c.loop-slot-test.true in
     omega (
       arith,
       test,
-      ((let S = c in
-          rows.slotted S.args.nest S.args.sizes S.requires.sized.0.0 S.args.lens.now S.requires.sized.0.1 c.tiles_of.result c.tiles_of.ensures.0)).sheet.few,
-      ((let S = c in
-          rows.slotted S.args.nest S.args.sizes S.requires.sized.0.0 S.args.lens.now S.requires.sized.0.1 c.tiles_of.result c.tiles_of.ensures.0)).sheet.long,
+      (rows.slotted c.args.table.now.layout.nest c.args.table.now.layout.sizes c.args.table.now.layout.sized c.args.table.now.lens c.args.table.now.tabled c.tiles_of.result c.tiles_of.ensures.0).sheet.few,
+      (rows.slotted c.args.table.now.layout.nest c.args.table.now.layout.sizes c.args.table.now.layout.sized c.args.table.now.lens c.args.table.now.tabled c.tiles_of.result c.tiles_of.ensures.0).sheet.long,
     )
 
-pub bounds-lens-slot : goal.bounds-lens-slot
-bounds-lens-slot c =
+pub bounds-table-slot : goal.bounds-table-slot
+bounds-table-slot c =
     let test = c.loop-slot-test.true in
     omega (
       arith,
       test,
-      ((let S = c in
-          rows.slotted S.args.nest S.args.sizes S.requires.sized.0.0 S.args.lens.now S.requires.sized.0.1 c.tiles_of.result c.tiles_of.ensures.0)).sheet.few,
-      ((let S = c in
-          rows.slotted S.args.nest S.args.sizes S.requires.sized.0.0 S.args.lens.now S.requires.sized.0.1 c.tiles_of.result c.tiles_of.ensures.0)).sheet.long,
+      (rows.slotted c.args.table.now.layout.nest c.args.table.now.layout.sizes c.args.table.now.layout.sized c.args.table.now.lens c.args.table.now.tabled c.tiles_of.result c.tiles_of.ensures.0).sheet.few,
+      (rows.slotted c.args.table.now.layout.nest c.args.table.now.layout.sizes c.args.table.now.layout.sized c.args.table.now.lens c.args.table.now.tabled c.tiles_of.result c.tiles_of.ensures.0).sheet.long,
     )
-
-pub half_index-words-requires : goal.half_index-words-requires
-half_index-words-requires c = tt
 
 pub bounds-sides-slot : goal.bounds-sides-slot
 bounds-sides-slot c =
@@ -68,8 +57,7 @@ bounds-sides-slot c =
     omega (
       arith,
       test,
-      ((let S = c in
-          rows.slotted S.args.nest S.args.sizes S.requires.sized.0.0 S.args.lens.now S.requires.sized.0.1 c.tiles_of.result c.tiles_of.ensures.0)).sheet.few,
+      (rows.slotted c.args.table.now.layout.nest c.args.table.now.layout.sizes c.args.table.now.layout.sized c.args.table.now.lens c.args.table.now.tabled c.tiles_of.result c.tiles_of.ensures.0).sheet.few,
       S.requires.sides_len.0,
     )
 
@@ -78,13 +66,11 @@ mark_brought-requires c =
     let S = c in
     let loop = c.loop-slot in
     let test = c.loop-slot-test.true in
-    let half-index = c.half_index-words in
-    let here = pass.here S.args.sizes.route S.args.nest S.args.lens.now _ loop.slot loop.number loop.offset loop.invariant.0.0 ((let S = c in
-    rows.slotted S.args.nest S.args.sizes S.requires.sized.0.0 S.args.lens.now S.requires.sized.0.1 c.tiles_of.result c.tiles_of.ensures.0))
-    test half-index.result half-index.ensures in
-    let short = pass.short S.args.sizes.route S.args.nest S.args.lens.now _ loop.slot loop.number loop.offset loop.invariant.0.0 ((let S = c in
-    rows.slotted S.args.nest S.args.sizes S.requires.sized.0.0 S.args.lens.now S.requires.sized.0.1 c.tiles_of.result c.tiles_of.ensures.0))
-    test half-index.result half-index.ensures in record { sized = (S.requires.sized.0, here c.if-words-ne0.true); side_value = S.requires.sides_len.1.each loop.slot (omega (arith, test, ap (λ (i : ℕ). i * S.args.sizes.ways) c.tiles_of.ensures.0)); words_in_bounds = (omega (arith, short, loop.invariant.1), loop.invariant.0.1.long) }
+    let words = c.from-words in
+    let here = pass.here S.args.table.now.layout.sizes.route S.args.table.now.layout.nest S.args.table.now.lens _ loop.slot loop.number loop.offset loop.invariant.0.0 (rows.slotted c.args.table.now.layout.nest c.args.table.now.layout.sizes c.args.table.now.layout.sized c.args.table.now.lens c.args.table.now.tabled c.tiles_of.result c.tiles_of.ensures.0)
+    test words.result words.ensures in
+    let short = pass.short S.args.table.now.layout.sizes.route S.args.table.now.layout.nest S.args.table.now.lens _ loop.slot loop.number loop.offset loop.invariant.0.0 (rows.slotted c.args.table.now.layout.nest c.args.table.now.layout.sizes c.args.table.now.layout.sized c.args.table.now.lens c.args.table.now.tabled c.tiles_of.result c.tiles_of.ensures.0)
+    test words.result words.ensures in record { sized = here c.if-words-ne0.true; side_value = S.requires.sides_len.1.each loop.slot (omega (arith, test, ap (λ (i : ℕ). i * S.args.table.now.layout.sizes.ways) c.tiles_of.ensures.0)); words_in_bounds = (omega (arith, short, loop.invariant.1), loop.invariant.0.1.long) }
 
 pub overflow_add-number : goal.overflow_add-number
 overflow_add-number c =
@@ -94,8 +80,7 @@ overflow_add-number c =
       arith,
       test,
       loop.invariant.0.0.few,
-      ((let S = c in
-          rows.slotted S.args.nest S.args.sizes S.requires.sized.0.0 S.args.lens.now S.requires.sized.0.1 c.tiles_of.result c.tiles_of.ensures.0)).sheet.few,
+      (rows.slotted c.args.table.now.layout.nest c.args.table.now.layout.sizes c.args.table.now.layout.sized c.args.table.now.lens c.args.table.now.tabled c.tiles_of.result c.tiles_of.ensures.0).sheet.few,
     )
 
 pub overflow_add-offset : goal.overflow_add-offset
@@ -103,48 +88,31 @@ overflow_add-offset c =
     let S = c in
     let loop = c.loop-slot in
     let test = c.loop-slot-test.true in
-    let half-index = c.half_index-words in
-    let short = pass.short S.args.sizes.route S.args.nest S.args.lens.now _ loop.slot loop.number loop.offset loop.invariant.0.0 ((let S = c in
-    rows.slotted S.args.nest S.args.sizes S.requires.sized.0.0 S.args.lens.now S.requires.sized.0.1 c.tiles_of.result c.tiles_of.ensures.0))
-    test half-index.result half-index.ensures in
+    let words = c.from-words in
+    let short = pass.short S.args.table.now.layout.sizes.route S.args.table.now.layout.nest S.args.table.now.lens _ loop.slot loop.number loop.offset loop.invariant.0.0 (rows.slotted c.args.table.now.layout.nest c.args.table.now.layout.sizes c.args.table.now.layout.sized c.args.table.now.lens c.args.table.now.tabled c.tiles_of.result c.tiles_of.ensures.0)
+    test words.result words.ensures in
     omega (
       arith,
       short,
       loop.invariant.0.0.small,
       test,
-      ((let S = c in
-          rows.slotted S.args.nest S.args.sizes S.requires.sized.0.0 S.args.lens.now S.requires.sized.0.1 c.tiles_of.result c.tiles_of.ensures.0)).sheet.few,
+      (rows.slotted c.args.table.now.layout.nest c.args.table.now.layout.sizes c.args.table.now.layout.sized c.args.table.now.lens c.args.table.now.tabled c.tiles_of.result c.tiles_of.ensures.0).sheet.few,
     )
-
-pub overflow_add-slot : goal.overflow_add-slot
-overflow_add-slot c =
-    let test = c.loop-slot-test.true in
-    omega (
-      arith,
-      test,
-      ((let S = c in
-          rows.slotted S.args.nest S.args.sizes S.requires.sized.0.0 S.args.lens.now S.requires.sized.0.1 c.tiles_of.result c.tiles_of.ensures.0)).sheet.few,
-    )
-
-pub loop-slot-smaller : goal.loop-slot-smaller
-loop-slot-smaller c = omega (arith, c.loop-slot-test.true)
 
 pub loop-slot-preserved : goal.loop-slot-preserved
 loop-slot-preserved c =
     let S = c in
     let loop = c.loop-slot in
     let test = c.loop-slot-test.true in
-    let half-index = c.half_index-words in
-    let here = pass.here S.args.sizes.route S.args.nest S.args.lens.now _ loop.slot loop.number loop.offset loop.invariant.0.0 ((let S = c in
-    rows.slotted S.args.nest S.args.sizes S.requires.sized.0.0 S.args.lens.now S.requires.sized.0.1 c.tiles_of.result c.tiles_of.ensures.0))
-    test half-index.result half-index.ensures in (
+    let words = c.from-words in
+    let here = pass.here S.args.table.now.layout.sizes.route S.args.table.now.layout.nest S.args.table.now.lens _ loop.slot loop.number loop.offset loop.invariant.0.0 (rows.slotted c.args.table.now.layout.nest c.args.table.now.layout.sizes c.args.table.now.layout.sized c.args.table.now.lens c.args.table.now.tabled c.tiles_of.result c.tiles_of.ensures.0)
+    test words.result words.ensures in (
       (
-        pass.past_next S.args.sizes.route S.args.nest S.args.lens.now _ loop.slot loop.number loop.offset loop.invariant.0.0 ((let S = c in
-            rows.slotted S.args.nest S.args.sizes S.requires.sized.0.0 S.args.lens.now S.requires.sized.0.1 c.tiles_of.result c.tiles_of.ensures.0))
-            test half-index.result half-index.ensures c.if-words-ne0.number
+        pass.past_next S.args.table.now.layout.sizes.route S.args.table.now.layout.nest S.args.table.now.lens _ loop.slot loop.number loop.offset loop.invariant.0.0 (rows.slotted c.args.table.now.layout.nest c.args.table.now.layout.sizes c.args.table.now.layout.sized c.args.table.now.lens c.args.table.now.tabled c.tiles_of.result c.tiles_of.ensures.0)
+            test words.result words.ensures c.if-words-ne0.number
             (elim c.if-words-ne0.branch [ then-words-ne0 w ↦ inl (w.if-words-ne0.true, w.number-is) | else-words-ne0 w ↦ inr (w.if-words-ne0.false, w.number-is) ]),
-        brings.keep_turn (plan_of S.args.sizes.route S.args.nest) S.args.b
-            (sound S.args.sizes.route S.args.nest S.requires.sized.0.0.accepted) loop.marks loop.number loop.invariant.0.1 c.if-words-ne0.marks
+        brings.keep_turn (plan_of S.args.table.now.layout.sizes.route S.args.table.now.layout.nest) S.args.b
+            (sound S.args.table.now.layout.sizes.route S.args.table.now.layout.nest S.args.table.now.layout.sized.accepted) loop.marks loop.number loop.invariant.0.1 c.if-words-ne0.marks
             c.if-words-ne0.number
             (elim c.if-words-ne0.branch [ then-words-ne0 w ↦ inl ((here w.if-words-ne0.true).low, w.marks-is ∙ w.mark_brought.ensures, w.number-is) | else-words-ne0 w ↦ inr (w.marks-is, w.number-is) ]),
       ),
@@ -152,7 +120,7 @@ loop-slot-preserved c =
     )
 
 pub shape_of-list : goal.shape_of-list
-shape_of-list c = c.loop-slot.invariant.1 ∙ sym c.requires.sized.1
+shape_of-list c = c.loop-slot.invariant.1 ∙ sym c.requires.list_len
 
 pub shape_of-marks : goal.shape_of-marks
 shape_of-marks c = c.loop-slot.invariant.0.1.long ∙ sym (ap (λ (ws : List ℕ). length ws) c.requires.marks_value ∙ length_tabulate _ _)
@@ -161,8 +129,7 @@ pub returns : goal.returns
 returns c =
     let S = c in
     let loop = c.loop-slot in
-    brings.keep_done (plan_of S.args.sizes.route S.args.nest) S.args.b
-    (sound S.args.sizes.route S.args.nest S.requires.sized.0.0.accepted) loop.marks loop.number loop.invariant.0.1
-    (pass.past_all S.args.sizes.route S.args.nest S.args.lens.now _ loop.slot loop.number loop.offset loop.invariant.0.0 ((let S = c in
-    rows.slotted S.args.nest S.args.sizes S.requires.sized.0.0 S.args.lens.now S.requires.sized.0.1 c.tiles_of.result c.tiles_of.ensures.0))
+    brings.keep_done (plan_of S.args.table.now.layout.sizes.route S.args.table.now.layout.nest) S.args.b
+    (sound S.args.table.now.layout.sizes.route S.args.table.now.layout.nest S.args.table.now.layout.sized.accepted) loop.marks loop.number loop.invariant.0.1
+    (pass.past_all S.args.table.now.layout.sizes.route S.args.table.now.layout.nest S.args.table.now.lens _ loop.slot loop.number loop.offset loop.invariant.0.0 (rows.slotted c.args.table.now.layout.nest c.args.table.now.layout.sizes c.args.table.now.layout.sized c.args.table.now.lens c.args.table.now.tabled c.tiles_of.result c.tiles_of.ensures.0)
     c.loop-slot-test.false)

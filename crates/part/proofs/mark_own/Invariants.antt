@@ -6,7 +6,7 @@ use Rattle.part.proofs.Owned as owned
 use Rattle.part.proofs.mark_own.Given as goal
 
 abbrev pub invariant-loop-q : goal.invariant-loop-q
-invariant-loop-q l = (l.q ≤ l.rows) × owned.OwnTo (plan_of l.sizes.route l.nest) l.b l.marks (l.q * row_cells l.nest)
+invariant-loop-q l = (l.q ≤ l.rows) × owned.OwnTo (plan_of l.layout.sizes.route l.layout.nest) l.b l.marks (l.q * row_cells l.layout.nest)
 
 abbrev pub decreases-loop-q : goal.decreases-loop-q
 decreases-loop-q l = l.rows - l.q

@@ -6,7 +6,7 @@ use Rattle.part.specs.Marking.{side_of}
 use Rattle.part.proofs.put_sides.Given as goal
 
 abbrev pub invariant-loop-w : goal.invariant-loop-w
-invariant-loop-w l = stored.Stored (side_of l.sizes.route l.nest l.b l.tile) l.initial.row l.row l.w
+invariant-loop-w l = stored.Stored (side_of l.layout.sizes.route l.layout.nest l.b l.tile) l.initial.row l.row l.w
 
 abbrev pub decreases-loop-w : goal.decreases-loop-w
 decreases-loop-w l = length l.initial.row - l.w

@@ -51,9 +51,9 @@ returns c =
     let inside = row_inside x (framed _ c.requires.0) c.args.q at.result at.ensures j low in
     let some = mod-lt (get_or at.result j 0) (c.requires.0.tiled j low) in
     let rest = c.place_along.ensures in
-    let first = c.least-left.ensures in
-    let second = c.least.ensures in (
-      rows.alike x c.requires.0 c.args.q at.result at.ensures c.least.result (get_or at.result j 0) refl
+    let first = c.min-left.ensures in
+    let second = c.min.ensures in (
+      rows.alike x c.requires.0 c.args.q at.result at.ensures c.min.result (get_or at.result j 0) refl
           (omega (arith, first, second, rest, inside, some, c.requires.1)) (omega (arith, first, second)) (omega (arith, first, second, rest)),
       omega (arith, second),
     )

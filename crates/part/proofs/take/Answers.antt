@@ -6,92 +6,72 @@ use Rattle.part.proofs.take.Goals as goal
 pub loop-i-init : goal.loop-i-init
 loop-i-init c = laws.take_start c.args.marks.now c.args.cells.now c.args.memory.now c.args.words.now
 
-pub offset_bounds-cells-i : goal.offset_bounds-cells-i
-offset_bounds-cells-i c = omega (arith, c.loop-i-test.true)
-
-pub bounds-cells-i : goal.bounds-cells-i
-bounds-cells-i c = omega (arith, c.loop-i-test.true)
-
-pub half_index-c-requires : goal.half_index-c-requires
-half_index-c-requires c = tt
-
 pub rank_by-at-requires : goal.rank_by-at-requires
 rank_by-at-requires c =
     let loop = c.loop-i in
     let test = c.loop-i-test.true in
-    let half-index = c.half_index-c in
+    let cell = c.from-c in
     let low = laws.cell_low c.args.marks.now c.args.counts.now c.args.cells.now c.args.memory.now c.args.words.now c.requires
-    loop.i half-index.result test half-index.ensures in
+    loop.i cell.result test cell.ensures in
     record { counted = (c.requires.counted, (omega (arith, low), c.requires.few)); at_value = loop.invariant.rank }
 
 pub offset_bounds-words-i : goal.offset_bounds-words-i
 offset_bounds-words-i c =
     let m = (let S = c in
-    let half-index = c.half_index-c in
+    let cell = c.from-c in
     laws.moves S.args.marks.now S.args.counts.now S.args.cells.now S.args.memory.now S.args.words.now S.requires
-    c.loop-i.i half-index.result c.loop-i-test.true half-index.ensures
+    c.loop-i.i cell.result c.loop-i-test.true cell.ensures
     c.rank_by-at.result c.rank_by-at.ensures) in omega (arith, m.place, m.short)
 
 pub bounds-words-i : goal.bounds-words-i
 bounds-words-i c =
     let m = (let S = c in
-    let half-index = c.half_index-c in
+    let cell = c.from-c in
     laws.moves S.args.marks.now S.args.counts.now S.args.cells.now S.args.memory.now S.args.words.now S.requires
-    c.loop-i.i half-index.result c.loop-i-test.true half-index.ensures
+    c.loop-i.i cell.result c.loop-i-test.true cell.ensures
     c.rank_by-at.result c.rank_by-at.ensures) in omega (arith, m.cell, m.place, m.short, m.next, c.loop-i.invariant.long)
 
 pub offset_bounds-memory-at : goal.offset_bounds-memory-at
 offset_bounds-memory-at c =
     let m = (let S = c in
-    let half-index = c.half_index-c in
+    let cell = c.from-c in
     laws.moves S.args.marks.now S.args.counts.now S.args.cells.now S.args.memory.now S.args.words.now S.requires
-    c.loop-i.i half-index.result c.loop-i-test.true half-index.ensures
+    c.loop-i.i cell.result c.loop-i-test.true cell.ensures
     c.rank_by-at.result c.rank_by-at.ensures) in omega (arith, m.cell, m.place, m.short, m.next, c.loop-i.invariant.long)
 
 pub bounds-memory-at : goal.bounds-memory-at
 bounds-memory-at c =
     let m = (let S = c in
-    let half-index = c.half_index-c in
+    let cell = c.from-c in
     laws.moves S.args.marks.now S.args.counts.now S.args.cells.now S.args.memory.now S.args.words.now S.requires
-    c.loop-i.i half-index.result c.loop-i-test.true half-index.ensures
+    c.loop-i.i cell.result c.loop-i-test.true cell.ensures
     c.rank_by-at.result c.rank_by-at.ensures) in omega (arith, m.cell, m.place, m.short, m.next, c.loop-i.invariant.long)
 
 pub overflow_add-known : goal.overflow_add-known
 overflow_add-known c =
     let m = (let S = c in
-    let half-index = c.half_index-c in
+    let cell = c.from-c in
     laws.moves S.args.marks.now S.args.counts.now S.args.cells.now S.args.memory.now S.args.words.now S.requires
-    c.loop-i.i half-index.result c.loop-i-test.true half-index.ensures
+    c.loop-i.i cell.result c.loop-i-test.true cell.ensures
     c.rank_by-at.result c.rank_by-at.ensures) in omega (arith, m.cell, m.place, m.short, m.next, c.loop-i.invariant.long)
 
 pub overflow_add-at : goal.overflow_add-at
 overflow_add-at c =
     let m = (let S = c in
-    let half-index = c.half_index-c in
+    let cell = c.from-c in
     laws.moves S.args.marks.now S.args.counts.now S.args.cells.now S.args.memory.now S.args.words.now S.requires
-    c.loop-i.i half-index.result c.loop-i-test.true half-index.ensures
+    c.loop-i.i cell.result c.loop-i-test.true cell.ensures
     c.rank_by-at.result c.rank_by-at.ensures) in omega (arith, m.cell, m.place, m.short, m.next, c.loop-i.invariant.long)
-
-pub overflow_add-i : goal.overflow_add-i
-overflow_add-i c =
-    let m = (let S = c in
-    let half-index = c.half_index-c in
-    laws.moves S.args.marks.now S.args.counts.now S.args.cells.now S.args.memory.now S.args.words.now S.requires
-    c.loop-i.i half-index.result c.loop-i-test.true half-index.ensures
-    c.rank_by-at.result c.rank_by-at.ensures) in omega (arith, m.cell, m.place, m.short, m.next, c.loop-i.invariant.long)
-
-pub loop-i-smaller : goal.loop-i-smaller
-loop-i-smaller c = omega (arith, c.loop-i-test.true)
 
 pub loop-i-preserved : goal.loop-i-preserved
 loop-i-preserved c =
     let loop = c.loop-i in
     let test = c.loop-i-test.true in
-    let half-index = c.half_index-c in
+    let cell = c.from-c in
     let rank-by = c.rank_by-at in
     laws.take_next c.args.marks.now c.args.counts.now c.args.cells.now c.args.memory.now c.args.words.now c.requires
-    loop.memory loop.known loop.at loop.i loop.invariant half-index.result rank-by.result
-    test half-index.ensures rank-by.ensures
+    loop.memory loop.known loop.at loop.i loop.invariant cell.result rank-by.result
+    test cell.ensures rank-by.ensures
 
 pub shape_of-memory : goal.shape_of-memory
 shape_of-memory c = c.loop-i.invariant.long

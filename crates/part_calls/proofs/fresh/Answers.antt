@@ -14,6 +14,5 @@ pub returns-else-number-ne0 : goal.returns-else-number-ne0
 returns-else-number-ne0 c =
     let fresh = c.fresh-number in
     let if1 = c.if-number-ne0 in
-    let zero-words = c.zero_words in
     let A = c.args in
-    reading.all_cleared _ _ _ _ A.progress.now fresh.result (fresh.ensures A.progress.now refl) if1.false _ zero-words.ensures
+    reading.all_cleared _ _ _ _ A.progress.now fresh.result (fresh.ensures A.progress.now refl) if1.false _ (c.fill.ensures.after (λ y h. h))

@@ -1,20 +1,23 @@
 -- A call by the line that counts: the first lines, then those that are made of the plan.
-use Rattle.std.specs.Prelude.{◌≡◌, ℕ, ltb, ◌≢◌, List, [], ◌∷◌, ◌++◌}
+use Rattle.std.specs.Prelude.{◌≡◌, ℕ, ltb, List, [], ◌∷◌, ◌++◌, Ok, Err}
 use mathlib.Core.Path.{sym, ap, ◌∙◌}
 use native.Mathlib.Omega.{arith}
 use Rattle.base.specs.Tests.{not}
+use Rattle.base.specs.declared.refusal.Refusal.{Refusal}
+use Rattle.base.specs.Refusals.{code}
 use Rattle.base.specs.Numbers.{Line, line, first_of}
+use Rattle.base.proofs.Codes.{code_some}
 use Rattle.base.proofs.Numbers.{Numbered, none_behind, first_behind}
 use Rattle.machine.specs.Plan.{Plan}
 use Rattle.machine.specs.Machine.{Answered, answered}
-use Rattle.plan.specs.Shaped.{plan_of}
 use Rattle.layout.specs.RouteWords.{route_of}
 use Rattle.recipe.specs.Routes.{lines_for}
 use Rattle.recipe.proofs.Laws.{numbered_for}
 use Rattle.engine.specs.Calls.{answer, recipe}
 use Rattle.engine.proofs.Lines.{call_read}
 use Rattle.part_calls.specs.front.Calls.{board_lines}
-use Rattle.recipe.specs.declared.Recipe.{Recipe}
+use Rattle.tables.specs.declared.Table.{Table}
+use Rattle.tables.specs.Given.{plan_of_table}
 use Rattle.part_calls.specs.front.Given.{OpensFor}
 
 -- ---- past the first lines
@@ -32,21 +35,21 @@ module _ (bytes : List ℕ) (route b : ℕ) where
   pub behind_board : (more : List Line) → first_of (board_lines bytes route b ++ more) ≡ 0 → first_of more ≡ 0
   behind_board more e = none_behind (board_lines bytes route b) more numbered_board e
 
-module _ (bytes : List ℕ) (route b : ℕ) (r : Recipe) (o : OpensFor bytes route b r) where
+module _ (bytes : List ℕ) (route b : ℕ) where
   module _ {A : Type 0} (lines : Plan → List Line) (new : Plan → A) (old : A) where
     -- a call whose lines and words are made of the plan
     abbrev called : Answered A
     called = answered (first_of (board_lines bytes route b ++ lines (recipe bytes route))) (new (recipe bytes route)) old
 
-    pub closed : r.number ≢ 0 → answer r.number old ≡ called
-    closed h =
-        call_read (board_lines bytes route b) (numbered_board bytes route b) (lines (recipe bytes route)) r.number (new (recipe bytes route)) old
-        o.number h
+    pub closed : (r : Refusal) → OpensFor bytes route b (Err r) → answer (code r) old ≡ called
+    closed r o =
+        call_read (board_lines bytes route b) (numbered_board bytes route b) (lines (recipe bytes route)) (code r) (new (recipe bytes route)) old
+        o.number (code_some r)
 
-    pub opened : r.number ≡ 0 → (a : Answered A)
-        → a ≡ answered (first_of (lines (plan_of r.sizes.route r.nest))) (new (plan_of r.sizes.route r.nest)) old → a ≡ called
-    opened z a e =
+    pub opened : (t : Table) → OpensFor bytes route b (Ok t) → (a : Answered A)
+        → a ≡ answered (first_of (lines (plan_of_table t))) (new (plan_of_table t)) old → a ≡ called
+    opened t o a e =
         e
-        ∙ ap (λ (n : ℕ). answered n (new (plan_of r.sizes.route r.nest)) old)
-        (sym (first_behind (board_lines bytes route b) (lines (plan_of r.sizes.route r.nest)) (numbered_board bytes route b) (sym o.number ∙ z)))
-        ∙ ap (λ (q : Plan). answered (first_of (board_lines bytes route b ++ lines q)) (new q) old) (o.plan z)
+        ∙ ap (λ (n : ℕ). answered n (new (plan_of_table t)) old)
+        (sym (first_behind (board_lines bytes route b) (lines (plan_of_table t)) (numbered_board bytes route b) (sym o.number)))
+        ∙ ap (λ (q : Plan). answered (first_of (board_lines bytes route b ++ lines q)) (new q) old) o.board.plan

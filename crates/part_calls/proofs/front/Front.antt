@@ -1,12 +1,15 @@
 -- Laws of what the calls share: the first lines, marks at the front of a lent area, lines 9 and 10.
-use Rattle.std.specs.Prelude.{◌≡◌, ℕ, ◌<◌, ◌≤◌, Bool, true, false, eqb, ltb, leb, ◌≢◌, List, [], ◌∷◌, ◌++◌, length, get_or, take, drop}
+use Rattle.std.specs.Prelude.{◌≡◌, ℕ, ◌<◌, ◌≤◌, Bool, true, false, eqb, ltb, leb, ◌≢◌, List, [], ◌∷◌, ◌++◌, length, get_or, take, drop, Ok, Err}
 use mathlib.Core.Path.{refl, sym, ap, ◌∙◌}
 use native.Mathlib.Omega.{arith}
 use lib.ListN.{length-append, length-drop}
 use lib.Seq.{length-take-le, take_at, get_or-take}
 use borrow.Author.Tests.{eq-eqb, ne_eqb, lt-ltb, le-ltb}
 use Rattle.base.specs.Tests.{not, one, every, keep, tabulate}
+use Rattle.base.specs.declared.refusal.Refusal.{Refusal}
+use Rattle.base.specs.declared.refusal.Refusal.TheVariants as refusal
 use Rattle.base.specs.Numbers.{line, first_of}
+use Rattle.base.proofs.Codes.{code_some}
 use Rattle.base.proofs.Tests.{and_true, and_left, and_false, and_no, not-true, not-false, true_not}
 use Rattle.base.proofs.Numbers.{first_true, first_false, none_first, first_some, first_behind}
 use Rattle.base.proofs.Select.{keep_few}
@@ -14,15 +17,15 @@ use Rattle.machine.specs.Plan.{Plan, count}
 use Rattle.machine.specs.Machine.{State, state_of, finished_of, stage_of, sent_of, progress_only, fit_record, tiles_left, fit}
 use Rattle.nest.specs.declared.Nest.{Nest}
 use Rattle.nest.specs.Nest.{cells, processors}
-use Rattle.plan.specs.Shaped.{plan_of}
 use Rattle.layout.specs.declared.Sizes.{Sizes}
 use Rattle.layout.specs.Sizes.{Sized}
 use Rattle.layout.specs.RouteWords.{route_of}
 use Rattle.recipe.specs.Routes.{lines_for}
-use Rattle.tables.specs.Tables.{Tabled}
+use Rattle.tables.specs.declared.Table.{Table}
+use Rattle.tables.specs.Given.{plan_of_table}
 use Rattle.records.specs.declared.Flat.{Flat}
 use Rattle.records.specs.Records.{Flattens}
-use Rattle.recipe.specs.Given.{WithSizes}
+use Rattle.recipe.specs.Given.{Opens}
 use Rattle.recipe.proofs.Laws.{numbered_for}
 use Rattle.engine.specs.Calls.{recipe}
 use Rattle.network.specs.Own.{own_cells, kept_cells, handled}
@@ -31,7 +34,6 @@ use Rattle.rank_index.proofs.Ranks.{marks_long, rank_is}
 use Rattle.part.specs.Part.{words_of, rank_of, mail_at, part_fits}
 use Rattle.part_calls.specs.front.Calls.{from_part, board_lines, lengths_of}
 use Rattle.part_calls.specs.declared.AreaLengths.{AreaLengths}
-use Rattle.recipe.specs.declared.Recipe.{Recipe}
 use Rattle.part_calls.specs.front.Given.{OpensFor, Known, unfit_lines}
 use Rattle.part_calls.specs.front.Given.{PartLengths}
 use Rattle.part_calls.proofs.front.Wide.{fits_are, wide_finished, wide_stage, wide_sent, wide_fit}
@@ -39,47 +41,34 @@ use Rattle.part_calls.proofs.front.Wide.{fits_are, wide_finished, wide_stage, wi
 -- ---- the first lines
 
 module _ (bytes : List ℕ) (route b : ℕ) where
-  -- a refusal
-  closed : (r : Recipe) → r.number ≡ first_of (board_lines bytes route b) → r.number ≢ 0 → OpensFor bytes route b r
-  closed r e h =
-      record {
-        number = e;
-        sized = λ z. absurd (h z);
-        routed = λ z. absurd (h z);
-        plan = λ z. absurd (h z);
-        low = λ z. absurd (h z);
-      }
+  pub closed_read : (r : Refusal) → Opens bytes route (Err r) → OpensFor bytes route b (Err r)
+  closed_read r read =
+      record { number = read.number ∙ sym (first_some (lines_for (route_of route) bytes) _ (λ z. code_some r (read.number ∙ z))); board = tt }
 
-  module _ (x : Recipe) (read : WithSizes bytes route x) where
-    pub closed_read : x.number ≢ 0 → OpensFor bytes route b x
-    closed_read h = closed x (read.number ∙ sym (first_some (lines_for (route_of route) bytes) _ (λ z. h (read.number ∙ z)))) h
+  module _ (t : Table) (read : Opens bytes route (Ok t)) where
+    abbrev p : Plan
+    p = plan_of_table t
 
-    module _ (none : x.number ≡ 0) where
-      abbrev p : Plan
-      p = plan_of x.sizes.route x.nest
+    board_is : first_of (board_lines bytes route b) ≡ first_of (line 11 (not (ltb b p.processors)) ∷ [])
+    board_is =
+        first_behind (lines_for (route_of route) bytes) (line 11 (not (ltb b (recipe bytes route).processors)) ∷ []) (numbered_for (route_of route) bytes)
+        read.layout.opened.none
+        ∙ ap (λ (q : Plan). first_of (line 11 (not (ltb b q.processors)) ∷ [])) (sym read.layout.opened.is)
 
-      board_is : first_of (board_lines bytes route b) ≡ first_of (line 11 (not (ltb b p.processors)) ∷ [])
-      board_is =
-          first_behind (lines_for (route_of route) bytes) (line 11 (not (ltb b (recipe bytes route).processors)) ∷ []) (numbered_for (route_of route) bytes)
-          (read.opened none).none
-          ∙ ap (λ (q : Plan). first_of (line 11 (not (ltb b q.processors)) ∷ [])) (sym (read.opened none).is)
+    pub closed_beyond : t.layout.sizes.processors ≤ b → OpensFor bytes route b (Err refusal.NoSuch)
+    closed_beyond h =
+        record {
+          number = sym (board_is ∙ first_true 11 _ _ (not-false (le-ltb b p.processors (omega (arith, h, t.layout.sized.processors)))));
+          board = tt;
+        }
 
-      pub closed_beyond : (r : Recipe) → r.number ≡ 11 → x.sizes.processors ≤ b → OpensFor bytes route b r
-      closed_beyond r e h =
-          closed r
-          (e ∙ sym (board_is ∙ first_true 11 _ _ (not-false (le-ltb b p.processors (omega (arith, h, (read.sized none).processors))))))
-          (λ q. omega (arith, e, q))
-
-      pub opens : b < x.sizes.processors → OpensFor bytes route b x
-      unfolding first_of
-      opens h =
-          record {
-            number = none ∙ sym (board_is ∙ first_false 11 _ [] (not-true (lt-ltb b p.processors (omega (arith, h, (read.sized none).processors)))));
-            sized = read.sized;
-            routed = read.routed;
-            plan = λ z. (read.opened z).is;
-            low = λ _. omega (arith, h, (read.sized none).processors);
-          }
+    pub opens : b < t.layout.sizes.processors → OpensFor bytes route b (Ok t)
+    unfolding first_of
+    opens h =
+        record {
+          number = sym (board_is ∙ first_false 11 _ [] (not-true (lt-ltb b p.processors (omega (arith, h, t.layout.sized.processors)))));
+          board = record { plan = read.layout.opened.is; low = omega (arith, h, t.layout.sized.processors) };
+        }
 
 -- ---- the front of a lent area
 
@@ -100,9 +89,6 @@ front_at n l i h = get_or-take n l i 0 h
 -- ---- what is found once
 
 module _ (x : Nest) (z : Sizes) (b : ℕ) where
-  abbrev q : Plan
-  q = plan_of z.route x
-
   pub cells_fit : Sized x z → (kept : List ℕ) → length kept ≡ 16384 → z.cells ≤ length kept
   cells_fit g kept e = omega (arith, g.cells, g.accepted.cells_most, e)
 
@@ -112,12 +98,6 @@ module _ (x : Nest) (z : Sizes) (b : ℕ) where
 
     pub lent_long : length (take z.cells kept) ≡ cells x
     lent_long = sym lent_cells ∙ g.cells
-
-  -- by what the code finds: n messages
-  pub known : (lens rank place : List ℕ) (n : ℕ) → Sized x z → Tabled x z lens → b < processors x → n ≡ count q → n ≤ 7168
-      → ((m : ℕ) → m ≤ count q → (get_or rank m 0 ≡ rank_of q b m) × (get_or place m 0 ≡ mail_at q b m)) → Known x z b lens rank place
-  known lens rank place n g t low e few h =
-      record { planned = (g, t); low = low; few = omega (arith, e, few); ordinals = λ m k. (h m k).0; starts = λ m k. (h m k).1 }
 
   -- marked cells: few enough, and before the last of them all
   module _ (g : Sized x z) (f : ℕ → Bool) where
@@ -134,7 +114,28 @@ module _ (x : Nest) (z : Sizes) (b : ℕ) where
     pub cells_few : (n : ℕ) → n ≡ length (keep f (cells x)) → (n ≡ length (keep f (cells x))) × (n ≤ 16384)
     cells_few n e = (e, omega (arith, e, keep_few f (cells x), g.accepted.cells_most))
 
-  module _ (lens rank place : List ℕ) (k : Known x z b lens rank place) (n : ℕ) (e : n ≡ count q) where
+  -- what comes back into an array's front
+  module _ (g : Sized x z) (old ys : List ℕ) (e : length old ≡ 16384) (n : length ys ≡ length (take z.cells old)) where
+    pub back_room : z.cells ≤ length (ys ++ drop z.cells old)
+    back_room = omega (arith, same_long z.cells old ys (cells_fit g old e) n, cells_fit g old e)
+
+    pub back_lent : z.cells ≡ length (take z.cells (ys ++ drop z.cells old))
+    back_lent = sym (front_long z.cells z.cells (ys ++ drop z.cells old) refl back_room)
+
+    pub back_is : take z.cells (ys ++ drop z.cells old) ≡ ys
+    back_is = front_back z.cells old ys (cells_fit g old e) n z.cells refl
+
+module _ (t : Table) (b : ℕ) where
+  abbrev q : Plan
+  q = plan_of_table t
+
+  -- by what the code finds: n messages
+  pub known : (rank place : List ℕ) (n : ℕ) → b < processors t.layout.nest → n ≡ count q → n ≤ 7168
+      → ((m : ℕ) → m ≤ count q → (get_or rank m 0 ≡ rank_of q b m) × (get_or place m 0 ≡ mail_at q b m)) → Known t b rank place
+  known rank place n low e few h =
+      record { low = low; few = omega (arith, e, few); ordinals = λ m k. (h m k).0; starts = λ m k. (h m k).1 }
+
+  module _ (rank place : List ℕ) (k : Known t b rank place) (n : ℕ) (e : n ≡ count q) where
     pub last_low : n < 7169
     last_low = omega (arith, e, k.few)
 
@@ -156,17 +157,6 @@ module _ (x : Nest) (z : Sizes) (b : ℕ) where
       where
         lengths : ℕ → ℕ → ℕ → ℕ → AreaLengths
         lengths c k w m = record { number = 0; cells = c; kept = k; words = w; messages = m }
-
-  -- what comes back into an array's front
-  module _ (g : Sized x z) (old ys : List ℕ) (e : length old ≡ 16384) (n : length ys ≡ length (take z.cells old)) where
-    pub back_room : z.cells ≤ length (ys ++ drop z.cells old)
-    back_room = omega (arith, same_long z.cells old ys (cells_fit g old e) n, cells_fit g old e)
-
-    pub back_lent : z.cells ≡ length (take z.cells (ys ++ drop z.cells old))
-    back_lent = sym (front_long z.cells z.cells (ys ++ drop z.cells old) refl back_room)
-
-    pub back_is : take z.cells (ys ++ drop z.cells old) ≡ ys
-    back_is = front_back z.cells old ys (cells_fit g old e) n z.cells refl
 
 -- ---- line 9
 

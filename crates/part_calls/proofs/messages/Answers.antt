@@ -2,23 +2,16 @@
 use Rattle.part_calls.proofs.Answers as answers
 use Rattle.part_calls.proofs.messages.Goals as goal
 
-pub returns-then-number-ne0 : goal.returns-then-number-ne0
-returns-then-number-ne0 c =
-    let opens = c.open-board in
-    let if1 = c.if-number-ne0 in
-    let A = c.args in
-    answers.messages_read A.encoded.now A.route A.processor opens.result opens.ensures A.out.now if1.true
-
 pub messages_part-requires : goal.messages_part-requires
-messages_part-requires c =
-    let opens = c.open-board in
-    let if1 = c.if-number-ne0 in
-    (opens.ensures.sized if1.false, (opens.ensures.routed if1.false, opens.ensures.low if1.false))
+messages_part-requires c = c.in-Ok.ensures.board.low
 
-pub returns-else-number-ne0 : goal.returns-else-number-ne0
-returns-else-number-ne0 c =
-    let opens = c.open-board in
-    let if1 = c.if-number-ne0 in
-    let messages-part = c.messages_part in
+pub returns-in-Ok : goal.returns-in-Ok
+returns-in-Ok c =
     let A = c.args in
-    answers.messages_past A.encoded.now A.route A.processor opens.result opens.ensures A.out.now if1.false _ messages-part.ensures
+    answers.messages_past A.encoded.now A.route A.processor A.out.now _ c.in-Ok.ensures _
+    (rw c.number_of.ensures c.messages_part.ensures)
+
+pub returns-in-Err : goal.returns-in-Err
+returns-in-Err c =
+    let A = c.args in
+    rw c.number.ensures (answers.messages_read A.encoded.now A.route A.processor A.out.now _ c.in-Err.ensures)

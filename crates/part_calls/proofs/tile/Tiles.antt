@@ -27,9 +27,9 @@ use Rattle.plan.proofs.ShapedTiles.{box_tile_low, in_shaped_cells}
 use Rattle.plan.proofs.ShapedSound.{at_shaped_reads, sound}
 use Rattle.layout.specs.declared.Bounds.{Bounds}
 use Rattle.layout.specs.declared.Cell.{Cell}
-use Rattle.layout.specs.declared.Sizes.{Sizes}
 use Rattle.layout.specs.Places.{nth, Located, Bounded}
 use Rattle.layout.proofs.CellRows.{box_in}
+use Rattle.tables.specs.declared.Table.{Table}
 use Rattle.values.proofs.shaped_values.Words.{tile_row}
 use Rattle.network.specs.Locality.{Keeps}
 use Rattle.network.specs.Own.{owns, keeps, kept_cells, source_of}
@@ -132,15 +132,17 @@ module _ (x : Nest) (r : Route) (ok : Accepted x) (routed : x.bounds ≢ 0 → r
         marks_are = marked_are kept (keeps p b) (cells x) kept_are
 
 -- what the tile's number in the box is given
-pub given_box : (x : Nest) (z : Sizes) (lens kept counts owned tally : List ℕ) (sources words b t u : ℕ)
-    → GivenTile x z lens kept counts owned tally sources words b t → u ≡ box_tile x t → GivenBox x kept counts owned tally sources words u
-given_box x z lens kept counts owned tally sources words b t u g e =
-    record {
-      low = number_low x z.route g.sized.accepted g.tabled.routed t u g.low e;
+pub given_box : (t : Table) (kept counts owned tally : List ℕ) (sources words b tile u : ℕ)
+    → GivenTile t kept counts owned tally sources words b tile → u ≡ box_tile t.layout.nest tile
+    → GivenBox t.layout.nest kept counts owned tally sources words u
+given_box t kept counts owned tally sources words b tile u g e =
+    let x = t.layout.nest in
+    let r = t.layout.sizes.route in
+    let ok = t.layout.sized.accepted in record {
+      low = number_low x r ok t.layout.routed tile u g.low e;
       kept_marks = record { long = marks_long kept _ (cells x) g.kept_are; counted = g.counted };
       own_marks = record { long = marks_long owned _ (cells x) g.own_are; counted = g.own_counted };
       source = g.source ∙ ap length (sym (marked_are owned _ (cells x) g.own_are));
       memory = g.memory ∙ ap length (sym (marked_are kept _ (cells x) g.kept_are));
-      worked = λ c i. tile_worked x z.route g.sized.accepted g.tabled.routed b t g.low g.mine kept owned g.kept_are g.own_are c
-          (rw e at i);
+      worked = λ c i. tile_worked x r ok t.layout.routed b tile g.low g.mine kept owned g.kept_are g.own_are c (rw e at i);
     }

@@ -8,10 +8,9 @@ use Rattle.base.proofs.Entries.{at_in}
 use Rattle.base.proofs.Select.{keep_lt, at_is, at_low, in_those}
 use Rattle.machine.specs.Plan.{Plan, count, sender_of, held_by, tiles_of, sends_of, dues_of}
 use Rattle.machine.specs.Machine.{state_of, set_progress, carry_out, gather, calculate, send}
-use Rattle.nest.specs.declared.Nest.{Nest}
-use Rattle.plan.specs.Shaped.{plan_of}
 use Rattle.plan.proofs.ShapedSound.{sound}
-use Rattle.layout.specs.declared.Sizes.{Sizes}
+use Rattle.tables.specs.declared.Table.{Table}
+use Rattle.tables.specs.Given.{plan_of_table}
 use Rattle.tables.specs.declared.scans.MessageSlot.{MessageSlot}
 use Rattle.tables.specs.Tables.{FoundIn}
 use Rattle.network.specs.Own.{handles, kept_cells, handled}
@@ -39,9 +38,9 @@ stands p l b t finished n f e h i k =
       few = omega (arith, f, h, e.1);
     }
 
-module _ (x : Nest) (z : Sizes) (b : ℕ) (lens kept counts ordinals starts : List ℕ) (t : Tables x z b lens kept counts ordinals starts) where
+module _ (y : Table) (b : ℕ) (kept counts ordinals starts : List ℕ) (t : Tables y b kept counts ordinals starts) where
   abbrev p : Plan
-  p = plan_of z.route x
+  p = plan_of_table y
 
   -- ---- the messages of one of its tiles
   module _ (m : ℕ) (lo : m < count p) (h : handles p b m ≡ true) where
@@ -61,12 +60,12 @@ module _ (x : Nest) (z : Sizes) (b : ℕ) (lens kept counts ordinals starts : Li
         record { few = t.known.few; low = λ m i. let k = dues_handled p b tile mine m i in place_room m k.0 k.1 mail e }
 
     -- a due message that was found
-    pub due_cells : (j : ℕ) (r : MessageSlot) → j < length (dues_of p tile) → FoundIn z.route x (get_or (dues_of p tile) j 0) r → Keeping p b r.number
+    pub due_cells : (j : ℕ) (r : MessageSlot) → j < length (dues_of p tile) → FoundIn y.layout.sizes.route y.layout.nest (get_or (dues_of p tile) j 0) r → Keeping p b r.number
     due_cells j r l q =
-        due_kept p (sound z.route x t.known.planned.0.accepted) b tile mine r.number (rw q.number (at_in (dues_of p tile) j l))
+        due_kept p (sound y.layout.sizes.route y.layout.nest y.layout.sized.accepted) b tile mine r.number (rw q.number (at_in (dues_of p tile) j l))
 
     -- the message to be sent
-    module _ (n : ℕ) (r : MessageSlot) (few : n < length (sends_of p tile)) (q : FoundIn z.route x (get_or (sends_of p tile) n 0) r) where
+    module _ (n : ℕ) (r : MessageSlot) (few : n < length (sends_of p tile)) (q : FoundIn y.layout.sizes.route y.layout.nest (get_or (sends_of p tile) n 0) r) where
       own_message : handles p b r.number ≡ true
       own_message =
           rw q.number
@@ -78,7 +77,7 @@ module _ (x : Nest) (z : Sizes) (b : ℕ) (lens kept counts ordinals starts : Li
 
       pub sent_cells : Keeping p b r.number
       sent_cells =
-          sent_kept p (sound z.route x t.known.planned.0.accepted) b tile mine r.number number_below
+          sent_kept p (sound y.layout.sizes.route y.layout.nest y.layout.sized.accepted) b tile mine r.number number_below
           (ap (sender_of p) q.number ∙ at_is (sender_of p) tile (count p) n few)
 
       pub sent_low : r.number < 7169
@@ -121,7 +120,7 @@ module _ (x : Nest) (z : Sizes) (b : ℕ) (lens kept counts ordinals starts : Li
         (q ∙ ap (λ (k : ℕ). pick (ltb 0 n) (set_progress l 0 k 2 0) (set_progress l 0 (k + 1) 0 0)) f)
 
     pub send_leaves : (tile : ℕ) → p.processor_of tile ≡ b → (sent n at rank : ℕ) (r : MessageSlot) (mail' l' : List ℕ) → sent < length (sends_of p tile)
-        → FoundIn z.route x (get_or (sends_of p tile) sent 0) r → sent ≡ get_or l 2 0 → n ≡ length (sends_of p tile)
+        → FoundIn y.layout.sizes.route y.layout.nest (get_or (sends_of p tile) sent 0) r → sent ≡ get_or l 2 0 → n ≡ length (sends_of p tile)
         → at ≡ get_or starts r.number 0 → rank ≡ get_or ordinals r.number 0 → mail' ≡ put mail at (pack (all_of p b memory) (held_by p r.number))
         → l' ≡ pick (ltb (sent + 1) n) (set_progress l 0 finished 2 (sent + 1)) (set_progress l 0 (finished + 1) 0 0)
         → state_of memory mail' l' (set marks rank 1)

@@ -1,12 +1,14 @@
 -- The turn on a part by the line that counts: each way in which the machine's turn ends on the areas that have the part.
-use Rattle.std.specs.Prelude.{◌≡◌, ℕ, ◌<◌, ◌≤◌, Bool, true, false, eqb, ltb, ◌≢◌, List, [], ◌∷◌, ◌++◌, length, get_or, take}
+use Rattle.std.specs.Prelude.{◌≡◌, ℕ, ◌<◌, ◌≤◌, Bool, true, false, eqb, ltb, ◌≢◌, List, [], ◌∷◌, ◌++◌, length, get_or, take, Ok, Err}
 use mathlib.Core.Path.{refl, sym, ap, ◌∙◌}
 use native.Mathlib.Omega.{arith}
 use lib.Seq.{length-take-le}
 use borrow.Author.Tests.{eq-eqb, ne_eqb}
 use Rattle.base.specs.Tests.{◌and◌, not}
 use Rattle.base.specs.Lists.{all_at, pack}
+use Rattle.base.specs.declared.refusal.Refusal.{Refusal}
 use Rattle.base.specs.Numbers.{Line, line, first_of}
+use Rattle.base.specs.Refusals.{code}
 use Rattle.base.proofs.Tests.{and_left, and_false, not-true, not-false, pick_true}
 use Rattle.base.proofs.Select.{at_is}
 use Rattle.base.proofs.Numbers.{first_true, first_false, first_some}
@@ -15,13 +17,13 @@ use Rattle.machine.specs.Machine.{State, finished_of, stage_of, sent_of, current
 use Rattle.machine.specs.Machine.{Answered, answered, waiting, tiles_left, turn_lines, turn}
 use Rattle.records.specs.declared.Flat.{Flat}
 use Rattle.records.specs.Records.{Flattens}
-use Rattle.plan.specs.Shaped.{plan_of}
+use Rattle.tables.specs.declared.Table.{Table}
+use Rattle.tables.specs.Given.{plan_of_table}
 use Rattle.engine.specs.Calls.{answer}
 use Rattle.engine.proofs.Turns as turns
 use Rattle.engine.proofs.Turns.{answered_no, answered_yes}
 use Rattle.network.specs.Own.{own_cells, source_of}
 use Rattle.part.specs.Part.{rank_of, mail_at, part_fits}
-use Rattle.recipe.specs.declared.Recipe.{Recipe}
 use Rattle.part_calls.specs.front.Calls.{from_part, to_part, stepped, part_turn_call}
 use Rattle.part_calls.specs.front.Given.{OpensFor, unfit_lines}
 use Rattle.part_calls.specs.turn.Step.{MayStep, stepped_or, turned_or}
@@ -161,14 +163,15 @@ three_are f l n h =
     ap (λ (k : ℕ). take k f.words) (sym e) ∙ h.kept (omega (arith, e))
 
 -- ---- past the first lines
-module _ (bytes : List ℕ) (route b : ℕ) (r : Recipe) (o : OpensFor bytes route b r) (source : List ℕ) (s : State) where
+module _ (bytes : List ℕ) (route b : ℕ) (source : List ℕ) (s : State) where
   abbrev lines : Plan → List Line
   lines p = line 9 (not (eqb (length source) (length (own_cells p b)) and part_fits p b s)) ∷ turn_lines p (from_part p b s) b
 
-  pub turn_read : r.number ≢ 0 → answer r.number s ≡ part_turn_call bytes route source s b
+  pub turn_read : (r : Refusal) → OpensFor bytes route b (Err r) → answer (code r) s ≡ part_turn_call bytes route source s b
   unfolding part_turn_call
-  turn_read h = closed bytes route b r o lines (λ p. to_part p b (stepped p b source s)) s h
+  turn_read = closed bytes route b lines (λ p. to_part p b (stepped p b source s)) s
 
-  pub turn_past : r.number ≡ 0 → (a : Answered State) → a ≡ turned_or (plan_of r.sizes.route r.nest) source s b → a ≡ part_turn_call bytes route source s b
+  pub turn_past : (t : Table) → OpensFor bytes route b (Ok t) → (a : Answered State) → a ≡ turned_or (plan_of_table t) source s b
+      → a ≡ part_turn_call bytes route source s b
   unfolding part_turn_call
-  turn_past z a e = opened bytes route b r o lines (λ p. to_part p b (stepped p b source s)) s z a e
+  turn_past = opened bytes route b lines (λ p. to_part p b (stepped p b source s)) s

@@ -10,11 +10,10 @@ use Rattle.nest.specs.Places.{cell_place}
 use Rattle.nest.specs.Shape.{in_shape}
 use Rattle.nest.specs.Spans.{last}
 use Rattle.plan.specs.Geometry.{read_at}
-use Rattle.plan.specs.Shaped.{reads_shape, shaped_cells, shaped_value, plan_of}
-use Rattle.layout.specs.declared.Sizes.{Sizes}
-use Rattle.layout.specs.Sizes.{Sized}
+use Rattle.plan.specs.Shaped.{reads_shape, shaped_cells, shaped_value}
 use Rattle.layout.specs.CellRows.{row_of}
-use Rattle.tables.specs.Tables.{Tabled}
+use Rattle.tables.specs.declared.Table.{Table}
+use Rattle.tables.specs.Given.{plan_of_table}
 use Rattle.values.specs.shaped_values.Rows.{inside_only, Along, between, ReadsRuns, mixed_along, Readable}
 use Rattle.network.specs.Own.{owns, keeps, own_cells, kept_cells}
 use Rattle.rank_index.specs.Ranks.{marked_at, marked_cells, rank_at, spread_out, Counted}
@@ -96,16 +95,14 @@ pub record GivenBox (x : Nest) (kept counts owned tally : List ℕ) (sources wor
   pub memory : words ≡ length (marked_cells kept)
   pub worked : (c : ℕ) → In c (shaped_cells x u) → Worked x kept c × (marked_at owned c ≡ true)
 
--- tile t of processor b: the nest's table, b's kept cells and its own marked and counted, source and part with a word for each
-pub record GivenTile (x : Nest) (z : Sizes) (lens kept counts owned tally : List ℕ) (sources words b t : ℕ) : Type 0 where
-  pub sized : Sized x z
-  pub tabled : Tabled x z lens
-  pub processor : b < processors x
-  pub low : t < (plan_of z.route x).tiles
-  pub mine : (plan_of z.route x).processor_of t ≡ b
-  pub kept_are : kept ≡ tabulate (λ c. one (keeps (plan_of z.route x) b c)) (cells x)
-  pub own_are : owned ≡ tabulate (λ c. one (owns (plan_of z.route x) b c)) (cells x)
+-- tile u of processor b: b's kept cells and its own marked and counted, source and part with a word for each
+pub record GivenTile (t : Table) (kept counts owned tally : List ℕ) (sources words b u : ℕ) : Type 0 where
+  pub processor : b < processors t.layout.nest
+  pub low : u < (plan_of_table t).tiles
+  pub mine : (plan_of_table t).processor_of u ≡ b
+  pub kept_are : kept ≡ tabulate (λ c. one (keeps (plan_of_table t) b c)) (cells t.layout.nest)
+  pub own_are : owned ≡ tabulate (λ c. one (owns (plan_of_table t) b c)) (cells t.layout.nest)
   pub counted : Counted kept counts
   pub own_counted : Counted owned tally
-  pub source : sources ≡ length (own_cells (plan_of z.route x) b)
-  pub memory : words ≡ length (kept_cells (plan_of z.route x) b)
+  pub source : sources ≡ length (own_cells (plan_of_table t) b)
+  pub memory : words ≡ length (kept_cells (plan_of_table t) b)

@@ -7,9 +7,8 @@ use Rattle.base.specs.Lists.{In, sublist, unpack}
 use Rattle.base.specs.Numbers.{line, first_of}
 use Rattle.machine.specs.Plan.{Plan, count, held_by, tiles_of}
 use Rattle.machine.specs.Machine.{State, fit, Answered, answered, turn_lines}
-use Rattle.nest.specs.declared.Nest.{Nest}
-use Rattle.plan.specs.Shaped.{plan_of}
-use Rattle.layout.specs.declared.Sizes.{Sizes}
+use Rattle.tables.specs.declared.Table.{Table}
+use Rattle.tables.specs.Given.{plan_of_table}
 use Rattle.network.specs.Own.{keeps, own_cells, kept_cells, handled}
 use Rattle.part.specs.Part.{words_of, part_fits}
 use Rattle.part_calls.specs.front.Calls.{from_part, to_part, stepped}
@@ -22,9 +21,9 @@ pub record Lengths (p : Plan) (b : ℕ) (words letters bytes : List ℕ) : Type 
   pub marks : length bytes ≡ length (handled p b)
 
 -- what is found once of processor b's messages, and its kept cells
-pub record Tables (x : Nest) (z : Sizes) (b : ℕ) (lens kept counts rank place : List ℕ) : Type 0 where
-  pub known : Known x z b lens rank place
-  pub cells : Cells x (keeps (plan_of z.route x) b) kept counts
+pub record Tables (t : Table) (b : ℕ) (kept counts rank place : List ℕ) : Type 0 where
+  pub known : Known t b rank place
+  pub cells : Cells t.layout.nest (keeps (plan_of_table t) b) kept counts
 
 -- the marks of these messages are among n, their words among n words
 pub record Ranked (p : Plan) (ordinals ms : List ℕ) (n : ℕ) : Type 0 where

@@ -3,5 +3,5 @@ use Prim.Native.Nat.{ℕ}
 use lib.ListN.{length-replicate}
 use Rattle.plan_text.proofs.print_routed.Goals as goal
 
-pub print_by-printed-requires : goal.print_by-printed-requires
-print_by-printed-requires g c = length-replicate {A = ℕ} 473159 0
+pub print_by-requires : goal.print_by-requires
+print_by-requires g c = length-replicate {A = ℕ} 473159 0

@@ -1,10 +1,6 @@
 -- `fill_counts` meets its contract: the blocks passed.
-use Prim.Native.Nat.{◌-◌}
 use Rattle.rank_index.proofs.Blocks as laws
 use Rattle.rank_index.proofs.fill_counts.Given as goal
 
 abbrev pub invariant-loop-q : goal.invariant-loop-q
 invariant-loop-q l = laws.Filled l.marks l.counts l.q l.n
-
-abbrev pub decreases-loop-q : goal.decreases-loop-q
-decreases-loop-q l = l.blocks - l.q

@@ -14,6 +14,5 @@ overflow_add-n c =
 
 pub returns : goal.returns
 returns c =
-    c.word_index.ensures
-    ∙ blocks.rank_by_block c.args.marks.now c.args.counts.now c.requires.0 c.args.c c.marks_in.result c.requires.1.0
+    blocks.rank_by_block c.args.marks.now c.args.counts.now c.requires.0 c.args.c c.marks_in.result c.requires.1.0
     c.marks_in.ensures

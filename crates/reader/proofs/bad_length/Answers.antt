@@ -1,21 +1,18 @@
--- `reader::bad_length` meets its contract: no place that the loop has passed ends it.
-use mathlib.Core.Path.{sym, ◌∙◌}
+-- `reader::bad_length` meets its contract: what `any` answers over the range.
+use mathlib.Core.Path.{◌∙◌, refl}
 use native.Mathlib.Omega.{arith}
-use Rattle.base.proofs.Tests.{some_one}
-use Rattle.nest.specs.Reader.{bad_length}
-use Rattle.nest.proofs.Laws as L
+use borrow.Author.Rules.{rules}
+use borrow.Author.Tests.{tests}
+use Rattle.std.proofs.lemmas.Iterator.{YieldsList-from_range}
+use Rattle.std.proofs.lemmas.Iterator.Search.{any_from_yields_List}
+use Rattle.base.proofs.Chains.{range_any}
+use Rattle.nest.specs.Nest.{length_of}
+use Rattle.nest.specs.Reader.{no_length, bad_length}
 use Rattle.reader.proofs.bad_length.Goals as goal
-
-pub loop-j-init : goal.loop-j-init
-loop-j-init c = (omega arith, L.some_start _)
-
-pub returns-then-no_length : goal.returns-then-no_length
-unfolding bad_length
-returns-then-no_length c = sym (some_one _ _ c.loop-j.j c.loop-j-test.true (sym c.no_length.ensures ∙ c.if-no_length.true))
-
-pub loop-j-preserved : goal.loop-j-preserved
-loop-j-preserved c = (omega arith, L.some_step _ _ c.loop-j.invariant.1 (sym c.no_length.ensures ∙ c.if-no_length.false))
 
 pub returns : goal.returns
 unfolding bad_length
-returns c = sym (L.some_end _ _ c.loop-j.j c.loop-j.invariant.0 c.loop-j-test.false c.loop-j.invariant.1)
+returns c =
+    any_from_yields_List (λ j. no_length (length_of c.args.nest j)) _ _ _ c.any.ensures.ran (YieldsList-from_range 0 c.args.nest.dimensions c.args.nest.dimensions refl (omega arith))
+    (λ x b q k. search (rules, tests))
+    ∙ range_any _ _

@@ -1,29 +1,31 @@
--- `reader::bad_spread` meets its contract: no place that the loop has passed ends it.
-use mathlib.Core.Path.{sym}
+-- `reader::bad_spread` meets its contract: what `any` answers over the range.
+use mathlib.Core.Path.{◌≡◌, ◌∙◌, refl}
+use Prim.Native.Nat.{◌-◌}
+use mathlib.Core.Logic.{◌≢◌}
 use native.Mathlib.Omega.{arith}
+use borrow.Author.Rules.{rules}
+use borrow.Author.Tests.{tests, lt-ltb}
+use Rattle.std.proofs.lemmas.Iterator.{YieldsList-from_range}
+use Rattle.std.proofs.lemmas.Iterator.Search.{any_from_yields_List}
+use Rattle.base.proofs.Chains.{range_any}
+use Rattle.base.proofs.Tests.{not-true}
+use Rattle.base.specs.Tests.{◌or◌, not, some}
+use Rattle.nest.specs.declared.Nest.{Nest}
+use Rattle.nest.specs.Nest.{processor_count}
+use Rattle.nest.specs.Reader.{bad_spread}
 use Rattle.nest.proofs.Laws as L
 use Rattle.reader.proofs.bad_spread.Goals as goal
-use Rattle.reader.proofs.bad_spread.Goals.{then-nest-j-eq0+else-nest-j-gt0, else-nest-j-eq0}
+
+later : (x : Nest) → processor_count x 0 ≢ 0 → some (L.spread_after x) (x.dimensions - 1) ≡ bad_spread x
+unfolding bad_spread ◌or◌
+later x h = simp (not-true (lt-ltb 0 (processor_count x 0) (omega arith)))
 
 pub returns-then-nest-eq0 : goal.returns-then-nest-eq0
-returns-then-nest-eq0 c = sym (L.first_unspread c.args.nest c.if-nest-eq0.true)
+unfolding bad_spread ◌or◌ not
+returns-then-nest-eq0 c = search rules
 
-pub loop-j-init : goal.loop-j-init
-loop-j-init c = (omega arith, L.some_start _)
-
-pub returns-then-nest-j-gt0 : goal.returns-then-nest-j-gt0
-returns-then-nest-j-gt0 c = sym (L.later_spread c.args.nest c.loop-j.j c.loop-j-test.true c.if-nest-j-eq0.true c.if-nest-j-gt0.true)
-
-pub loop-j-preserved : goal.loop-j-preserved
-loop-j-preserved c = (
-  omega arith,
-  L.some_step _ _ c.loop-j.invariant.1 (elim c.if-nest-j-eq0.branch [
-    | then-nest-j-eq0+else-nest-j-gt0 w ↦ L.after_no c.args.nest c.loop-j.j w.if-nest-j-gt0.false
-    | else-nest-j-eq0 w ↦ L.after_spread c.args.nest c.loop-j.j w.if-nest-j-eq0.false
-  ]),
-)
-
-pub returns : goal.returns
-returns c =
-    sym (L.spread_well c.args.nest c.if-nest-eq0.false
-    (L.some_end _ _ c.loop-j.j c.loop-j.invariant.0 c.loop-j-test.false c.loop-j.invariant.1))
+pub returns-else-nest-eq0 : goal.returns-else-nest-eq0
+returns-else-nest-eq0 c =
+    any_from_yields_List (L.spread_after c.args.nest) _ _ _ c.any.ensures.ran
+    (YieldsList-from_range 0 (c.args.nest.dimensions - 1) (c.args.nest.dimensions - 1) refl (omega arith)) (λ x b q k. search (rules, tests))
+    ∙ range_any _ _ ∙ later c.args.nest c.if-nest-eq0.false

@@ -25,4 +25,4 @@ returns c =
     L.made A.encoded.now A.n A.b A.e _ _ _ _ _ _ _ _ _ _ _ _ _ c.spread_of.ensures c.halves.ensures
     c.halves-2.ensures c.halves-3.ensures c.components_of.ensures c.weights_of.ensures
     c.bytes_of.ensures c.bytes_of-2.ensures c.bytes_of-3.ensures c.slopes_of.ensures
-    c.offsets_of.ensures c.byte_wide.ensures (c.word_wide.ensures ∙ c.word_at.ensures)
+    c.offsets_of.ensures c.from.ensures (c.from-2.ensures ∙ c.word_at.ensures)

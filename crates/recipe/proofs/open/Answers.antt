@@ -1,19 +1,12 @@
--- `recipe::open` meets its contract: the table is filled where the recipe is not refused.
+-- `recipe::open` meets its contract: one law for each return.
+use Rattle.std.proofs.lemmas.Result.{err_from_is_err_and}
 use Rattle.recipe.proofs.Laws as laws
 use Rattle.recipe.proofs.open.Goals as goal
 
-pub fill-requires : goal.fill-requires
-fill-requires c =
-    let has = c.with_sizes-opening.ensures in
-    let z = c.if-opening-eq0.true in
-    (has.sized z, (has.routed z, c.requires))
+pub returns-in_err-layout : goal.returns-in_err-layout
+returns-in_err-layout c =
+    let p = err_from_is_err_and c.from_residual.result c.from_residual.ensures.1 in
+    rw (p.1, p.2) (laws.refused_table _ _ c.in_err-layout.ensures)
 
-pub returns-then-opening-eq0 : goal.returns-then-opening-eq0
-returns-then-opening-eq0 c =
-    let with-sizes = c.with_sizes-opening in
-    laws.opens_with _ _ _ with-sizes.ensures _ (λ _. c.fill.ensures)
-
-pub returns-else-opening-eq0 : goal.returns-else-opening-eq0
-returns-else-opening-eq0 c =
-    let with-sizes = c.with_sizes-opening in
-    laws.opens_with _ _ _ with-sizes.ensures _ (λ z. absurd (c.if-opening-eq0.false z))
+pub returns : goal.returns
+returns c = laws.opens_with _ _ _ c.in_ok-layout.ensures c.of.result c.of.ensures

@@ -3,17 +3,17 @@ use mathlib.Core.Path.{refl}
 use Rattle.schedule.proofs.all_rounds.Goals as goal
 
 pub list-messages-requires : goal.list-messages-requires
-list-messages-requires c = (c.requires.planned.0, refl)
+list-messages-requires c = refl
 
 pub chain_ends-requires : goal.chain_ends-requires
 chain_ends-requires c =
     let list = c.list-messages in
-    record { planned = (c.requires.planned.0, (list.ensures.1, refl)); messages_value = list.ensures.0 }
+    record { planned = (list.ensures.1, refl); messages_value = list.ensures.0 }
 
 pub chain_ends-requires-2 : goal.chain_ends-requires-2
 chain_ends-requires-2 c =
     let list = c.list-messages in
-    record { planned = (c.requires.planned.0, (list.ensures.1, refl)); messages_value = list.ensures.0 }
+    record { planned = (list.ensures.1, refl); messages_value = list.ensures.0 }
 
 pub rounds_by-requires : goal.rounds_by-requires
 rounds_by-requires c =
@@ -22,14 +22,13 @@ rounds_by-requires c =
     let chain-ends2 = c.chain_ends-2 in record {
       indexed = (
         record {
-          planned = c.requires.planned.0;
           listed = list.ensures.1;
           by_sender = chain-ends.ensures;
           by_taker = chain-ends2.ensures;
           few =
               list.ensures.1.few;
         },
-        c.requires.planned.1,
+        c.requires.planned,
       );
       status_value = c.requires.status_value;
     }

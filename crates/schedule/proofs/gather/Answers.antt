@@ -12,16 +12,13 @@ pub first-m-requires : goal.first-m-requires
 first-m-requires c = (c.requires.mailed.0.chained, c.requires.mailed.1)
 
 pub loop-m-init : goal.loop-m-init
-loop-m-init c = laws.gather_start c.args.sizes.route c.args.nest c.args.t _ _ _ _ c.first-m.ensures
+loop-m-init c = laws.gather_start c.args.table.now.layout.sizes.route c.args.table.now.layout.nest c.args.t _ _ _ _ c.first-m.ensures
 
 pub spot-place-requires : goal.spot-place-requires
-spot-place-requires c = (c.requires.planned.0, (c.requires.planned.1, omega (arith, c.loop-m-test.true, c.loop-m.invariant.gathering.long_status, c.requires.mailed.0.marks)))
+spot-place-requires c = (c.requires.planned, omega (arith, c.loop-m-test.true, c.loop-m.invariant.gathering.long_status, c.requires.mailed.0.marks))
 
 pub take_message-requires : goal.take_message-requires
-take_message-requires c = record { sized = (c.requires.planned.0.0, (c.requires.planned.0.1, telling.found_self _ _ _ _ c.spot-place.ensures)); memory_len = (c.loop-m.invariant.gathering.long ∙ c.requires.memory_len.0, c.requires.memory_len.1) }
-
-pub bounds-status-m : goal.bounds-status-m
-bounds-status-m c = omega (arith, c.loop-m-test.true)
+take_message-requires c = record { sized = telling.found_self _ _ _ _ c.spot-place.ensures; memory_len = (c.loop-m.invariant.gathering.long ∙ c.requires.memory_len.0, c.requires.memory_len.1) }
 
 pub next-m-requires : goal.next-m-requires
 next-m-requires c =
@@ -32,7 +29,7 @@ next-m-requires c =
         omega (arith, loop-test.true, loop.invariant.gathering.long_status, c.requires.mailed.0.marks),
         (
           omega (arith, loop-test.true, loop.invariant.gathering.long_status, c.requires.mailed.0.marks, c.requires.mailed.0.few),
-          chains.walk_tile (taker_of (plan_of c.args.sizes.route c.args.nest)) (count (plan_of c.args.sizes.route c.args.nest)) c.args.t
+          chains.walk_tile (taker_of (plan_of c.args.table.now.layout.sizes.route c.args.table.now.layout.nest)) (count (plan_of c.args.table.now.layout.sizes.route c.args.table.now.layout.nest)) c.args.t
               loop.invariant.j loop.m loop.invariant.spot (omega (arith, loop-test.true, loop.invariant.gathering.long_status, c.requires.mailed.0.marks)),
         ),
       ),
@@ -46,8 +43,8 @@ loop-m-smaller c =
       arith,
       loop-test.true,
       loop.invariant.gathering.long_status,
-      chains.walk_more (taker_of (plan_of c.args.sizes.route c.args.nest))
-          (count (plan_of c.args.sizes.route c.args.nest)) c.args.t loop.invariant.j loop.m loop.invariant.spot
+      chains.walk_more (taker_of (plan_of c.args.table.now.layout.sizes.route c.args.table.now.layout.nest))
+          (count (plan_of c.args.table.now.layout.sizes.route c.args.table.now.layout.nest)) c.args.t loop.invariant.j loop.m loop.invariant.spot
           (omega (arith, loop-test.true, loop.invariant.gathering.long_status, c.requires.mailed.0.marks)) _ c.next-m.ensures,
     )
 
@@ -56,18 +53,12 @@ loop-m-preserved c =
     let loop = c.loop-m in
     let spot = c.spot-place in
     let take-message = c.take_message in
-    laws.gather_next c.args.sizes.route c.args.nest c.args.t _ _ _ _ _ _ loop.invariant
+    laws.gather_next c.args.table.now.layout.sizes.route c.args.table.now.layout.nest c.args.t _ _ _ _ _ _ loop.invariant
     (omega (arith, c.loop-m-test.true, loop.invariant.gathering.long_status, c.requires.mailed.0.marks)) spot.result spot.ensures _
     take-message.auto.memory take-message.ensures _ c.next-m.ensures
-
-pub shape_of-memory : goal.shape_of-memory
-shape_of-memory c = c.loop-m.invariant.gathering.long
-
-pub shape_of-status : goal.shape_of-status
-shape_of-status c = c.loop-m.invariant.gathering.long_status
 
 pub returns : goal.returns
 returns c =
     let loop = c.loop-m in
-    laws.gather_done c.args.sizes.route c.args.nest c.args.t _ _ _ _ _ _ loop.invariant
+    laws.gather_done c.args.table.now.layout.sizes.route c.args.table.now.layout.nest c.args.t _ _ _ _ _ _ loop.invariant
     (omega (arith, c.loop-m-test.false, loop.invariant.gathering.long_status, c.requires.mailed.0.marks))

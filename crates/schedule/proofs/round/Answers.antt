@@ -1,6 +1,5 @@
 -- The processors' tiles so far; then the mail.
 use native.Mathlib.Omega.{arith}
-use mathlib.Core.Path.{◌∙◌}
 use Rattle.machine.specs.Machine.{state_of}
 use Rattle.plan.specs.Shaped.{plan_of}
 use Rattle.nest.specs.Nest.{processors}
@@ -9,56 +8,36 @@ use Rattle.schedule.proofs.round.Goals as goal
 
 pub loop-b-init : goal.loop-b-init
 loop-b-init c =
-    laws.tiles_start (plan_of c.args.sizes.route c.args.nest) c.args.source.now
-    (state_of c.args.memories.now c.args.buffer.now c.args.progress.now c.args.status.now) c.args.sizes.processors
+    laws.tiles_start (plan_of c.args.table.now.layout.sizes.route c.args.table.now.layout.nest) c.args.source.now
+    (state_of c.args.memories.now c.args.buffer.now c.args.progress.now c.args.status.now) c.args.table.now.layout.sizes.processors
 
 pub next_tile-requires : goal.next_tile-requires
 next_tile-requires c =
     let loop = c.loop-b in record {
-      indexed = (c.requires.indexed.0, (c.requires.indexed.1, omega (arith, c.loop-b-test.true, c.requires.indexed.0.planned.0.processors)));
-      plan_areas = laws.tiles_lent (plan_of c.args.sizes.route c.args.nest) c.args.source.now (state_of c.args.memories.now c.args.buffer.now
+      indexed = (c.requires.indexed.0, (c.requires.indexed.1, omega (arith, c.loop-b-test.true, c.args.table.now.layout.sized.processors)));
+      plan_areas = laws.tiles_lent (plan_of c.args.table.now.layout.sizes.route c.args.table.now.layout.nest) c.args.source.now (state_of c.args.memories.now c.args.buffer.now
           c.args.progress.now c.args.status.now) (state_of loop.memories loop.buffer loop.progress loop.status)
-          c.args.sizes.processors
+          c.args.table.now.layout.sizes.processors
           loop.b loop.invariant c.requires.plan_areas;
     }
-
-pub overflow_add-b : goal.overflow_add-b
-overflow_add-b c =
-    let loop-test = c.loop-b-test in
-    omega (arith, loop-test.true, c.requires.indexed.0.planned.0.processors, c.requires.indexed.0.planned.0.accepted.processors_most)
-
-pub loop-b-smaller : goal.loop-b-smaller
-loop-b-smaller c = omega arith
 
 pub loop-b-preserved : goal.loop-b-preserved
 loop-b-preserved c =
     let loop = c.loop-b in
     let loop-test = c.loop-b-test in
     let next_tile = c.next_tile in
-    laws.tiles_next (plan_of c.args.sizes.route c.args.nest) c.args.source.now (state_of c.args.memories.now c.args.buffer.now
-    c.args.progress.now c.args.status.now) (state_of loop.memories loop.buffer loop.progress loop.status) c.args.sizes.processors
+    laws.tiles_next (plan_of c.args.table.now.layout.sizes.route c.args.table.now.layout.nest) c.args.source.now (state_of c.args.memories.now c.args.buffer.now
+    c.args.progress.now c.args.status.now) (state_of loop.memories loop.buffer loop.progress loop.status) c.args.table.now.layout.sizes.processors
     loop.b loop.invariant loop-test.true _ next_tile.auto.memories next_tile.auto.buffer
     next_tile.auto.progress next_tile.auto.status next_tile.ensures
-
-pub shape_of-memories : goal.shape_of-memories
-shape_of-memories c = c.loop-b.invariant.memories
-
-pub shape_of-buffer : goal.shape_of-buffer
-shape_of-buffer c = c.loop-b.invariant.buffer
-
-pub shape_of-progress : goal.shape_of-progress
-shape_of-progress c = c.loop-b.invariant.progress
-
-pub shape_of-status : goal.shape_of-status
-shape_of-status c = c.deliver_mail.auto.status ∙ c.loop-b.invariant.status
 
 pub returns : goal.returns
 returns c =
     let deliver-mail = c.deliver_mail in
     let loop = c.loop-b in
-    let p = plan_of c.args.sizes.route c.args.nest in
+    let p = plan_of c.args.table.now.layout.sizes.route c.args.table.now.layout.nest in
     let s = state_of c.args.memories.now c.args.buffer.now c.args.progress.now c.args.status.now in
     let x = state_of loop.memories loop.buffer loop.progress loop.status in
     laws.round_done p c.args.source.now s x deliver-mail.new.status
-    (laws.tiles_done p c.args.source.now s x c.args.sizes.processors loop.b loop.invariant c.loop-b-test.false (processors c.args.nest)
-    c.requires.indexed.0.planned.0.processors) deliver-mail.ensures
+    (laws.tiles_done p c.args.source.now s x c.args.table.now.layout.sizes.processors loop.b loop.invariant c.loop-b-test.false (processors c.args.table.now.layout.nest)
+    c.args.table.now.layout.sized.processors) deliver-mail.ensures

@@ -5,7 +5,7 @@ use Rattle.schedule.proofs.Laws as laws
 use Rattle.schedule.proofs.send.Given as goal
 
 abbrev pub invariant-loop-m : goal.invariant-loop-m
-invariant-loop-m l = laws.SendLoop (plan_of l.sizes.route l.nest) l.t l.memory l.initial.buffer l.initial.status l.buffer l.status l.m
+invariant-loop-m l = laws.SendLoop (plan_of l.table.layout.sizes.route l.table.layout.nest) l.t l.memory l.initial.buffer l.initial.status l.buffer l.status l.m
 
 abbrev pub decreases-loop-m : goal.decreases-loop-m
 decreases-loop-m l = length l.initial.status - l.m

@@ -3,17 +3,17 @@ use mathlib.Core.Path.{refl}
 use Rattle.schedule.proofs.tell_rounds.Goals as goal
 
 pub list-messages-requires : goal.list-messages-requires
-list-messages-requires c = (c.requires.0, refl)
+list-messages-requires c = refl
 
 pub chain_ends-requires : goal.chain_ends-requires
 chain_ends-requires c =
     let list = c.list-messages in
-    record { planned = (c.requires.0, (list.ensures.1, refl)); messages_value = list.ensures.0 }
+    record { planned = (list.ensures.1, refl); messages_value = list.ensures.0 }
 
 pub tell_by-requires : goal.tell_by-requires
 tell_by-requires c =
     let list = c.list-messages in
-    (record { planned = c.requires.0; listed = list.ensures.1; by_taker = c.chain_ends.ensures; all = list.ensures.0 }, c.requires.1)
+    (record { listed = list.ensures.1; by_taker = c.chain_ends.ensures; all = list.ensures.0 }, c.requires)
 
 pub returns : goal.returns
 returns c = c.tell_by.ensures

@@ -2,8 +2,5 @@ use Rattle.sharing.proofs.collect.Goals as goal
 
 pub returns : goal.returns
 returns c =
-    let flat-of = c.flat_of in
-    let flat-of2 = c.flat_of-2 in
-    let collect = c.collect in
     let A = c.args in
-    collect.ensures A.progress.now A.theirs.now flat-of.ensures flat-of2.ensures
+    rw c.number_of.ensures (c.collect-answer.ensures A.progress.now A.theirs.now c.flat_of.ensures c.flat_of-2.ensures)

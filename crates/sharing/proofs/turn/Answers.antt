@@ -17,4 +17,4 @@ pub returns : goal.returns
 returns c =
     let A = c.args in
     let done = c.turn-after.ensures A.progress.now A.theirs.now c.flat_of.ensures c.flat_of-2.ensures in
-    starts.turn_stored c.turn-after.result _ _ A.progress.now _ _ A.processor _ done _ c.store_after.ensures
+    rw c.store_after.ensures.1 (starts.turn_stored c.turn-after.result _ _ A.progress.now _ _ A.processor _ done _ c.store_after.ensures.0)

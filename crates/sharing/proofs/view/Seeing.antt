@@ -93,12 +93,6 @@ part_inside n b c h = omega (arith, suc-mul b c, mul-le-mul_right c h)
 
 -- ---- what `view_at` gives, for memories of these lengths
 
-pub not_seen : (bytes : List ℕ) (o b first second : ℕ) (r : Seen) (n : ℕ) → r.number ≡ n → n ≢ 0
-    → ((a c : List ℕ) → first ≡ length a → second ≡ length c → n ≡ view_number bytes a c o b)
-    → ((a c : List ℕ) → first ≡ length a → second ≡ length c → r.number ≡ view_number bytes a c o b)
-    × (r.number ≡ 0 → SeenAt (recipe bytes 0) first second b r)
-not_seen bytes o b first second r n e h g = (λ a c i k. e ∙ g a c i k, λ z. absurd (h (sym e ∙ z)))
-
 pub seen_at : (p q : Plan) → p ≡ q → (first second b n cells : ℕ) (r : Seen) → first ≡ n * cells → second ≡ n * cells → cells ≡ p.cells
     → b < n → n * cells ≤ 1048576 → r.start ≡ b * cells → r.words ≡ cells → SeenAt q first second b r
 seen_at p q e first second b n cells r f s c h low x y =

@@ -3,19 +3,19 @@ use Rattle.stages.proofs.Shapes as shapes
 use Rattle.stages.proofs.copy_cells.Goals as goal
 
 pub copy_box-requires : goal.copy_box-requires
-copy_box-requires c = (c.requires.sized.0, c.requires.memories_len)
+copy_box-requires c = c.requires.memories_len
 
-pub returns-then-nest-eq0 : goal.returns-then-nest-eq0
-returns-then-nest-eq0 c =
+pub returns-then-layout-eq0 : goal.returns-then-layout-eq0
+returns-then-layout-eq0 c =
     let A = c.args in
-    shapes.box_collected A.nest A.sizes.route c.requires.sized.0.accepted c.if-nest-eq0.true _ _
+    shapes.box_collected A.layout.now.nest A.layout.now.sizes.route c.args.layout.now.sized.accepted c.if-layout-eq0.true _ _
     c.copy_box.ensures
 
 pub copy_cells-requires : goal.copy_cells-requires
-copy_cells-requires c = (c.requires.sized.0, c.requires.memories_len)
+copy_cells-requires c = c.requires.memories_len
 
 pub returns : goal.returns
 returns c =
     let A = c.args in
-    shapes.shape_collected A.nest A.sizes.route (c.requires.sized.1 c.if-nest-eq0.false) _ _
+    shapes.shape_collected A.layout.now.nest A.layout.now.sizes.route (c.args.layout.now.routed c.if-layout-eq0.false) _ _
     c.copy_cells.ensures

@@ -1,5 +1,4 @@
 -- All records passed are fit.
-use Prim.Native.Nat.{◌-◌, ◌≤◌}
 use mathlib.Core.Path.{◌≡◌}
 use mathlib.Core.Bool.{true}
 use Rattle.base.specs.Tests.{every}
@@ -9,7 +8,4 @@ use Rattle.stages.specs.Progress.{progress_only}
 use Rattle.stages.proofs.fit_records.Given as goal
 
 abbrev pub invariant-loop-b : goal.invariant-loop-b
-invariant-loop-b l = (l.b ≤ l.n) × (every (fit_record (plan_of l.sizes.route l.nest) (progress_only l.progress)) l.b ≡ true)
-
-abbrev pub decreases-loop-b : goal.decreases-loop-b
-decreases-loop-b l = l.n - l.b
+invariant-loop-b l = every (fit_record (plan_of l.table.layout.sizes.route l.table.layout.nest) (progress_only l.progress)) l.b ≡ true

@@ -8,7 +8,7 @@ unpack-requires c =
       sized = c.requires.sized;
       memory_len = (
         c.requires.memory_len.0,
-        parts.mid_words c.args.sizes.route c.args.nest c.args.place.number c.args.place c.requires.sized.1.1
+        parts.mid_words c.args.table.now.layout.sizes.route c.args.table.now.layout.nest c.args.place.number c.args.place c.requires.sized
             c.args.buffer.now c.requires.memory_len.1,
       );
     }
@@ -16,5 +16,5 @@ unpack-requires c =
 pub returns : goal.returns
 returns c =
     let A = c.args in
-    parts.taken_is A.sizes.route A.nest A.place.number A.place c.requires.sized.1.1 A.memory.now A.buffer.now
+    parts.taken_is A.table.now.layout.sizes.route A.table.now.layout.nest A.place.number A.place c.requires.sized A.memory.now A.buffer.now
     c.unpack.new.memory c.unpack.ensures

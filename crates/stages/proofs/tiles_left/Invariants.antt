@@ -1,5 +1,4 @@
 -- No processor passed has tiles left.
-use Prim.Native.Nat.{◌-◌, ◌≤◌}
 use mathlib.Core.Path.{◌≡◌}
 use mathlib.Core.Bool.{false}
 use Rattle.base.specs.Tests.{some}
@@ -9,7 +8,4 @@ use Rattle.stages.specs.Progress.{progress_only}
 use Rattle.stages.proofs.tiles_left.Given as goal
 
 abbrev pub invariant-loop-b : goal.invariant-loop-b
-invariant-loop-b l = (l.b ≤ l.n) × (some (tiles_left (plan_of l.sizes.route l.nest) (progress_only l.progress)) l.b ≡ false)
-
-abbrev pub decreases-loop-b : goal.decreases-loop-b
-decreases-loop-b l = l.n - l.b
+invariant-loop-b l = some (tiles_left (plan_of l.table.layout.sizes.route l.table.layout.nest) (progress_only l.progress)) l.b ≡ false

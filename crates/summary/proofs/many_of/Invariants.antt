@@ -1,10 +1,6 @@
--- `summary::many_of` meets its contract: the mask of the dimensions before j.
-use Prim.Native.Nat.{◌-◌}
+-- `summary::many_of` meets its contract: the mask of the dimensions before this one.
 use Rattle.summary.proofs.Ones as L
 use Rattle.summary.proofs.many_of.Given as goal
 
-abbrev pub invariant-loop-j : goal.invariant-loop-j
-invariant-loop-j l = L.Masking l.counts l.n l.mask l.j
-
-abbrev pub decreases-loop-j : goal.decreases-loop-j
-decreases-loop-j l = l.n - l.j
+abbrev pub invariant-loop-count : goal.invariant-loop-count
+invariant-loop-count l = L.Masking l.fn.nest.counts l.fn.nest.spread l.mask l.count-index

@@ -1,16 +1,18 @@
 -- Laws of the messages with a tile at one end: one slot at the most along each way, how many come before a slot, the j-th of them.
 use Prim.Native.Nat.{ℕ, zero, suc, ◌+◌, ◌*◌, ◌-◌, ◌%◌, ◌≤◌, ◌<◌}
-use mathlib.Core.Path.{◌≡◌, refl, sym, ap, ◌∙◌}
+use mathlib.Core.Path.{◌≡◌, refl, sym, ap, ◌∙◌, subst}
 use mathlib.Core.Logic.{◌⊎◌, inl, inr, ◌≢◌}
 use mathlib.Core.List.{List}
 use native.Mathlib.Nat.{eq-or-lt_of_le, mul-zero, mod-lt, div-add-mod'}
 use native.Mathlib.Numerals.{add-one}
 use native.Mathlib.Decide.{ℕ_discrete, dec_lt}
 use native.Mathlib.Omega.{arith}
-use lib.ListN.{length, get_or, set, length-set}
-use lib.Seq.{get_or-set_same, get_or-set_other}
+use lib.ListN.{length, get_or, set, take, length-set}
+use lib.Seq.{get_or-set_same, get_or-set_other, get_or-take, take-length}
 use lib.Dec.{ltb}
 use borrow.Author.Tests.{lt-ltb, le-ltb, ltb-true}
+use Rattle.std.specs.List.{count_by}
+use Rattle.std.proofs.lemmas.List.Sums.{count_by_more_yes, count_by_more_no}
 use Rattle.base.specs.Tests.{one, sum, those, keep}
 use Rattle.base.proofs.Tests.{same_test, one_true, one_false, sum_same, sum_less, sum_const}
 use Rattle.base.proofs.Select.{those_at}
@@ -19,14 +21,16 @@ use Rattle.nest.specs.declared.Nest.{Nest}
 use Rattle.nest.specs.Accepted.{Accepted}
 use Rattle.nest.specs.Nest.{box_tiles}
 use Rattle.plan.specs.declared.Route.{Route}
-use Rattle.plan.specs.Messages.{ways, slots, slot_tile, slot_parcel, messages_to, box_plan}
+use Rattle.plan.specs.Messages.{ways, slots, slot_tile, slot_parcel, slot_message, messages_of, messages_to, box_plan}
 use Rattle.plan.proofs.Parcels.{slot_tile_low, slot_low, slot_tile_lem, slot_way}
 use Rattle.plan.proofs.Slots.{number_low}
 use Rattle.layout.specs.declared.Sizes.{Sizes}
 use Rattle.layout.specs.Sizes.{Sized, Stepped, end_at}
 use Rattle.layout.proofs.Steps.{ways_pos, ways_few}
-use Rattle.tables.specs.boxes.Table.{Summing, Only, Ends, FoundAt, end_of, at_end, count_below}
-use Rattle.tables.proofs.boxes.Scans.{seen, seen_none, seen_hit, seen_miss, end_is, found, slots_are}
+use Rattle.tables.specs.declared.scans.MessageSlot.{MessageSlot}
+use Rattle.tables.specs.scans.Scans.{Found}
+use Rattle.tables.specs.boxes.Table.{Only, Ends, FoundAt, end_of, at_end}
+use Rattle.tables.proofs.boxes.Scans.{seen, seen_none, seen_hit, seen_miss, end_is, found}
 
 -- ---- the only slot along a way
 
@@ -70,19 +74,16 @@ module _ (n : Nest) (z : Sizes) (h : Sized n z) (tile d : ℕ) (l : d < ways z.r
   slot_under a = rw h.ways (slot_low n z.route _ d (rw h.tiles at a) l)
 
   module _ (side : ℕ) (st : Stepped z.route n side steps) where
-    no_slots : Only z.route n side tile d (slots z.route n) → Only z.route n side tile d (z.tiles * z.ways)
-    no_slots o = rw (slots_are n z h) o
+    pub end_below : tile < get_or steps d 0 → Only z.route n side tile d (slots z.route n)
+    end_below b = none_below z.route n tile d l side steps st b
 
-    pub end_below : tile < get_or steps d 0 → Only z.route n side tile d (z.tiles * z.ways)
-    end_below b = no_slots (none_below z.route n tile d l side steps st b)
-
-    pub end_above : get_or steps d 0 ≤ tile → z.tiles ≤ tile - get_or steps d 0 → Only z.route n side tile d (z.tiles * z.ways)
-    end_above b a = no_slots (none_above z.route n tile d l side steps st b (rw h.tiles at a))
+    pub end_above : get_or steps d 0 ≤ tile → z.tiles ≤ tile - get_or steps d 0 → Only z.route n side tile d (slots z.route n)
+    end_above b a = none_above z.route n tile d l side steps st b (rw h.tiles at a)
 
     module _ (b : get_or steps d 0 ≤ tile) (a : tile - get_or steps d 0 < z.tiles) (w : ℕ)
         (is : w ≡ length (slot_parcel z.route n ((tile - get_or steps d 0) * z.ways + d))) where
-      pub end_none : w ≡ 0 → Only z.route n side tile d (z.tiles * z.ways)
-      end_none e = no_slots (none_there z.route n tile d l side steps st b (rw h.tiles at a) (rw h.ways at (sym is ∙ e)))
+      pub end_none : w ≡ 0 → Only z.route n side tile d (slots z.route n)
+      end_none e = none_there z.route n tile d l side steps st b (rw h.tiles at a) (rw h.ways at (sym is ∙ e))
 
       pub end_one : w ≢ 0 → Only z.route n side tile d ((tile - get_or steps d 0) * z.ways + d)
       end_one f = rw h.ways (one_there z.route n tile d l side steps st b (rw h.tiles at a) (λ e. f (is ∙ rw h.ways e)))
@@ -113,27 +114,31 @@ module _ (r : Route) (n : Nest) (side tile : ℕ) where
   pub ending_end : (ends : List ℕ) (d : ℕ) → Ending r n side tile ends d → ways r n ≤ d → Ends r n side tile ends
   ending_end ends d s h = record { each = λ i k. s.each i (omega (arith, s.low)) }
 
--- ---- how many are below
+-- ---- how many of the first n are below k
 
-pub record Below (l : List ℕ) (n k c d : ℕ) : Type 0 where
-  pub low : d ≤ n
-  pub few : c ≤ d
-  pub is : c ≡ count_below l d k
+unfoldable pub count_below : List ℕ → ℕ → ℕ → ℕ
+count_below l n k = sum (λ d. one (ltb (get_or l d 0) k)) n
 
-module _ (l : List ℕ) (n k : ℕ) where
-  pub below_none : Below l n k 0 0
-  unfolding count_below sum
-  below_none = record { low = omega arith; few = omega arith; is = refl }
+pub counted_below : (l : List ℕ) (n k : ℕ) → n ≤ length l → count_by (λ d. ltb d k) (take n l) ≡ count_below l n k
+unfolding count_below sum
+counted_below l zero k h = refl
+counted_below l (suc n) k h = go (counted_below l n k (omega arith)) (dec_lt (get_or l n 0) k)
+  where
+    go : count_by (λ d. ltb d k) (take n l) ≡ count_below l n k → Dec (get_or l n 0 < k)
+        → count_by (λ d. ltb d k) (take (suc n) l) ≡ count_below l (suc n) k
+    go ih (yes q) =
+        let t = lt-ltb (get_or l n 0) k q in
+        rw (← add-one n) (omega (arith, ih, count_by_more_yes (λ d. ltb d k) l n 0 (omega arith) t, one_true t))
+    go ih (no q) =
+        let t = le-ltb (get_or l n 0) k (omega arith) in
+        rw (← add-one n) (omega (arith, ih, count_by_more_no (λ d. ltb d k) l n 0 (omega arith) t, one_false t))
 
-  pub below_more : (c d c' : ℕ) → Below l n k c d → d < n → ((get_or l d 0 < k) × (c' ≡ c + 1)) ⊎ ((k ≤ get_or l d 0) × (c' ≡ c)) → Below l n k c' (d + 1)
-  unfolding count_below sum
-  below_more c d c' x h (inl (q, e)) =
-      record { low = omega arith; few = omega (arith, x.few); is = rw (add-one d) (omega (arith, x.is, one_true (lt-ltb _ _ q))) }
-  below_more c d c' x h (inr (q, e)) =
-      record { low = omega arith; few = omega (arith, x.few); is = rw (add-one d) (omega (arith, x.is, one_false (le-ltb _ _ q))) }
+pub counted_all : (l : List ℕ) (n k : ℕ) → n ≡ length l → count_by (λ d. ltb d k) l ≡ count_below l n k
+counted_all l n k e = rw e (subst (λ (x : List ℕ). count_by (λ d. ltb d k) x ≡ count_below l (length l) k) (take-length l) (counted_below l (length l) k (omega arith)))
 
-  pub below_end : (c d : ℕ) → Below l n k c d → n ≤ d → (c ≡ count_below l n k) × (c ≤ n)
-  below_end c d x h = let e : d ≡ n = omega (arith, x.low) in (rw e at x.is, omega (arith, x.few))
+pub ends_taken : (r : Route) (x : Nest) (side t n : ℕ) (l : List ℕ) → n ≡ ways r x → Ends r x side t l → Ends r x side t (take n l)
+ends_taken r x side t n l e h =
+    record { each = λ w k. let is : get_or (take n l) w 0 ≡ get_or l w 0 = get_or-take n l w 0 (omega arith) in rw is (h.each w k) }
 
 next_test : (a s : ℕ) → a ≢ s → ltb a (s + 1) ≡ ltb a s
 next_test a s f = same_test (λ t. lt-ltb a s (less (ltb-true a (s + 1) t))) (λ t. lt-ltb a (s + 1) (omega (arith, ltb-true a s t)))
@@ -252,15 +257,16 @@ module _ (r : Route) (n : Nest) (ok : Accepted n) (side tile : ℕ) (ends : List
         s.none (w.0 % ways r n) (omega arith) (omega arith) (ap (count_below ends (ways r n)) e ∙ below_is w.0 (omega arith) ∙ w.4)
 
     pub found_at : (s : ℕ) → s < slots r n → (d : ℕ) → d < ways r n → get_or ends d 0 ≡ s → (k : ℕ) → k ≡ ways r n → count_below ends k s ≡ j
-        → (m o w : ℕ) → Summing r n s m o → w ≡ length (slot_parcel r n s)
-        → FoundAt r n (get_or (at_end side (box_plan r n) tile) j 0) (record { slot = s; number = m; offset = o; words = w })
-    found_at s l d h e k is c m o w y q =
+        → (p : MessageSlot) → (0 < length (slot_parcel r n s) → Found (slot_message r n) (slots r n) (length (messages_of (slot_message r n) s)) p)
+        → FoundAt r n (get_or (at_end side (box_plan r n) tile) j 0) p
+    unfolding messages_to
+    found_at s l d h e k is c p q =
         let t = (x.each d h).there (rw e l) in
         let f : 0 < length (slot_parcel r n s) = rw e at t.1.1 in
         let z : end_at r n side s ≡ tile = rw e at t.1.0 in
         let b : count_below ends (ways r n) s ≡ j = rw is at c in
-        let it : get_or (at_end side (box_plan r n) tile) j 0 ≡ length (messages_to r n s) =
+        let it : get_or (at_end side (box_plan r n) tile) j 0 ≡ length (messages_of (slot_message r n) s) =
         ap (λ (k : ℕ). get_or (at_end side (box_plan r n) tile) k 0) (sym b ∙ below_is s (omega arith))
         ∙ those_at (end_of side (box_plan r n)) tile (count (box_plan r n)) (length (messages_to r n s)) (number_low r n (slots r n) s l f)
         (end_is r n side s l f ∙ z) in
-        rw it (found r n s m o w y l q (omega arith))
+        rw it (found r n _ p (q f))

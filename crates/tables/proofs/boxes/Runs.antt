@@ -183,9 +183,6 @@ module _ (r : Route) (x : Nest) (ok : Accepted x) (t : ℕ) (low : t < box_tiles
         each = λ i p. run_twin (t + i) (omega arith) (omega (arith, run_over));
       }
 
-pub run_none : (r : Route) (x : Nest) (t : ℕ) → t < box_tiles x → Twins r x t 0 0
-run_none r x t low = record { room = omega arith; far = λ h. absurd (omega arith); each = λ i h. absurd (omega arith) }
-
 pub run_end : (r : Route) (x : Nest) (d : ℕ) → d ≡ ways r x → (t k n : ℕ) → Twins r x t k n → (t + n) * d ≤ slots r x
 run_end r x d e t k n q = omega (arith, mul-le-mul_right d q.room, ap (λ (y : ℕ). box_tiles x * y) e)
 

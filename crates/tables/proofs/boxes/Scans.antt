@@ -1,27 +1,28 @@
 -- Laws of the scans: the table's filling, numbers and offsets of messages, messages at a tile's end.
 use Prim.Native.Nat.{ℕ, zero, suc, ◌+◌, ◌*◌, ◌≤◌, ◌<◌}
-use mathlib.Core.Path.{◌≡◌, refl, sym, ap, ◌∙◌, subst}
-use mathlib.Core.Logic.{◌⊎◌, inl, inr, ◌≢◌, ⊎_elim}
-use mathlib.Core.List.{List, [], ◌∷◌}
+use mathlib.Core.Path.{◌≡◌, sym, ap, ◌∙◌}
+use mathlib.Core.Logic.{◌⊎◌, inl, inr, ◌≢◌}
+use mathlib.Core.List.{List}
 use native.Mathlib.Nat.{eq-or-lt_of_le, mul-le-mul_right, suc-mul}
-use native.Mathlib.Numerals.{add-one}
 use native.Mathlib.Omega.{arith}
 use lib.ListN.{length, get_or, set, length-append, length-set}
 use lib.Seq.{get_or-set_same, get_or-set_other}
 use Rattle.base.specs.Tests.{those}
 use Rattle.base.proofs.Select.{those_more, those_none}
-use Rattle.machine.specs.Plan.{Message, offset, words, count}
+use Rattle.machine.specs.Plan.{Message}
 use Rattle.nest.specs.declared.Nest.{Nest}
 use Rattle.nest.specs.Accepted.{Accepted}
 use Rattle.nest.specs.Nest.{box_tiles}
 use Rattle.nest.proofs.Shapes.{no_bounds_tiles}
 use Rattle.plan.specs.declared.Route.{Route}
 use Rattle.plan.specs.Messages.{ways, slots, slot_parcel, slot_message, messages_to, box_plan}
-use Rattle.plan.proofs.Slots.{total, total_append, total_one, slot_parcel_few, step_none, step_one, at_number, number_low, offset_is, room_is}
+use Rattle.plan.proofs.Slots.{slot_parcel_few, step_none, step_one, at_number}
 use Rattle.layout.specs.declared.Sizes.{Sizes}
 use Rattle.layout.specs.Sizes.{Sized, end_at}
 use Rattle.layout.proofs.Steps.{ways_few}
-use Rattle.tables.specs.boxes.Table.{Table, Filling, Summing, FoundAt, end_of}
+use Rattle.tables.specs.declared.scans.MessageSlot.{MessageSlot}
+use Rattle.tables.specs.scans.Scans.{Sheet, Lengths, Found}
+use Rattle.tables.specs.boxes.Table.{Table, Filling, FoundAt, end_of}
 
 -- ---- the ends of a slot's message
 
@@ -82,17 +83,28 @@ fill_turn r n lens s v f l m e =
 pub filled : (r : Route) (n : Nest) (lens : List ℕ) (s : ℕ) → Filling r n lens s → slots r n ≤ s → Table r n lens
 filled r n lens s f h = record { plain = f.plain; long = f.long; each = λ i l. f.each i (omega (arith, f.low)) }
 
+module _ (r : Route) (n : Nest) (a : Accepted n) (lens : List ℕ) (t : Table r n lens) where
+  pub sheet : (k : ℕ) → k ≤ slots r n → Sheet lens k
+  sheet k h =
+      record {
+        long = t.long;
+        few = omega (arith, slots_few r n a t.plain);
+        short = λ s l. rw (t.each s (omega arith)) (parcel_few r n a s);
+      }
+
+  pub lengths : Lengths (slot_message r n) (slots r n) lens
+  lengths = record { each = t.each }
+
 -- ---- a slot of a tile
 
 module _ (r : Route) (n : Nest) (d : ℕ) (e : d ≡ ways r n) (w : ℕ) (l : w < d) where
   pub slot_under : (t : ℕ) → t < box_tiles n → t * d + w < slots r n
   slot_under t h = omega (arith, ap (λ (a : ℕ). box_tiles n * a) e, mul-le-mul_right d h, suc-mul t d)
 
--- a tile more
-pub tile_next : (t d v : ℕ) → v ≡ d → t * d + v ≡ (t + 1) * d
-tile_next t d v e = rw (add-one t, e) (sym (suc-mul t d))
+pub tile_room : (r : Route) (n : Nest) (d : ℕ) → d ≡ ways r n → (t : ℕ) → t < box_tiles n → t * d + d ≤ slots r n
+tile_room r n d e t h = omega (arith, ap (λ (a : ℕ). box_tiles n * a) e, mul-le-mul_right d h, suc-mul t d)
 
--- ---- numbers and offsets by a scan over the slots
+-- ---- numbers of messages, one slot more at a time
 
 pub number_none : (r : Route) (n : Nest) (s : ℕ) → length (slot_parcel r n s) ≡ 0 → length (messages_to r n (s + 1)) ≡ length (messages_to r n s)
 number_none r n s e = rw (step_none r n s e)
@@ -100,71 +112,19 @@ number_none r n s e = rw (step_none r n s e)
 pub number_more : (r : Route) (n : Nest) (s : ℕ) → 0 < length (slot_parcel r n s) → length (messages_to r n (s + 1)) ≡ suc (length (messages_to r n s))
 number_more r n s f = rw (step_one r n s f) (simp length-append (omega arith))
 
-pub total_next : (r : Route) (n : Nest) (s : ℕ) → total (messages_to r n (s + 1)) ≡ total (messages_to r n s) + length (slot_parcel r n s)
-total_next r n s = go (length (slot_parcel r n s)) refl
-  where
-    go : (k : ℕ) → length (slot_parcel r n s) ≡ k → total (messages_to r n (s + 1)) ≡ total (messages_to r n s) + length (slot_parcel r n s)
-    go zero e = ap total (step_none r n s e) ∙ omega arith
-    go (suc k) e =
-        ap total (step_one r n s (omega arith))
-        ∙ total_append (messages_to r n s) (slot_message r n s ∷ [])
-        ∙ ap (λ (x : ℕ). total (messages_to r n s) + x) (total_one (slot_message r n s))
-
-pub sum_start : (r : Route) (n : Nest) → Summing r n 0 0 0
-unfolding messages_to offset
-sum_start r n = record { low = omega arith; number = refl; few = omega arith; offset = refl; small = omega arith }
-
--- a slot that is a message, or none
-abbrev pub Counted : ℕ → ℕ → ℕ → Type 0
-Counted w m m' = ((w ≢ 0) × (m' ≡ m + 1)) ⊎ ((w ≡ 0) × (m' ≡ m))
-
-pub sum_turn : (r : Route) (n : Nest) (s m o w m' : ℕ) → Accepted n → Summing r n s m o → s < slots r n → w ≡ length (slot_parcel r n s) → Counted w m m'
-    → Summing r n (s + 1) m' (o + w)
-sum_turn r n s m o w m' a x l e (inl (h, q)) =
+-- what is found among the slots is found in the plan
+pub found : (r : Route) (n : Nest) (m : ℕ) (p : MessageSlot) → Found (slot_message r n) (slots r n) m p → FoundAt r n m p
+unfolding messages_to
+found r n m p f =
     record {
-      low = omega arith;
-      number = omega (arith, x.number, number_more r n s (omega arith));
-      few = omega (arith, x.few);
-      offset = omega (arith, x.offset, total_next r n s);
-      small = omega (arith, x.small, parcel_few r n a s);
-    }
-sum_turn r n s m o w m' a x l e (inr (h, q)) =
-    record {
-      low = omega arith;
-      number = omega (arith, x.number, number_none r n s (omega arith));
-      few = omega (arith, x.few);
-      offset = omega (arith, x.offset, total_next r n s);
-      small = omega (arith, x.small, parcel_few r n a s);
-    }
-
-pub sum_end : (r : Route) (n : Nest) (end s m o : ℕ) → Summing r n s m o → s ≤ end → end ≤ s → Summing r n end m o
-sum_end r n end s m o x h l = let e : s ≡ end = omega arith in rw e at x
-
-pub summed : (r : Route) (n : Nest) (s m o : ℕ) → Accepted n → n.bounds ≡ 0 → Summing r n s m o → slots r n ≤ s
-    → (m ≡ count (box_plan r n)) × ((o ≡ words (box_plan r n)) × ((m ≤ 7168) × (o ≤ 117440512)))
-summed r n s m o a p x h =
-    let e : s ≡ slots r n = omega (arith, x.low) in (
-      x.number ∙ ap (λ (k : ℕ). length (messages_to r n k)) e,
-      (
-        x.offset ∙ ap (λ (k : ℕ). total (messages_to r n k)) e,
-        (omega (arith, x.few, x.low, slots_few r n a p), omega (arith, x.small, x.low, slots_few r n a p)),
-      ),
-    )
-
--- the message of a slot is found there
-pub found : (r : Route) (n : Nest) (s m o w : ℕ) → Summing r n s m o → s < slots r n → w ≡ length (slot_parcel r n s) → 0 < w
-    → FoundAt r n (length (messages_to r n s)) (record { slot = s; number = m; offset = o; words = w })
-found r n s m o w x l e h =
-    let f : 0 < length (slot_parcel r n s) = omega arith in
-    record {
-      number = x.number;
-      low = number_low r n (slots r n) s l f;
-      offset = x.offset ∙ sym (offset_is r n (slots r n) s l f);
-      slot = l;
-      is = at_number r n (slots r n) s l f;
-      words = e;
-      full = h;
-      room = rw (x.offset, e) (room_is r n (slots r n) s l f);
+      number = f.number;
+      low = f.low;
+      offset = f.offset;
+      slot = f.slot;
+      is = f.is;
+      words = f.words;
+      full = f.full;
+      room = f.room;
     }
 
 -- ---- messages with a tile at one end
@@ -187,41 +147,3 @@ module _ (r : Route) (n : Nest) (side tile s : ℕ) where
     seen_miss e =
         ap (λ (k : ℕ). length (those (end_of side (box_plan r n)) tile k)) (number_more r n s f)
         ∙ ap length (those_none (end_of side (box_plan r n)) tile (length (messages_to r n s)) (λ q. e (sym (end_is r n side s l f) ∙ q)))
-
-pub next_low : (c j c' : ℕ) → c ≤ j → c ≢ j → c' ≡ c + 1 → c' ≤ j
-next_low c j c' h ne e = ⊎_elim (λ q. absurd (ne q)) (λ q. omega arith) (eq-or-lt_of_le h)
-
--- ---- message m
-
-pub record Seeking (r : Route) (n : Nest) (m s k o : ℕ) : Type 0 where
-  pub before : k ≤ m
-  pub sums : Summing r n s k o
-
-pub seek_turn : (r : Route) (n : Nest) (m s k o w k' : ℕ) → Accepted n → Seeking r n m s k o → s < slots r n → w ≡ length (slot_parcel r n s)
-    → ((w ≢ 0) × (k ≢ m) × (k' ≡ k + 1)) ⊎ ((w ≡ 0) × (k' ≡ k)) → Seeking r n m (s + 1) k' (o + w)
-seek_turn r n m s k o w k' a x l e (inl (h, ne, q)) =
-    record { before = next_low k m k' x.before ne q; sums = sum_turn r n s k o w k' a x.sums l e (inl (h, q)) }
-seek_turn r n m s k o w k' a x l e (inr (h, q)) =
-    record { before = omega (arith, x.before); sums = sum_turn r n s k o w k' a x.sums l e (inr (h, q)) }
-
-pub seek_found : (r : Route) (n : Nest) (m s k o w : ℕ) → Seeking r n m s k o → s < slots r n → w ≡ length (slot_parcel r n s) → 0 < w → k ≡ m
-    → FoundAt r n m (record { slot = s; number = m; offset = o; words = w })
-seek_found r n m s k o w x l e h q =
-    let z : m ≡ length (messages_to r n s) = sym q ∙ x.sums.number in
-    let y : Summing r n s m o = record {
-      low = x.sums.low;
-      number = z;
-      few = omega (arith, x.sums.few);
-      offset = x.sums.offset;
-      small = x.sums.small;
-    } in
-    subst (λ (i : ℕ). FoundAt r n i (record { slot = s; number = m; offset = o; words = w })) (sym z) (found r n s m o w y l e h)
-
-pub seek_nowhere : (r : Route) (n : Nest) (m s k o : ℕ) → Seeking r n m s k o → slots r n ≤ s → m < count (box_plan r n) → ⊥
-seek_nowhere r n m s k o x h q =
-    let z : s ≡ slots r n = omega (arith, x.sums.low) in
-    let w : k ≡ count (box_plan r n) = x.sums.number ∙ ap (λ (i : ℕ). length (messages_to r n i)) z in
-    omega (arith, x.before)
-
-pub positive : (w : ℕ) → w ≢ 0 → 0 < w
-positive w h = omega arith

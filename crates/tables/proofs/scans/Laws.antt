@@ -2,7 +2,7 @@
 use Prim.Native.Nat.{ℕ, zero, suc, ◌+◌, ◌≤◌, ◌<◌}
 use mathlib.Core.Path.{◌≡◌, refl, sym, ap, ◌∙◌}
 use mathlib.Core.Logic.{◌⊎◌, inl, inr, ◌≢◌, ⊎_elim}
-use mathlib.Core.List.{[], ◌∷◌}
+use mathlib.Core.List.{List, [], ◌∷◌}
 use native.Mathlib.Nat.{eq-or-lt_of_le}
 use native.Mathlib.Omega.{arith}
 use lib.ListN.{length, get_or, length-append}
@@ -11,7 +11,10 @@ use Rattle.base.proofs.Select.{those_more, those_none}
 use Rattle.machine.specs.Plan.{Message, offset, no_message}
 use Rattle.plan.specs.Messages.{messages_of}
 use Rattle.plan.proofs.Listed.{total, total_append, total_one, step_none, step_one, at_number, number_low, offset_is, room_is}
-use Rattle.tables.specs.scans.Scans.{Summing, Found}
+use Rattle.std.specs.Prelude.{Option, Some, None, IsSome, IsSomeAnd}
+use Rattle.std.proofs.Common.{rules}
+use Rattle.tables.specs.declared.scans.MessageSlot.{MessageSlot}
+use Rattle.tables.specs.scans.Scans.{Lengths, Summing, Found}
 
 module _ (f : ℕ → Message) where
   number_none : (s : ℕ) → length (f s).cells ≡ 0 → length (messages_of f (s + 1)) ≡ length (messages_of f s)
@@ -40,9 +43,6 @@ module _ (f : ℕ → Message) where
   sum_turn s m o w m' x e (inr (h, q)) =
       record { number = omega (arith, x.number, number_none s (omega arith)); offset = omega (arith, x.offset, total_next s) }
 
-  pub sum_end : (s end m o : ℕ) → s ≤ end → end ≤ s → Summing f s m o → Summing f end m o
-  sum_end s end m o h k x = let e : s ≡ end = omega arith in rw e at x
-
   -- the message of a slot is found there
   pub found : (n s m o w : ℕ) → Summing f s m o → s < n → w ≡ length (f s).cells → 0 < w → Found f n m (record { slot = s; number = m; offset = o; words = w })
   found n s m o w x l e h =
@@ -57,6 +57,13 @@ module _ (f : ℕ → Message) where
         full = h;
         room = rw (x.offset, e) (room_is f n s l full);
       })
+
+  pub found_here : (n s m o w : ℕ) → Summing f s m o → s < n → w ≡ length (f s).cells → 0 < length (f s).cells
+      → Found f n (length (messages_of f s)) (record { slot = s; number = m; offset = o; words = w })
+  found_here n s m o w x l e h = let is = x.number in rw (← is) (found n s m o w x l e (omega arith))
+
+  pub shorter : (n s : ℕ) (lens : List ℕ) → s < n → Lengths f n lens → Lengths f s lens
+  shorter n s lens l h = record { each = λ i k. h.each i (omega arith) }
 
   -- ---- message m
 
@@ -94,3 +101,13 @@ not_yet k m k' h ne e = ⊎_elim (λ q. absurd (ne q)) (λ q. omega arith) (eq-o
 
 pub positive : (w : ℕ) → w ≢ 0 → 0 < w
 positive w h = omega arith
+
+-- ---- what may not be there
+
+pub is_some : (o : Option MessageSlot) (P : MessageSlot → Type 0) → IsSomeAnd o P → IsSome o
+is_some None P h = absurd h
+is_some (Some x) P h = search rules
+
+pub value_of : (o : Option MessageSlot) (x : MessageSlot) (P : MessageSlot → Type 0) → o ≡ Some x → IsSomeAnd o P → P x
+value_of None x P e h = absurd h
+value_of (Some y) x P e h = let q : y ≡ x = cc in rw q at h

@@ -1,6 +1,6 @@
 -- Laws of the table of a nest with bounds: the lengths of parcels, processors' tiles, ends of messages.
 use Prim.Native.Nat.{ℕ, zero, suc, ◌+◌, ◌*◌, ◌-◌, ◌/◌, ◌%◌, ◌≤◌, ◌<◌}
-use mathlib.Core.Path.{◌≡◌, refl, sym, ap, ◌∙◌, subst}
+use mathlib.Core.Path.{◌≡◌, refl, sym, ap, subst, ◌∙◌}
 use mathlib.Core.Logic.{◌⊎◌, inl, inr, ◌≢◌}
 use mathlib.Core.Bool.{Bool, true, false}
 use mathlib.Core.List.{List, []}
@@ -9,15 +9,18 @@ use native.Mathlib.Nat.{div-lt_iff_lt-mul}
 use native.Mathlib.Numerals.{add-one}
 use native.Mathlib.Decide.{dec_lt}
 use native.Mathlib.Omega.{arith}
-use lib.ListN.{length, get_or, set, length-set}
-use lib.Seq.{get_or-set_same}
+use lib.ListN.{length, get_or, set, drop, length-set}
+use lib.Seq.{get_or-set_same, get_or-drop, paste, paste-suc}
+use Rattle.std.proofs.lemmas.List.{length-drop}
+use Rattle.std.proofs.lemmas.List.Edits.{paste_none}
+use Rattle.std.specs.List.{copy_within}
 use lib.Dec.{eqb, ltb, leb}
 use borrow.Author.Tests.{eq-eqb, ne_eqb, lt-ltb, le-ltb, leb-true}
 use Rattle.base.specs.Tests.{◌and◌, pick, some, keep, those}
 use Rattle.base.specs.Lists.{In}
 use Rattle.base.proofs.Tests.{pick_true, pick_false, never_both, some_at, some_same}
 use Rattle.base.proofs.Select.{keep_few, those_more, those_none, those_few, those_at}
-use Rattle.machine.specs.Plan.{count, words, tiles_of, no_message}
+use Rattle.machine.specs.Plan.{tiles_of, no_message}
 use Rattle.nest.specs.declared.Nest.{Nest}
 use Rattle.nest.specs.Accepted.{Accepted}
 use Rattle.nest.specs.Nest.{tile_count, component, cells, box_tiles}
@@ -45,8 +48,9 @@ use Rattle.layout.specs.Places.{Has}
 use Rattle.layout.proofs.Steps.{ways_few, ways_pos, step_few}
 use Rattle.layout.proofs.Cells.{count_most}
 use Rattle.parcels.proofs.Sendings.{hop, alone_no, alone_yes}
-use Rattle.tables.specs.scans.Scans.{Sheet, Lengths, Summing, Found}
-use Rattle.tables.proofs.scans.Laws.{seen, seen_start, seen_none, seen_hit, seen_miss, found}
+use Rattle.tables.specs.declared.scans.MessageSlot.{MessageSlot}
+use Rattle.tables.specs.scans.Scans.{Sheet, Lengths, Found}
+use Rattle.tables.proofs.scans.Laws.{seen, seen_start, seen_none, seen_hit, seen_miss}
 use Rattle.tables.specs.shaped_table.Table.{Owned, Like, Filling, ShapedTable, Steps, end_of, Ranged, at_end}
 use Rattle.tables.proofs.shaped_table.Existing.{other}
 pub use Rattle.tables.proofs.shaped_table.Existing.{marks_all, zeros_long, Listing, listing_none, listing_room, listing_turn, listing_end}
@@ -207,19 +211,54 @@ module _ (x : Nest) (ok : Accepted x) where
 
   -- ---- the lengths of a tile like an earlier one
 
-  pub copied : (lens : List ℕ) (t p n w v : ℕ) → n ≡ directions x → Filling x lens (t * directions x + w) → Like x t p → w < n
-      → v ≡ get_or lens (p * n + w) 0 → v ≡ length (shaped_slot_parcel x (t * directions x + w))
-  copied lens t p n w v e f g l is =
-      is ∙ rw e (f.each (p * directions x + w) (omega (arith, mul-le-mul_right (directions x) g.later, suc-mul p (directions x)))
-      ∙ sym (g.same w (omega arith)))
+  module _ (lens : List ℕ) (t p n : ℕ) (e : n ≡ directions x) (h : t < tiles x) (g : Like x t p) (f : Filling x lens (t * directions x)) where
+    here : t * n ≡ t * directions x
+    here = ap (λ (i : ℕ). t * i) e
 
-  pub like_place : (t p n w : ℕ) → n ≡ directions x → Like x t p → t < tiles x → w < n → (p * n ≤ 7168) × (p * n + w < 7168)
-  like_place t p n w e g h l = slot_place' p (omega (arith, g.later))
-    where
-      slot_place' : (a : ℕ) → a < tiles x → (a * n ≤ 7168) × (a * n + w < 7168)
-      slot_place' a k =
-          let q : a * n ≡ a * directions x = ap (λ (i : ℕ). a * i) e in
-          (omega (arith, tile_slot a w k (omega arith), slots_few), omega (arith, tile_slot a w k (omega arith), slots_few))
+    back : p * n ≡ p * directions x
+    back = ap (λ (i : ℕ). p * i) e
+
+    pub tile_rooms : (t * n + n ≤ 7168) × (p * n + n ≤ 7168)
+    tile_rooms =
+        let a : t * directions x + directions x ≤ shaped_slots x = omega (arith, mul-le-mul_right (directions x) h, suc-mul t (directions x)) in
+        let b : p * directions x ≤ t * directions x = mul-le-mul_right (directions x) (omega (arith, g.later)) in
+        (omega (arith, slots_few, here), omega (arith, slots_few, back))
+
+    copied : (k : ℕ) → k ≤ n → Filling x (paste lens (t * n) (drop (p * n) lens) k) (t * directions x + k)
+    copied zero l =
+        rw (add-zero (t * directions x))
+        (subst (λ (z : List ℕ). Filling x z (t * directions x)) (paste_none lens (t * n) (drop (p * n) lens)) f)
+    copied (suc k) l =
+        let next : t * directions x + k + 1 ≡ t * directions x + suc k = omega arith in
+        subst (λ (i : ℕ). Filling x (paste lens (t * n) (drop (p * n) lens) (suc k)) i) next
+        (subst (λ (z : List ℕ). Filling x z (t * directions x + k + 1)) (sym more)
+        (filling_more before (t * directions x + k) value (copied k (omega arith)) (tile_slot t k h (omega arith)) is))
+      where
+        before : List ℕ
+        before = paste lens (t * n) (drop (p * n) lens) k
+
+        value : ℕ
+        value = get_or (drop (p * n) lens) k 0
+
+        is : value ≡ length (shaped_slot_parcel x (t * directions x + k))
+        is =
+            get_or-drop (p * n) lens k 0
+            ∙ (ap (λ (i : ℕ). get_or lens (i + k) 0) back
+            ∙ (f.each (p * directions x + k) (omega (arith, mul-le-mul_right (directions x) g.later, suc-mul p (directions x)))
+            ∙ sym (g.same k (omega arith))))
+
+        more : paste lens (t * n) (drop (p * n) lens) (suc k) ≡ set before (t * directions x + k) value
+        more =
+            sym (paste-suc lens (t * n) (drop (p * n) lens) k 0 (omega (arith, tile_rooms, f.owned.tiled.numbers.long))
+            (omega (arith, tile_rooms, f.owned.tiled.numbers.long, length-drop (p * n) lens)))
+            ∙ ap (λ (i : ℕ). set before (i + k) value) here
+
+    pub tile_copied : Filling x (copy_within lens (p * n) (p * n + n) (t * n)) ((t + 1) * directions x)
+    tile_copied =
+        let long : n ≡ p * n + n - p * n = omega arith in
+        let next : t * directions x + n ≡ (t + 1) * directions x = rw (add-one t) (omega (arith, suc-mul t (directions x))) in
+        subst (λ (k : ℕ). Filling x (paste lens (t * n) (drop (p * n) lens) k) ((t + 1) * directions x)) long
+        (subst (λ (i : ℕ). Filling x (paste lens (t * n) (drop (p * n) lens) n) i) next (copied n (omega arith)))
 
   -- ---- scans
 
@@ -311,10 +350,6 @@ module _ (x : Nest) (ok : Accepted x) where
     where
       next : (t d v : ℕ) → v ≡ d → t * d + v ≡ (t + 1) * d
       next t d v e = rw (add-one t, e) (sym (suc-mul t d))
-
-  pub totals_are : (n m w : ℕ) → n ≡ shaped_slots x → Summing (shaped_message x) n m w
-      → (m ≡ count (plan_of Direct x)) × (w ≡ words (plan_of Direct x))
-  totals_are n m w e f = let g : Summing (shaped_message x) (shaped_slots x) m w = rw e at f in (g.number, g.offset)
 
   pub steps_are : (r : Route) (l : List ℕ) → r ≡ Direct → Stepped r x 1 l → Steps x l
   unfolding end_at slot_taker
@@ -479,14 +514,12 @@ module _ (x : Nest) (ok : Accepted x) where
       ranged_nowhere s n j h k e l q = seen_nowhere (shaped_slots x) n j (omega arith) (omega arith) (range_end s n h k e) l q
 
     -- the j-th of them is the message of slot s
-    pub seen_found : (s n j m o w : ℕ) → s < shaped_slots x → n ≡ seen_to s → n ≡ j → 0 < length (shaped_slot_parcel x s) → end_of side (shaped_message x s) ≡ t
-        → Summing (shaped_message x) s m o → w ≡ length (shaped_slot_parcel x s)
-        → Found (shaped_message x) (shaped_slots x) (get_or (at_end side (plan_of Direct x) t) j 0) (record { slot = s; number = m; offset = o; words = w })
-    seen_found s n j m o w l e q full here sums is =
-        subst (λ (i : ℕ). Found (shaped_message x) (shaped_slots x) i (record { slot = s; number = m; offset = o; words = w })) (sym place)
-        (found (shaped_message x) (shaped_slots x) s m o w sums l is (omega arith))
+    pub seen_found : (s n j : ℕ) → s < shaped_slots x → n ≡ seen_to s → n ≡ j → 0 < length (shaped_slot_parcel x s) → end_of side (shaped_message x s) ≡ t
+        → (p : MessageSlot) → Found (shaped_message x) (shaped_slots x) (length (messages_of (shaped_message x) s)) p
+        → Found (shaped_message x) (shaped_slots x) (get_or (at_end side (plan_of Direct x) t) j 0) p
+    seen_found s n j l e q full here p f = rw place f
       where
-        place : get_or (at_end side (plan_of Direct x) t) j 0 ≡ m
+        place : get_or (at_end side (plan_of Direct x) t) j 0 ≡ length (messages_of (shaped_message x) s)
         place =
             ap (λ (z : List ℕ). get_or z j 0) (sym (at_end_is side t))
             ∙ ap (λ (k : ℕ). get_or (those (λ i. end_of side (get_or (messages_of (shaped_message x) (shaped_slots x)) i no_message)) t
@@ -495,7 +528,6 @@ module _ (x : Nest) (ok : Accepted x) where
             (length (messages_of (shaped_message x) (shaped_slots x)))
             (length (messages_of (shaped_message x) s)) (listed.number_low (shaped_message x) (shaped_slots x) s l full)
             (ap (end_of side) (listed.at_number (shaped_message x) (shaped_slots x) s l full) ∙ here)
-            ∙ sym sums.number
 
   -- the range of a tile's messages
 

@@ -37,7 +37,9 @@ use Rattle.parcels.specs.shaped.Runs.{in_place}
 use Rattle.parcels.proofs.shaped.Runs.{shape_cell, shape_at}
 use Rattle.tables.specs.shaped_table.Table.{Like}
 use Rattle.tables.specs.shaped_table.Lines.{PlacesIn, Lined}
-use Rattle.tables.specs.shaped_table.Moves.{Short, cells_in, KeptBy, Kept, Moves, Behind, MovedIn}
+use Rattle.std.specs.Prelude.{Option, Some, None, IfSome}
+use Rattle.tables.specs.declared.shaped_table.rows.Move.{Move}
+use Rattle.tables.specs.shaped_table.Moves.{Short, cells_in, Kept, Moves, Behind, MovedIn}
 use Rattle.tables.proofs.shaped_table.Laws.{slot_length}
 use Rattle.tables.proofs.shaped_table.Lines.{inner, whole_low, at_last, at_before}
 
@@ -328,16 +330,6 @@ module _ (x : Nest) (ok : Accepted x) where
   steps_few : (steps : List ℕ) → Short steps → (j : ℕ) → cells_in x steps j ≤ 1024
   steps_few steps f j = omega (arith, mul-le-mul_right (tile_length x j) (f j), ok.tile_most j)
 
-  pub kept_more : (steps : List ℕ) (k : ℕ) → ((i : ℕ) → i < k → KeptBy x steps i) → KeptBy x steps k → (i : ℕ) → i < k + 1 → KeptBy x steps i
-  kept_more steps k f h i l = go (eq-or-lt_of_le (below i l))
-    where
-      below : (i : ℕ) → i < k + 1 → i ≤ k
-      below i l = omega arith
-
-      go : (i ≡ k) ⊎ (i < k) → KeptBy x steps i
-      go (inl q) = rw q h
-      go (inr q) = f i q
-
   -- the dimensions of a bound, and its numbers
   pub bound_in : (k : ℕ) → k < x.bounds → (bounded x k < 4) × (earlier x k < 4)
   bound_in k h = (omega (arith, ok.bounded_low k h, ok.dimensions_most), omega (arith, ok.bounded_low k h, ok.earlier_low k h, ok.dimensions_most))
@@ -366,12 +358,13 @@ module _ (x : Nest) (ok : Accepted x) where
         record {
           few = omega (arith, rank_few across steps x.dimensions steps_ranked);
           short = short;
-          kept = λ p. k;
-          is = λ p. e ∙ tile_rank x ok across (record { each = has }) steps (nth steps) (record { each = λ j h. refl });
+          kept = k;
+          is = e ∙ tile_rank x ok across (record { each = has }) steps (nth steps) (record { each = λ j h. refl });
         }
 
-  pub moves_none : (steps : List ℕ) → Short steps → Moves x steps 0
-  moves_none steps f = record { few = omega arith; short = f; kept = λ p. absurd (omega arith); is = λ p. absurd (omega arith) }
+  pub moves_of : (o : Option Move) (by : Move) → o ≡ Some by → IfSome o (λ m. Moves x m.steps m.far) → Moves x by.steps by.far
+  moves_of None by e h = absurd cc
+  moves_of (Some m) by e h = let q : m ≡ by = cc in rw q at h
 
   -- ---- places along the last dimension
 
@@ -422,7 +415,7 @@ module _ (x : Nest) (ok : Accepted x) where
         omega (arith, f j h, q)
 
   -- the row of tile u: its tiles at the places found
-  module _ (u : ℕ) (at steps : List ℕ) (here : Has at (tile_place x u) x.dimensions) (far : ℕ) (moves : Moves x steps far) (pos : 0 < far)
+  module _ (u : ℕ) (at steps : List ℕ) (here : Has at (tile_place x u) x.dimensions) (far : ℕ) (moves : Moves x steps far)
       (r : Interval) (found : MovedIn x at steps r) (first : ℕ) (begins : first ≡ u - get_or at (last x) 0) where
     module _ (t p : ℕ) (later : p < t) (h : t < tiles x) (from : first + r.from ≤ box_tile x t) (to : box_tile x t < first + r.to)
         (so_far : box_tile x p + far ≡ box_tile x t) where
@@ -451,10 +444,10 @@ module _ (x : Nest) (ok : Accepted x) where
             later = later;
             same = λ i l.
                 slot_length x ok t i (box_tile x t) h l refl
-                ∙ ap (pick (eqb (hops x (i + 1)) 0) 0) (moved_parcel x ok (nth steps) (moves.kept pos) (box_tile x t) (box_tile x p)
+                ∙ ap (pick (eqb (hops x (i + 1)) 0) 0) (moved_parcel x ok (nth steps) moves.kept (box_tile x t) (box_tile x p)
                 (box_tile_low x t h) (box_tile_low x p (omega arith))
                 (place_back (box_tile x t) (box_tile x p) (nth steps) (box_tile_low x t h) (λ j k. (behind j k).0)
-                (ap (λ (b : ℕ). box_tile x p + b) (sym (moves.is pos)) ∙ so_far))
+                (ap (λ (b : ℕ). box_tile x p + b) (sym moves.is) ∙ so_far))
                 (λ j k. (behind j k).1) (i + 1))
                 ∙ sym (slot_length x ok p i (box_tile x p) (omega arith) l refl);
           }

@@ -1,14 +1,14 @@
 -- For contracts below the calls: no reader needs it.
 -- The table of message lengths by slot of a nest without bounds, and where a message is found by it.
 -- No sentence of document 01.
-use Rattle.std.specs.Prelude.{ℕ, suc, zero, ◌+◌, ◌-◌, ◌*◌, ◌%◌, ◌≤◌, ◌<◌, ◌≡◌, Bool, List, length, get_or, ltb}
-use Rattle.base.specs.Tests.{one, sum, those}
+use Rattle.std.specs.Prelude.{ℕ, suc, zero, ◌+◌, ◌-◌, ◌*◌, ◌%◌, ◌≤◌, ◌<◌, ◌≡◌, Bool, List, length, get_or}
+use Rattle.base.specs.Tests.{one, those}
 use Rattle.machine.specs.Plan as machine
 use Rattle.machine.specs.Plan.{Plan, count, message, sender_of, taker_of}
 use Rattle.nest.specs.declared.Nest.{Nest}
 use Rattle.nest.specs.Nest.{box_tiles}
 use Rattle.plan.specs.declared.Route.{Route}
-use Rattle.plan.specs.Messages.{ways, slots, slot_parcel, slot_message, messages_to, messages, box_plan}
+use Rattle.plan.specs.Messages.{ways, slots, slot_parcel, slot_message, messages, box_plan}
 use Rattle.layout.specs.Sizes.{end_at}
 use Rattle.parcels.specs.Twins.{Twin}
 use Rattle.tables.specs.declared.scans.MessageSlot.{MessageSlot}
@@ -37,14 +37,6 @@ pub record Twins (r : Route) (x : Nest) (t k n : ℕ) : Type 0 where
   pub far : 0 < n → (1 ≤ k) × (k ≤ t)
   pub each : (i : ℕ) → i < n → Twin r x (t + i) (t + i - k)
 
--- the slots before s have m messages, and those o words
-pub record Summing (r : Route) (x : Nest) (s m o : ℕ) : Type 0 where
-  pub low : s ≤ slots r x
-  pub number : m ≡ length (messages_to r x s)
-  pub few : m ≤ s
-  pub offset : o ≡ machine.offset (messages_to r x s) (length (messages_to r x s))
-  pub small : o ≤ 16384 * s
-
 -- the tile at an end of a message: 0 the sender, else the taker
 abbrev pub end_of : ℕ → Plan → ℕ → ℕ
 end_of zero p m = sender_of p m
@@ -62,10 +54,6 @@ pub record Only (r : Route) (x : Nest) (side t w q : ℕ) : Type 0 where
 -- `ends` has that slot for each way
 pub record Ends (r : Route) (x : Nest) (side t : ℕ) (ends : List ℕ) : Type 0 where
   pub each : (w : ℕ) → w < ways r x → Only r x side t w (get_or ends w 0)
-
--- how many of the first n numbers of a list are below k
-unfoldable pub count_below : List ℕ → ℕ → ℕ → ℕ
-count_below l n k = sum (λ d. one (ltb (get_or l d 0) k)) n
 
 -- message m is found at p
 pub record FoundAt (r : Route) (x : Nest) (m : ℕ) (p : MessageSlot) : Type 0 where

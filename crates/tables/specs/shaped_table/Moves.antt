@@ -23,12 +23,12 @@ KeptBy x steps k = slope x k * cells_in x steps (earlier x k) ≡ cells_in x ste
 abbrev pub Kept : Nest → List ℕ → Type 0
 Kept x steps = (k : ℕ) → k < x.bounds → KeptBy x steps k
 
--- a move that every bound moves along with, so far in the box's numbers; 0 far is none
+-- a move that every bound moves along with, so far in the box's numbers
 pub record Moves (x : Nest) (steps : List ℕ) (far : ℕ) : Type 0 where
   pub few : far ≤ 65536
   pub short : Short steps
-  pub kept : 0 < far → Kept x steps
-  pub is : 0 < far → far ≡ tile_at x (λ j. get_or steps j 0)
+  pub kept : Kept x steps
+  pub is : far ≡ tile_at x (λ j. get_or steps j 0)
 
 -- a tile that stands at place a of a dimension has one s before it and, where s is not 0, one of full length after it
 abbrev pub Behind : ℕ → ℕ → ℕ → ℕ → Type 0

@@ -1,21 +1,20 @@
 // Rows of the box's tiles along the last dimension: which tiles are like an earlier one, the tile before them in the row where all that is
 // near lies in the shape, or the tile a move of tiles before them where every bound moves along with that move.
-ghost use Rattle.std.specs.Prelude.{◌≡◌, ◌≢◌, true, ℕ, ◌+◌, ◌-◌, ◌≤◌, ◌<◌, get_or};
+ghost use Rattle.std.specs.Prelude.{◌≡◌, ◌≢◌, true, ℕ, ◌+◌, ◌-◌, ◌*◌, ◌≤◌, ◌<◌, get_or, IfSome};
 ghost use Rattle.nest.specs.Accepted.{Accepted};
-ghost use Rattle.nest.specs.Nest.{side, box_tiles};
+ghost use Rattle.nest.specs.Nest.{side, slope, earlier, bound_offset, box_tiles};
 ghost use Rattle.nest.specs.Places.{tile_place};
 ghost use Rattle.nest.specs.Spans.{last};
-ghost use Rattle.layout.specs.Sizes.{Sized};
 ghost use Rattle.layout.specs.Places.{Has};
 ghost use Rattle.parcels.specs.shaped.Parcels.{Farthest};
 ghost use Rattle.tables.specs.shaped_table.Lines.{Area, Few, Cut, Inner, PlacesIn, Lined};
 ghost use Rattle.tables.specs.shaped_table.Moves.{Short, KeptBy, Kept, Moves, Behind, MovedIn};
 
-use layout::Sizes;
+use layout::Layout;
 use nest::{Interval, Nest};
 use parcels::Window;
 
-// A move of tiles: so many in each dimension, and so far in the box's numbers; none is 0 far.
+// A move of tiles: so many in each dimension, and so far in the box's numbers.
 #[derive(Clone, Copy)]
 pub struct Move {
     pub steps: [usize; 4],
@@ -29,6 +28,13 @@ pub struct TileRow {
     pub to: usize,
     pub far: usize,
     pub end: usize,
+}
+
+// A component of the earlier dimension of a bound, and what the bound gives there.
+#[derive(Clone, Copy)]
+struct Edge {
+    at: usize,
+    level: usize,
 }
 
 // ---- rows of tiles that lie wholly inside
@@ -47,10 +53,7 @@ fn area_of(nest: Nest, most: [usize; 4], at: [usize; 4]) -> Window
         low[j] = first;
         high[j] = first + (tiling[j] - 1) + most[j];
     }
-    Window {
-        low: low,
-        high: high,
-    }
+    Window { low, high }
 }
 
 // Of two components of the earlier dimension, at which one a bound leaves less: where its slope is not negative, the second.
@@ -63,6 +66,21 @@ fn worst(slope: usize, a: usize, b: usize) -> usize
     b
 }
 
+// Of two corners of an area the component of the earlier dimension at which bound k leaves less, and what the bound gives there.
+fn edge_of(nest: Nest, k: usize, flat: [usize; 4], steep: [usize; 4]) -> Edge
+    requires bound { Accepted nest × (k < nest.bounds) }
+    requires small { Few nest (record { low = flat; high = steep }) }
+    ensures worst { (slope nest k ≡ 0 → result.at ≡ get_or flat (earlier nest k) 0) × (0 < slope nest k → result.at ≡ get_or steep (earlier nest k) 0) }
+    ensures level { result.level ≡ slope nest k * result.at + bound_offset nest k }
+{
+    let e = nest.earlier[k] as usize;
+    let slope = nest.slopes[k] as usize;
+    let offset = nest.offsets[k] as usize;
+    let at = worst(slope, flat[e], steep[e]);
+    let level = slope * at + offset;
+    Edge { at, level }
+}
+
 // What lower bound k leaves of an interval of the last dimension, all over an area in the dimensions before it.
 fn lower_cut(nest: Nest, area: Window, left: Interval, k: usize) -> Interval
     requires { Accepted nest × ((k < nest.bounds) × ((side nest k ≡ 0) × (Few nest area × ((left.from ≤ 8388608) × (left.to ≤ 1024))))) }
@@ -71,11 +89,7 @@ fn lower_cut(nest: Nest, area: Window, left: Interval, k: usize) -> Interval
     let low = area.low;
     let high = area.high;
     let j = nest.bounded[k] as usize;
-    let e = nest.earlier[k] as usize;
-    let slope = nest.slopes[k] as usize;
-    let offset = nest.offsets[k] as usize;
-    let at = worst(slope, low[e], high[e]);
-    let level = slope * at + offset;
+    let Edge { at, level } = edge_of(nest, k, low, high);
     if j + 1 < nest.dimensions {
         if level <= low[j] + at + 32768 {
             return left;
@@ -99,11 +113,7 @@ fn upper_cut(nest: Nest, area: Window, left: Interval, k: usize) -> Interval
     let low = area.low;
     let high = area.high;
     let j = nest.bounded[k] as usize;
-    let e = nest.earlier[k] as usize;
-    let slope = nest.slopes[k] as usize;
-    let offset = nest.offsets[k] as usize;
-    let at = worst(slope, high[e], low[e]);
-    let level = slope * at + offset;
+    let Edge { at, level } = edge_of(nest, k, high, low);
     if j + 1 < nest.dimensions {
         if high[j] + at + 32768 <= level {
             return left;
@@ -115,7 +125,7 @@ fn upper_cut(nest: Nest, area: Window, left: Interval, k: usize) -> Interval
     }
     Interval {
         from: left.from,
-        to: base::least(left.to, level + 1 - at - 32768),
+        to: left.to.min(level + 1 - at - 32768),
     }
 }
 
@@ -162,47 +172,40 @@ fn places_in(inner: Interval, tiling: usize, length: usize, most: usize) -> Inte
     }
     Interval {
         from: (inner.from + tiling - 1) / tiling + 1,
-        to: base::least(whole - 1, (inner.to - most) / tiling),
+        to: (whole - 1).min((inner.to - most) / tiling),
     }
 }
 
 // A row of tiles, by the tile at a place of it: the places along the last dimension of those that are like the tile so far before them.
-fn line_by(
-    nest: Nest,
-    sizes: Sizes,
-    tile: usize,
-    at: [usize; 4],
-    places: Interval,
-    far: usize,
-) -> TileRow
-    requires sized { Sized nest sizes × ((tile < box_tiles nest) × Has at (tile_place nest tile) nest.dimensions) }
+fn line_by(layout: &Layout, tile: usize, at: [usize; 4], places: Interval, far: usize) -> TileRow
+    requires sized { (tile < box_tiles layout.now.nest) × Has at (tile_place layout.now.nest tile) layout.now.nest.dimensions }
     requires from_bound { (places.from ≤ 8400000) × (places.to ≤ 1024) }
-    ensures { (result.far ≡ far) × ((result.from ≡ tile - get_or at (last nest) 0 + places.from)
-        × (result.to ≡ tile - get_or at (last nest) 0 + places.to)) }
+    ensures { (result.far ≡ far) × ((result.from ≡ tile - get_or at (last layout.now.nest) 0 + places.from)
+        × (result.to ≡ tile - get_or at (last layout.now.nest) 0 + places.to)) }
 {
-    let last = nest.dimensions - 1;
-    let across = sizes.across;
+    let last = layout.nest.dimensions - 1;
+    let across = layout.sizes.across;
     let first = tile - at[last];
     TileRow {
         from: first + places.from,
         to: first + places.to,
-        far: far,
+        far,
         end: first + across[last],
     }
 }
 
 // The row of a tile: those of its tiles that lie, with all that is near, wholly inside the shape, as the tile before them does.
-fn stretch_of(nest: Nest, sizes: Sizes, most: [usize; 4], tile: usize, at: [usize; 4]) -> TileRow
-    requires { Sized nest sizes × ((tile < box_tiles nest) × (Farthest nest most × Has at (tile_place nest tile) nest.dimensions)) }
-    ensures { Lined nest result.far result.from result.to }
+fn stretch_of(layout: &Layout, most: [usize; 4], tile: usize, at: [usize; 4]) -> TileRow
+    requires { (tile < box_tiles layout.now.nest) × (Farthest layout.now.nest most × Has at (tile_place layout.now.nest tile) layout.now.nest.dimensions) }
+    ensures { Lined layout.now.nest result.far result.from result.to }
 {
-    let area = area_of(nest, most, at);
-    let inner = inner_of(nest, area);
-    let last = nest.dimensions - 1;
-    let tiling = nest.tiling;
-    let lengths = nest.lengths;
+    let area = area_of(layout.nest, most, at);
+    let inner = inner_of(layout.nest, area);
+    let last = layout.nest.dimensions - 1;
+    let tiling = layout.nest.tiling;
+    let lengths = layout.nest.lengths;
     let places = places_in(inner, tiling[last], lengths[last], most[last]);
-    line_by(nest, sizes, tile, at, places, 1)
+    line_by(layout, tile, at, places, 1)
 }
 
 // ---- rows that are like a row before them
@@ -225,13 +228,7 @@ fn keeps(nest: Nest, steps: [usize; 4]) -> bool
     requires { Accepted nest × Short steps }
     ensures { result ≡ true → Kept nest steps }
 {
-    let n = nest.bounds;
-    for k in 0..n {
-        if !goes_along(nest, steps, k) {
-            return false;
-        }
-    }
-    true
+    (0..nest.bounds).all(|k| goes_along(nest, steps, k))
 }
 
 // One tile along dimension j, and so many along the last.
@@ -246,37 +243,29 @@ fn steps_by(last: usize, j: usize, more: usize) -> [usize; 4]
 }
 
 // A move by one tile along a dimension before the last, and so many along the last, that every bound moves along with, if there is one.
-fn move_by(nest: Nest, sizes: Sizes, more: usize) -> Move
-    requires { Sized nest sizes × (more ≤ 1) }
-    ensures { Moves nest result.steps result.far }
+fn move_by(layout: &Layout, more: usize) -> Option<Move>
+    requires { more ≤ 1 }
+    ensures { IfSome result (λ by. Moves layout.now.nest by.steps by.far) }
 {
-    let last = nest.dimensions - 1;
-    let across = sizes.across;
+    let last = layout.nest.dimensions - 1;
+    let across = layout.sizes.across;
     for j in 0..last {
         let steps = steps_by(last, j, more);
-        if keeps(nest, steps) {
-            return Move {
-                steps: steps,
-                far: layout::rank(across, steps, nest.dimensions),
-            };
+        if keeps(layout.nest, steps) {
+            return Some(Move {
+                steps,
+                far: layout::rank(across, steps, layout.nest.dimensions),
+            });
         }
     }
-    Move {
-        steps: [0; 4],
-        far: 0,
-    }
+    None
 }
 
 // A move that every bound moves along with, if one of those looked at is: first those that stay where they are along the last dimension.
-pub fn move_of(nest: Nest, sizes: Sizes) -> Move
-    requires { Sized nest sizes }
-    ensures { Moves nest result.steps result.far }
+pub fn move_of(layout: &Layout) -> Option<Move>
+    ensures { IfSome result (λ by. Moves layout.now.nest by.steps by.far) }
 {
-    let straight = move_by(nest, sizes, 0);
-    if straight.far > 0 {
-        return straight;
-    }
-    move_by(nest, sizes, 1)
+    move_by(layout, 0).or_else(|| move_by(layout, 1))
 }
 
 // Whether a tile that stands so far along a dimension has one so many before it and, where that is not itself, one of full length after it.
@@ -294,14 +283,14 @@ fn behind(at: usize, steps: usize, tiling: usize, length: usize) -> bool
 }
 
 // The places along the last dimension of the tiles in the row of a place that are like the tile a move before them.
-fn moved_in(nest: Nest, sizes: Sizes, steps: [usize; 4], at: [usize; 4]) -> Interval
-    requires { Sized nest sizes × (Short steps × ((j : ℕ) → j < nest.dimensions → get_or at j 0 ≤ 1024)) }
-    ensures { MovedIn nest at steps result }
+fn moved_in(layout: &Layout, steps: [usize; 4], at: [usize; 4]) -> Interval
+    requires { Short steps × ((j : ℕ) → j < layout.now.nest.dimensions → get_or at j 0 ≤ 1024) }
+    ensures { MovedIn layout.now.nest at steps result }
 {
-    let last = nest.dimensions - 1;
-    let tiling = nest.tiling;
-    let lengths = nest.lengths;
-    let across = sizes.across;
+    let last = layout.nest.dimensions - 1;
+    let tiling = layout.nest.tiling;
+    let lengths = layout.nest.lengths;
+    let across = layout.sizes.across;
     for j in 0..last {
         if !behind(at[j], steps[j], tiling[j], lengths[j]) {
             return Interval { from: 0, to: 0 };
@@ -321,17 +310,16 @@ fn moved_in(nest: Nest, sizes: Sizes, steps: [usize; 4], at: [usize; 4]) -> Inte
 }
 
 // The row of a tile: by the move, or where none of its tiles is like the one a move before, by those that lie wholly inside.
-pub fn line_of(nest: Nest, sizes: Sizes, most: [usize; 4], by: Move, tile: usize) -> TileRow
-    requires { Sized nest sizes × ((tile < box_tiles nest) × (Farthest nest most × Moves nest by.steps by.far)) }
-    ensures { Lined nest result.far result.from result.to }
+pub fn line_of(layout: &Layout, most: [usize; 4], by: Option<Move>, tile: usize) -> TileRow
+    requires { (tile < box_tiles layout.now.nest) × (Farthest layout.now.nest most × IfSome by (λ m. Moves layout.now.nest m.steps m.far)) }
+    ensures { Lined layout.now.nest result.far result.from result.to }
 {
-    let at = layout::place_of_tile(nest, sizes, tile);
-    if by.far > 0 {
-        let steps = by.steps;
-        let places = moved_in(nest, sizes, steps, at);
+    let at = layout.place_of_tile(tile);
+    if let Some(by) = by {
+        let places = moved_in(layout, by.steps, at);
         if places.from < places.to {
-            return line_by(nest, sizes, tile, at, places, by.far);
+            return line_by(layout, tile, at, places, by.far);
         }
     }
-    stretch_of(nest, sizes, most, tile, at)
+    stretch_of(layout, most, tile, at)
 }

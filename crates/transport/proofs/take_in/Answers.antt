@@ -2,4 +2,4 @@
 use Rattle.transport.proofs.take_in.Goals as goal
 
 pub returns : goal.returns
-returns c = c.take_in.ensures c.args.progress.now c.flat_of.ensures
+returns c = rw c.number_of.ensures (c.take_in.ensures c.args.progress.now c.flat_of.ensures)

@@ -9,9 +9,6 @@ use Rattle.values.proofs.all_rows.Goals as goal
 pub box_fours-requires : goal.box_fours-requires
 box_fours-requires c = (c.requires.0, (c.requires.1.0, omega (arith, c.requires.1.1.0, c.requires.1.1.1)))
 
-pub overflow_mul-groups : goal.overflow_mul-groups
-overflow_mul-groups c = omega (arith, c.requires.1.1.0, c.requires.1.1.1)
-
 pub box_rows-requires : goal.box_rows-requires
 box_rows-requires c =
     let p = c.requires in

@@ -24,9 +24,6 @@ lasts_of-lasts-requires c = (c.requires.0, record { is = refl })
 pub least_of-least-requires : goal.least_of-least-requires
 least_of-least-requires c = c.requires.0
 
-pub overflow_sub-last : goal.overflow_sub-last
-overflow_sub-last c = omega (arith, c.requires.0.dimensions_least)
-
 pub product-count-requires : goal.product-count-requires
 product-count-requires c = box_countable _ c.requires.0 _ _ c.requires.1.0
 

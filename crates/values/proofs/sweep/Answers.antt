@@ -4,10 +4,8 @@ use Rattle.values.proofs.sweep.Goals as goal
 
 pub box_values-requires : goal.box_values-requires
 box_values-requires c =
-    let p = c.requires in
-    (p.0.accepted, (grid_boxed _ p.0.accepted, p.1))
+    (c.args.layout.now.sized.accepted, (grid_boxed _ c.args.layout.now.sized.accepted, c.requires))
 
 pub returns : goal.returns
 returns c =
-    let p = c.requires in
-    grid_stored _ p.0.accepted _ _ p.1.1 _ c.box_values.ensures
+    grid_stored _ c.args.layout.now.sized.accepted _ _ c.requires.1 _ c.box_values.ensures

@@ -1,25 +1,27 @@
--- `writer::bounds_fit` meets its contract: each return is one part of the test.
-use mathlib.Core.Path.{sym, ◌∙◌}
-use Rattle.writer.proofs.Fitting as S
+-- `writer::bounds_fit` meets its contract: each table's test, one after the other.
+use mathlib.Core.Path.{◌≡◌}
+use Rattle.std.proofs.Common.{rules}
+use Rattle.base.specs.Tests.{◌and◌}
+use Rattle.writer.specs.Writing.{fits_in, bounds_fit}
+use Rattle.writer.proofs.Tables.{as_they_stand}
 use Rattle.writer.proofs.bounds_fit.Goals as goal
 
-pub returns-then-not-bytes_fit : goal.returns-then-not-bytes_fit
-returns-then-not-bytes_fit c = S.unfit_bounds c.args.nest _ (λ q. q.sides) (sym c.bytes_fit.ensures ∙ c.if-not-bytes_fit.true)
+pub returns-then-slopes : goal.returns-then-slopes
+unfolding bounds_fit ◌and◌
+returns-then-slopes c =
+    let sides : c.fits_in-sides.result ≡ fits_in c.args.nest.bounds 256 c.args.nest.sides = c.fits_in-sides.ensures _ (as_they_stand _ (λ x y m. search rules)) in
+    let bounded : c.fits_in-bounded.result ≡ fits_in c.args.nest.bounds 256 c.args.nest.bounded = c.fits_in-bounded.ensures _ (as_they_stand _ (λ x y m. search rules)) in
+    let earlier : c.fits_in-earlier.result ≡ fits_in c.args.nest.bounds 256 c.args.nest.earlier = c.fits_in-earlier.ensures _ (as_they_stand _ (λ x y m. search rules)) in
+    let slopes : c.fits_in-slopes.result ≡ fits_in c.args.nest.bounds 256 c.args.nest.slopes = c.fits_in-slopes.ensures _ (as_they_stand _ (λ x y m. search rules)) in
+    let offsets : c.fits_in-offsets.result ≡ fits_in c.args.nest.bounds 65536 c.args.nest.offsets = c.fits_in-offsets.ensures _ (as_they_stand _ (λ x y m. search rules)) in
+    search rules
 
-pub returns-then-not-bytes_fit-2 : goal.returns-then-not-bytes_fit-2
-returns-then-not-bytes_fit-2 c = S.unfit_bounds c.args.nest _ (λ q. q.bounded) (sym c.bytes_fit-2.ensures ∙ c.if-not-bytes_fit-2.true)
-
-pub returns-then-not-bytes_fit-3 : goal.returns-then-not-bytes_fit-3
-returns-then-not-bytes_fit-3 c = S.unfit_bounds c.args.nest _ (λ q. q.earlier) (sym c.bytes_fit-3.ensures ∙ c.if-not-bytes_fit-3.true)
-
-pub returns-then-not-bytes_fit-4 : goal.returns-then-not-bytes_fit-4
-returns-then-not-bytes_fit-4 c =
-    let A = c.args in
-    S.unfit_bounds A.nest _ (λ q. q.slopes) (sym c.bytes_fit-4.ensures ∙ c.if-not-bytes_fit-4.true)
-
-pub returns : goal.returns
-returns c =
-    let A = c.args in
-    c.offsets_fit.ensures ∙ S.fit_bounds A.nest (sym c.bytes_fit.ensures ∙ c.if-not-bytes_fit.false)
-    (sym c.bytes_fit-2.ensures ∙ c.if-not-bytes_fit-2.false) (sym c.bytes_fit-3.ensures ∙ c.if-not-bytes_fit-3.false)
-    (sym c.bytes_fit-4.ensures ∙ c.if-not-bytes_fit-4.false)
+pub returns-else-slopes : goal.returns-else-slopes
+unfolding bounds_fit ◌and◌
+returns-else-slopes c =
+    let sides : c.fits_in-sides.result ≡ fits_in c.args.nest.bounds 256 c.args.nest.sides = c.fits_in-sides.ensures _ (as_they_stand _ (λ x y m. search rules)) in
+    let bounded : c.fits_in-bounded.result ≡ fits_in c.args.nest.bounds 256 c.args.nest.bounded = c.fits_in-bounded.ensures _ (as_they_stand _ (λ x y m. search rules)) in
+    let earlier : c.fits_in-earlier.result ≡ fits_in c.args.nest.bounds 256 c.args.nest.earlier = c.fits_in-earlier.ensures _ (as_they_stand _ (λ x y m. search rules)) in
+    let slopes : c.fits_in-slopes.result ≡ fits_in c.args.nest.bounds 256 c.args.nest.slopes = c.fits_in-slopes.ensures _ (as_they_stand _ (λ x y m. search rules)) in
+    let offsets : c.fits_in-offsets.result ≡ fits_in c.args.nest.bounds 65536 c.args.nest.offsets = c.fits_in-offsets.ensures _ (as_they_stand _ (λ x y m. search rules)) in
+    search rules

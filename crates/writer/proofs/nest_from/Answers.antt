@@ -1,61 +1,55 @@
--- `writer::nest_from` meets its contract: each table is filled from its list.
+-- `writer::nest_from` meets its contract: each table is made from its list.
+use Rattle.std.proofs.Common.{rules}
 use Rattle.writer.proofs.FromFields as F
+use Rattle.writer.proofs.Tables as T
 use native.Mathlib.Omega.{arith}
 use Rattle.writer.proofs.nest_from.Goals as goal
 
-pub table_4-spread_over-requires : goal.table_4-spread_over-requires
-table_4-spread_over-requires c =
-    let P = c.requires in
-    omega (arith, (F.agreed _ P).dimensions, (F.agreed _ P).counts)
+pub table-spread_over-requires : goal.table-spread_over-requires
+table-spread_over-requires c = (omega arith, (omega (arith, (F.agreed _ c.requires).dimensions, (F.agreed _ c.requires).counts), λ k d h. tt))
 
 pub spread_of-requires : goal.spread_of-requires
 spread_of-requires c = (F.agreed _ c.requires).dimensions
 
-pub table_4-requires : goal.table_4-requires
-table_4-requires c = (F.agreed _ c.requires).dimensions
+pub table-requires : goal.table-requires
+table-requires c = (omega arith, ((F.agreed _ c.requires).dimensions, λ k d h. tt))
 
-pub table_4-requires-2 : goal.table_4-requires-2
-table_4-requires-2 c =
-    let P = c.requires in
-    omega (arith, (F.agreed _ P).dimensions, (F.agreed _ P).tiling)
+pub table-requires-2 : goal.table-requires-2
+table-requires-2 c = (omega arith, (omega (arith, (F.agreed _ c.requires).dimensions, (F.agreed _ c.requires).tiling), λ k d h. tt))
 
-pub table_32-requires : goal.table_32-requires
-table_32-requires c =
-    let P = c.requires in
-    omega (arith, (F.agreed _ P).distances, (F.agreed _ P).components)
+pub table-requires-3 : goal.table-requires-3
+table-requires-3 c = (omega arith, (omega (arith, (F.agreed _ c.requires).distances, (F.agreed _ c.requires).components), λ k d h. tt))
 
-pub table_8-requires : goal.table_8-requires
-table_8-requires c = (F.agreed _ c.requires).distances
+pub table-requires-4 : goal.table-requires-4
+table-requires-4 c = (omega arith, ((F.agreed _ c.requires).distances, λ k d h. tt))
 
-pub table_of_bytes-requires : goal.table_of_bytes-requires
-table_of_bytes-requires c = (F.agreed _ c.requires).sides
+pub table-requires-5 : goal.table-requires-5
+table-requires-5 c = (omega arith, ((F.agreed _ c.requires).sides, λ k d h. tt))
 
-pub table_of_bytes-requires-2 : goal.table_of_bytes-requires-2
-table_of_bytes-requires-2 c =
-    let P = c.requires in
-    omega (arith, (F.agreed _ P).sides, (F.agreed _ P).bounded)
+pub table-requires-6 : goal.table-requires-6
+table-requires-6 c = (omega arith, (omega (arith, (F.agreed _ c.requires).sides, (F.agreed _ c.requires).bounded), λ k d h. tt))
 
-pub table_of_bytes-requires-3 : goal.table_of_bytes-requires-3
-table_of_bytes-requires-3 c =
-    let P = c.requires in
-    omega (arith, (F.agreed _ P).sides, (F.agreed _ P).earlier)
+pub table-requires-7 : goal.table-requires-7
+table-requires-7 c = (omega arith, (omega (arith, (F.agreed _ c.requires).sides, (F.agreed _ c.requires).earlier), λ k d h. tt))
 
-pub slopes_from-requires : goal.slopes_from-requires
-slopes_from-requires c =
-    let P = c.requires in
-    omega (arith, (F.agreed _ P).sides, (F.agreed _ P).slopes)
+pub table-requires-8 : goal.table-requires-8
+table-requires-8 c = (omega arith, (omega (arith, (F.agreed _ c.requires).sides, (F.agreed _ c.requires).slopes), λ k d h. tt))
 
-pub offsets_from-requires : goal.offsets_from-requires
-offsets_from-requires c =
-    let P = c.requires in
-    omega (arith, (F.agreed _ P).sides, (F.agreed _ P).offsets)
+pub table-requires-9 : goal.table-requires-9
+table-requires-9 c = (omega arith, (omega (arith, (F.agreed _ c.requires).sides, (F.agreed _ c.requires).offsets), λ k d h. tt))
 
 pub returns : goal.returns
 returns c =
-    let A = c.args in
-    F.from_made A.lengths.now A.tiling.now A.counts.now A.components.now A.weights.now A.sides.now A.bounded.now
-    A.earlier.now A.slopes.now A.offsets.now A.shift A.boundary c.requires _ _ _ _ _ _ _ _ _ _ _ _ _ c.table_4-spread_over.ensures
-    c.spread_of.ensures c.table_4.ensures c.table_4-2.ensures c.table_32.ensures
-    c.table_8.ensures c.table_of_bytes.ensures c.table_of_bytes-2.ensures
-    c.table_of_bytes-3.ensures c.slopes_from.ensures c.offsets_from.ensures
-    c.byte_wide.ensures c.word_wide.ensures
+    F.from_made _ _ _ _ _ _ _ _ _ _ _ _ c.requires _ _ _ _ _ _ _ _ _ _ _ _ _
+    (T.table_is c.table-spread_over.ensures (omega (arith, (F.agreed _ c.requires).dimensions, (F.agreed _ c.requires).counts)) _ (λ i y h m. search rules))
+    c.spread_of.ensures
+    (T.table_is c.table.ensures ((F.agreed _ c.requires).dimensions) _ (λ i y h m. search rules))
+    (T.table_is c.table-2.ensures (omega (arith, (F.agreed _ c.requires).dimensions, (F.agreed _ c.requires).tiling)) _ (λ i y h m. search rules))
+    (T.table_is c.table-3.ensures (omega (arith, (F.agreed _ c.requires).distances, (F.agreed _ c.requires).components)) _ (λ i y h m. search rules))
+    (T.table_is c.table-4.ensures ((F.agreed _ c.requires).distances) _ (λ i y h m. search rules))
+    (T.table_is c.table-5.ensures ((F.agreed _ c.requires).sides) _ (λ i y h m. search rules))
+    (T.table_is c.table-6.ensures (omega (arith, (F.agreed _ c.requires).sides, (F.agreed _ c.requires).bounded)) _ (λ i y h m. search rules))
+    (T.table_is c.table-7.ensures (omega (arith, (F.agreed _ c.requires).sides, (F.agreed _ c.requires).earlier)) _ (λ i y h m. search rules))
+    (T.table_is c.table-8.ensures (omega (arith, (F.agreed _ c.requires).sides, (F.agreed _ c.requires).slopes)) _ (λ i y h m. search rules))
+    (T.table_is c.table-9.ensures (omega (arith, (F.agreed _ c.requires).sides, (F.agreed _ c.requires).offsets)) _ (λ i y h m. search rules))
+    c.from.ensures c.from-2.ensures

@@ -1,65 +1,57 @@
 -- `writer::write_nest` meets its contract: one law for each return.
 use mathlib.Core.Path.{refl, sym, ◌∙◌}
 use native.Mathlib.Omega.{arith}
+use Rattle.std.proofs.lemmas.Result.{err_from_is_err_and}
+use Rattle.nest.proofs.Answers.{refused_read}
 use Rattle.writer.proofs.Calls as W
 use Rattle.writer.proofs.write_nest.Goals as goal
 
-pub returns-then-nest-gt4 : goal.returns-then-nest-gt4
-returns-then-nest-gt4 c = W.many_dimensions c.args.nest _ c.if-nest-gt4.true
-
-pub returns-then-nest-gt8 : goal.returns-then-nest-gt8
-returns-then-nest-gt8 c = W.many_distances c.args.nest _ c.if-nest-gt8.true
-
-pub returns-then-nest-gt4-2 : goal.returns-then-nest-gt4-2
-returns-then-nest-gt4-2 c = W.many_bounds c.args.nest _ c.if-nest-gt4-2.true
-
-pub returns-then-not-bounds_fit : goal.returns-then-not-bounds_fit
-returns-then-not-bounds_fit c = W.bounds_two c.args.nest _ (sym c.bounds_fit.ensures ∙ c.if-not-bounds_fit.true)
-
-pub fits-requires : goal.fits-requires
-fits-requires c = (c.if-nest-gt4.false, c.if-nest-gt8.false)
-
-pub returns-then-not-fits : goal.returns-then-not-fits
-returns-then-not-fits c = W.unfit_two c.args.nest _ (sym c.fits.ensures ∙ c.if-not-fits.true)
+pub returns-then-not-is_writable : goal.returns-then-not-is_writable
+returns-then-not-is_writable c = W.not_writable _ _ (sym c.is_writable.ensures ∙ c.if-not-is_writable.true)
 
 pub overflow_add-length : goal.overflow_add-length
-overflow_add-length c = omega (arith, c.if-nest-gt4.false, c.if-nest-gt8.false, c.if-nest-gt4-2.false)
+overflow_add-length c = let f = W.writable_few _ (sym c.is_writable.ensures ∙ c.if-not-is_writable.false) in omega (arith, f.0, f.1, f.2)
 
 pub overflow_add-length-2 : goal.overflow_add-length-2
-overflow_add-length-2 c = omega (arith, c.if-nest-gt4.false, c.if-nest-gt8.false, c.if-nest-gt4-2.false)
+overflow_add-length-2 c = let f = W.writable_few _ (sym c.is_writable.ensures ∙ c.if-not-is_writable.false) in omega (arith, f.0, f.1, f.2)
 
 pub overflow_add-length-3 : goal.overflow_add-length-3
-overflow_add-length-3 c = omega (arith, c.if-nest-gt4.false, c.if-nest-gt8.false, c.if-nest-gt4-2.false)
+overflow_add-length-3 c = let f = W.writable_few _ (sym c.is_writable.ensures ∙ c.if-not-is_writable.false) in omega (arith, f.0, f.1, f.2)
 
 pub overflow_mul-length : goal.overflow_mul-length
-overflow_mul-length c = omega (arith, c.if-nest-gt4.false, c.if-nest-gt8.false, c.if-nest-gt4-2.false)
+overflow_mul-length c = let f = W.writable_few _ (sym c.is_writable.ensures ∙ c.if-not-is_writable.false) in omega (arith, f.0, f.1, f.2)
+
+pub slice_bounds-bytes-end : goal.slice_bounds-bytes-end
+slice_bounds-bytes-end c = let f = W.writable_few _ (sym c.is_writable.ensures ∙ c.if-not-is_writable.false) in omega (arith, f.0, f.1, f.2)
+
+pub slice_bounds-read-end : goal.slice_bounds-read-end
+slice_bounds-read-end c = omega (arith, W.part_long _ c.args.space.now (sym c.is_writable.ensures ∙ c.if-not-is_writable.false) _ _ refl c.bytes_of-bytes.ensures)
+
+pub slice_bounds-bytes-end-2 : goal.slice_bounds-bytes-end-2
+slice_bounds-bytes-end-2 c = let f = W.writable_few _ (sym c.is_writable.ensures ∙ c.if-not-is_writable.false) in omega (arith, f.0, f.1, f.2)
+
+pub slice_bounds-copy_from_slice-end : goal.slice_bounds-copy_from_slice-end
+slice_bounds-copy_from_slice-end c = omega (arith, W.part_long _ c.args.space.now (sym c.is_writable.ensures ∙ c.if-not-is_writable.false) _ _ refl c.bytes_of-bytes.ensures)
 
 pub bytes_of-bytes-requires : goal.bytes_of-bytes-requires
-bytes_of-bytes-requires c = ((c.if-nest-gt4.false, c.if-nest-gt4-2.false), c.if-nest-gt8.false)
+bytes_of-bytes-requires c = let f = W.writable_few _ (sym c.is_writable.ensures ∙ c.if-not-is_writable.false) in ((f.0, f.2), f.1)
 
-pub number_of-number-requires : goal.number_of-number-requires
-number_of-number-requires c = omega (arith, c.if-nest-gt4.false, c.if-nest-gt8.false, c.if-nest-gt4-2.false)
-
-pub returns-then-number-ne0 : goal.returns-then-number-ne0
-returns-then-number-ne0 c =
-    let A = c.args in
-    W.refused_by A.nest _ c.if-nest-gt4.false c.if-nest-gt8.false c.if-nest-gt4-2.false (sym c.bounds_fit.ensures
-    ∙ c.if-not-bounds_fit.false) (sym c.fits.ensures ∙ c.if-not-fits.false) _ _ refl c.bytes_of-bytes.ensures _
-    c.number_of-number.ensures c.if-number-ne0.true
+pub returns-in_err-read : goal.returns-in_err-read
+returns-in_err-read c =
+    let p = err_from_is_err_and c.from_residual.result c.from_residual.ensures.1 in
+    rw (p.1, p.2)
+    (W.refused_by _ _ (sym c.is_writable.ensures ∙ c.if-not-is_writable.false) _ _ refl c.bytes_of-bytes.ensures _ c.in_err-read.ensures.number
+    (λ z. refused_read c.in_err-read.ensures (sym c.in_err-read.ensures.number ∙ z)))
 
 pub returns-then-space-length : goal.returns-then-space-length
 returns-then-space-length c =
-    let A = c.args in
-    W.no_room A.nest _ c.if-nest-gt4.false c.if-nest-gt8.false c.if-nest-gt4-2.false (sym c.bounds_fit.ensures
-    ∙ c.if-not-bounds_fit.false) (sym c.fits.ensures ∙ c.if-not-fits.false) _ _ refl c.bytes_of-bytes.ensures _
-    c.number_of-number.ensures c.if-number-ne0.false c.if-space-length.true
+    W.no_room _ _ (sym c.is_writable.ensures ∙ c.if-not-is_writable.false) _ _ refl c.bytes_of-bytes.ensures _ c.in_ok-read.ensures.number refl c.if-space-length.true
 
-pub copy-requires : goal.copy-requires
-copy-requires c = omega (arith, c.if-space-length.false, c.if-nest-gt4.false, c.if-nest-gt8.false, c.if-nest-gt4-2.false)
+pub copy_from_slice-requires : goal.copy_from_slice-requires
+copy_from_slice-requires c =
+    c.if-space-length.false ∙ sym (W.part_long _ c.args.space.now (sym c.is_writable.ensures ∙ c.if-not-is_writable.false) _ _ refl c.bytes_of-bytes.ensures)
 
 pub returns : goal.returns
 returns c =
-    let A = c.args in
-    W.recipe_written A.nest _ c.if-nest-gt4.false c.if-nest-gt8.false c.if-nest-gt4-2.false (sym c.bounds_fit.ensures
-    ∙ c.if-not-bounds_fit.false) (sym c.fits.ensures ∙ c.if-not-fits.false) _ _ refl c.bytes_of-bytes.ensures _
-    c.number_of-number.ensures c.if-number-ne0.false c.if-space-length.false _ c.copy.ensures
+    W.recipe_written _ _ (sym c.is_writable.ensures ∙ c.if-not-is_writable.false) _ _ refl c.bytes_of-bytes.ensures _ c.in_ok-read.ensures.number refl c.if-space-length.false _
+    c.copy_from_slice.ensures.after

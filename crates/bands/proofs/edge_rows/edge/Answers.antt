@@ -6,41 +6,11 @@ use Rattle.bands.proofs.edge_rows.edge.Goals as goal
 pub loop-y-init : goal.loop-y-init
 loop-y-init c = rowing_none _ _ _ _
 
-pub overflow_add-cell : goal.overflow_add-cell
-overflow_add-cell c = omega (arith, c.requires.within, c.requires.small, c.loop-y-test.true)
-
-pub overflow_add-component : goal.overflow_add-component
-overflow_add-component c = omega (arith, c.requires.narrow, c.loop-y-test.true)
-
 pub mixed_at-v-requires : goal.mixed_at-v-requires
 mixed_at-v-requires c = mixes_at c.requires _ 1 _ (omega (arith, c.loop-y-test.true)) (rowing_long c.loop-y.invariant)
 
-pub overflow_add-memory : goal.overflow_add-memory
-overflow_add-memory c = omega (arith, c.requires.within, c.requires.small, c.loop-y-test.true)
-
-pub offset_bounds-memory-cell : goal.offset_bounds-memory-cell
-offset_bounds-memory-cell c = omega (arith, c.requires.within, c.requires.small, c.loop-y-test.true)
-
-pub bounds-memory-cell : goal.bounds-memory-cell
-bounds-memory-cell c =
-    omega (
-      arith,
-      c.requires.within,
-      c.loop-y-test.true,
-      rowing_long c.loop-y.invariant,
-    )
-
-pub overflow_step-y : goal.overflow_step-y
-overflow_step-y c = omega (arith, c.requires.narrow, c.loop-y-test.true)
-
-pub loop-y-smaller : goal.loop-y-smaller
-loop-y-smaller c = omega (arith, c.loop-y-test.true)
-
 pub loop-y-preserved : goal.loop-y-preserved
 loop-y-preserved c = rowing_more c.loop-y.invariant _ c.loop-y-test.true (in_line_lem _ _ _ _ _ _ _ _ _ _ _ _ c.mixed_at-v.ensures)
-
-pub shape_of-memory : goal.shape_of-memory
-shape_of-memory c = rowing_long c.loop-y.invariant
 
 pub returns : goal.returns
 returns c = rowing_end c.loop-y.invariant c.loop-y-test.false

@@ -1,11 +1,7 @@
 -- `bands::edge_rows::edge` meets its contract: the first y cells are stored.
-use Prim.Native.Nat.{◌-◌}
 use Rattle.kernels.specs.Taps.{in_line}
 use Rattle.kernels.proofs.Sums.{Rowing}
 use Rattle.bands.proofs.edge_rows.edge.Given as goal
 
 abbrev pub invariant-loop-y : goal.invariant-loop-y
 invariant-loop-y l = Rowing (in_line l.n l.firsts l.backs l.weights l.boundary l.shift l.source l.cell l.component) l.initial.memory l.memory l.cell l.width l.y
-
-abbrev pub decreases-loop-y : goal.decreases-loop-y
-decreases-loop-y l = l.width - l.y

@@ -8,6 +8,3 @@ use Rattle.bands.proofs.edge_rows.mixed_at.Given as goal
 
 abbrev pub invariant-loop-k : goal.invariant-loop-k
 invariant-loop-k l = Mixing l.n l.weights (λ i. pick (leb (get_or l.firsts i 0) l.component) (get_or l.memory (l.cell - get_or l.backs i 0) 0) l.boundary) (get_or l.source l.cell 0) l.total l.k
-
-abbrev pub decreases-loop-k : goal.decreases-loop-k
-decreases-loop-k l = l.n - l.k

@@ -11,7 +11,7 @@ pub wait-v-requires : goal.wait-v-requires
 wait-v-requires c = (c.requires.1.1.0, W.fair_at _ _ c.requires.1.1.1 c.loop-w.w c.loop-w-test.true)
 
 pub loop-w-preserved : goal.loop-w-preserved
-loop-w-preserved c = (omega arith, S.soonest_turn _ _ _ _ _ c.loop-w.invariant.1 c.wait-v.ensures c.least_word-soonest.ensures)
+loop-w-preserved c = (omega arith, S.soonest_turn _ _ _ _ _ c.loop-w.invariant.1 c.wait-v.ensures c.min-soonest.ensures)
 
 pub returns-then-soonest-eq-WEEK : goal.returns-then-soonest-eq-WEEK
 returns-then-soonest-eq-WEEK c = S.told_never _ _ _ _ _ c.loop-w.invariant.1 c.loop-w.invariant.0 c.loop-w-test.false c.if-soonest-eq-WEEK.true

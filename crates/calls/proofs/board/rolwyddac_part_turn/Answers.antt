@@ -1,13 +1,9 @@
 -- `rolwyddac_part_turn` meets its contract: what the call over words gave, and the record that is stored has its words. A turn that gave 0 has a record there.
-use Rattle.std.specs.Prelude.{List}
-use mathlib.Core.Path.{ap, ◌∙◌}
-use Prim.Native.Nat.{ℕ}
+use Rattle.std.specs.Prelude.{ℕ, List}
 use Rattle.machine.specs.Machine.{state_of}
 use Rattle.records.specs.Records.{flat_words}
-use Rattle.records.specs.declared.Progress.{Progress}
-use Rattle.engine.specs.Calls.{answer}
-use Rattle.engine.proofs.Reading.{stored_after}
 use Rattle.calls.proofs.PartTurn.{own_there}
+use Rattle.calls.proofs.Stores.{turn_stored}
 use Rattle.calls.proofs.board.rolwyddac_part_turn.Goals as goal
 
 pub put-requires : goal.put-requires
@@ -18,5 +14,5 @@ put-requires c =
 pub returns : goal.returns
 returns c =
     let after = c.turn-after.new in
-    ap (λ (l : List ℕ). answer c.turn-after.result.number (state_of after.memory after.mail l after.marks)) (ap (λ (l : List Progress). flat_words l) c.put.ensures ∙ stored_after c.args.progress.now 0 c.turn-after.result)
-    ∙ c.turn-after.ensures (flat_words c.args.progress.now) c.flatten-flat.ensures
+    turn_stored (λ (l : List ℕ). state_of after.memory after.mail l after.marks) c.args.progress.now _ 0 _ c.turn-after.result _
+    c.put.ensures.stored c.put.ensures.number (c.turn-after.ensures (flat_words c.args.progress.now) c.flatten-flat.ensures)

@@ -1,5 +1,4 @@
 -- The call's own, with the corners as the machine reads them back.
-use borrow.Author.Rules.{rules}
 use Rattle.calls.proofs.Demand211 as L
 use Rattle.calls.proofs.chart_text.rolwyddac_chart_length.Goals as goal
 

@@ -1,13 +1,9 @@
 -- `rolwyddac_turn_at` meets its contract: what the call over words gave, and the record that is stored has its words. A turn that gave 0 has a record there.
-use Rattle.std.specs.Prelude.{List}
-use mathlib.Core.Path.{ap, ◌∙◌}
-use Prim.Native.Nat.{ℕ}
+use Rattle.std.specs.Prelude.{ℕ, List}
 use Rattle.machine.specs.Machine.{state_of}
 use Rattle.records.specs.Records.{flat_words}
-use Rattle.records.specs.declared.Progress.{Progress}
-use Rattle.engine.specs.Calls.{answer}
-use Rattle.engine.proofs.Reading.{stored_after}
 use Rattle.calls.proofs.Opens.{record_there_at}
+use Rattle.calls.proofs.Stores.{turn_stored}
 use Rattle.calls.proofs.hour.rolwyddac_turn_at.Goals as goal
 
 pub put-requires : goal.put-requires
@@ -18,5 +14,5 @@ put-requires c =
 pub returns : goal.returns
 returns c =
     let after = c.turn-after.new in
-    ap (λ (l : List ℕ). answer c.turn-after.result.number (state_of after.memories after.buffer l after.status)) (ap (λ (l : List Progress). flat_words l) c.put.ensures ∙ stored_after c.args.progress.now c.args.processor c.turn-after.result)
-    ∙ c.turn-after.ensures (flat_words c.args.progress.now) c.flatten-flat.ensures
+    turn_stored (λ (l : List ℕ). state_of after.memories after.buffer l after.status) c.args.progress.now _ c.args.processor _ c.turn-after.result _
+    c.put.ensures.stored c.put.ensures.number (c.turn-after.ensures (flat_words c.args.progress.now) c.flatten-flat.ensures)

@@ -1,7 +1,6 @@
 -- The fingerprint, behind the number 0.
 use Rattle.std.specs.Prelude.{ℕ}
 use mathlib.Core.Path.{ap}
-use borrow.Author.Rules.{rules}
 use Rattle.calls.specs.declared.mail.Fingerprint.{Fingerprint}
 use Rattle.calls.proofs.mail.rolwyddac_fingerprint.Goals as goal
 

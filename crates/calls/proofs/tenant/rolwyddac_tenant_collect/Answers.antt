@@ -4,4 +4,4 @@ use Rattle.calls.proofs.tenant.rolwyddac_tenant_collect.Goals as goal
 
 pub returns : goal.returns
 returns c =
-    c.collect.ensures (flat_words c.args.progress.now) (flat_words c.args.other.now) c.flatten-own.ensures c.flatten-theirs.ensures
+    rw c.number_of.ensures (c.collect.ensures (flat_words c.args.progress.now) (flat_words c.args.other.now) c.flatten-own.ensures c.flatten-theirs.ensures)

@@ -4,4 +4,4 @@ use Rattle.calls.proofs.tenant.rolwyddac_tenant_deliver.Goals as goal
 
 pub returns : goal.returns
 returns c =
-    c.deliver.ensures (flat_words c.args.progress.now) (flat_words c.args.other.now) c.flatten-own.ensures c.flatten-theirs.ensures
+    rw c.number_of.ensures (c.deliver.ensures (flat_words c.args.progress.now) (flat_words c.args.other.now) c.flatten-own.ensures c.flatten-theirs.ensures)

@@ -1,14 +1,10 @@
 -- `rolwyddac_tenant_turn` meets its contract: what the call over words gave, and the record that is stored has its words. A turn that gave 0 has a record there.
-use Rattle.std.specs.Prelude.{List}
-use mathlib.Core.Path.{ap, ◌∙◌}
-use Prim.Native.Nat.{ℕ}
+use Rattle.std.specs.Prelude.{ℕ, List}
 use Rattle.machine.specs.Machine.{state_of}
-use Rattle.records.specs.Records.{flat_words}
-use Rattle.records.specs.declared.Progress.{Progress}
-use Rattle.engine.specs.Calls.{answer}
-use Rattle.engine.proofs.Reading.{stored_after}
-use Rattle.calls.proofs.View.{record_there_for}
 use Rattle.tenants.specs.Tenants.{tenant_areas}
+use Rattle.records.specs.Records.{flat_words}
+use Rattle.calls.proofs.View.{record_there_for}
+use Rattle.calls.proofs.Stores.{turn_stored}
 use Rattle.calls.proofs.tenant.rolwyddac_tenant_turn.Goals as goal
 
 pub put-requires : goal.put-requires
@@ -19,5 +15,6 @@ put-requires c =
 pub returns : goal.returns
 returns c =
     let after = c.turn-after.new in
-    ap (λ (l : List ℕ). answer c.turn-after.result.number (tenant_areas (state_of after.memories after.buffer l after.status) after.engaged)) (ap (λ (l : List Progress). flat_words l) c.put.ensures ∙ stored_after c.args.progress.now c.args.processor c.turn-after.result)
-    ∙ c.turn-after.ensures (flat_words c.args.progress.now) (flat_words c.args.other.now) c.flatten-own.ensures c.flatten-theirs.ensures
+    turn_stored (λ (l : List ℕ). tenant_areas (state_of after.memories after.buffer l after.status) after.engaged) c.args.progress.now _ c.args.processor _
+    c.turn-after.result _ c.put.ensures.stored c.put.ensures.number
+    (c.turn-after.ensures (flat_words c.args.progress.now) (flat_words c.args.other.now) c.flatten-own.ensures c.flatten-theirs.ensures)

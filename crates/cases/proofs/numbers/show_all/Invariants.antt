@@ -1,9 +1,6 @@
--- Each case ends behind its start.
-use Rattle.std.proofs.Common.{◌≤◌, ◌-◌, length}
+-- Behind each case there are fewer bytes.
+use Rattle.std.proofs.Common.{length}
 use Rattle.cases.proofs.numbers.show_all.Given as goal
 
-abbrev pub invariant-loop-at : goal.invariant-loop-at
-invariant-loop-at g l = l.at ≤ length l.cases
-
-abbrev pub decreases-loop-at : goal.decreases-loop-at
-decreases-loop-at g l = length l.cases - l.at
+abbrev pub decreases-loop-case : goal.decreases-loop-case
+decreases-loop-case g l = length l.rest

@@ -1,7 +1,4 @@
 -- After each delivery: the pass so far.
-use mathlib.Core.Path.{◌≡◌}
-use Prim.Native.Nat.{◌-◌, ◌≤◌}
-use lib.ListN.{length}
 use Rattle.machine.specs.Machine.{state_of}
 use Rattle.engine.specs.Demands.{calls}
 use Rattle.comparison.specs.drive.Drive.{deliveries_to, Tried}
@@ -9,8 +6,5 @@ use Rattle.comparison.proofs.drive.deliver_each.Given as goal
 
 abbrev pub invariant-loop-message : goal.invariant-loop-message
 invariant-loop-message l =
-    (length l.status ≡ length l.initial.status) × ((l.message ≤ l.messages) × Tried (calls l.encoded 0 l.source) (state_of l.memories l.buffer l.progress l.initial.status)
-    (deliveries_to l.message) l.delivered (state_of l.memories l.buffer l.progress l.status))
-
-abbrev pub decreases-loop-message : goal.decreases-loop-message
-decreases-loop-message l = l.messages - l.message
+    Tried (calls l.encoded 0 l.source) (state_of l.memories l.buffer l.progress l.initial.status)
+    (deliveries_to l.message) l.delivered (state_of l.memories l.buffer l.progress l.status)

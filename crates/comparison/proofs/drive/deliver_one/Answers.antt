@@ -10,8 +10,9 @@ returns-then-in_flight c =
     steps.delivered A.encoded.now A.source.now (state_of A.memories.now A.buffer.now A.progress.now A.status.now) A.message
     c.deliver.result _ c.deliver.ensures
 
-pub returns : goal.returns
-returns c =
+pub returns-else-in_flight : goal.returns-else-in_flight
+returns-else-in_flight c =
     let A = c.args in
-    steps.not_delivered A.encoded.now A.source.now (state_of A.memories.now A.buffer.now A.progress.now A.status.now) A.message
-    (sym c.in_flight.ensures ∙ c.if-in_flight.false)
+    rw c.if-in_flight.false
+    (steps.not_delivered A.encoded.now A.source.now (state_of A.memories.now A.buffer.now A.progress.now A.status.now) A.message
+    (sym c.in_flight.ensures ∙ c.if-in_flight.false))

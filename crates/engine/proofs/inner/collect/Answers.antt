@@ -1,138 +1,84 @@
 -- Each return is the call by the line that counts.
 use Rattle.std.specs.Prelude.{◌-◌, take, drop}
 use mathlib.Core.Path.{refl, sym, ◌∙◌}
-use native.Mathlib.Omega.{arith}
+use Rattle.std.proofs.lemmas.Result.{err_from_is_err_and}
 use Rattle.machine.specs.Machine.{state_of}
 use Rattle.plan.specs.Shaped.{plan_of}
+use Rattle.base.proofs.Codes.{code_some}
 use Rattle.engine.proofs.Lines as lines
 use Rattle.engine.proofs.Reading as reading
 use Rattle.engine.proofs.inner.collect.Goals as goal
 
-pub open-opening-requires : goal.open-opening-requires
-open-opening-requires c = refl
-
-pub returns-then-number-ne0 : goal.returns-then-number-ne0
-returns-then-number-ne0 c =
-    let opens = c.open-opening in
-    let if1 = c.if-number-ne0 in
+pub returns-in_err-table : goal.returns-in_err-table
+returns-in_err-table c =
     let A = c.args in
-    λ l h. lines.collect_read A.encoded.now A.route A.source.now (state_of A.memories.now A.buffer.now l A.status.now) A.grid.now
-    opens.result.number opens.ensures.number if1.true
+    let e = err_from_is_err_and c.from_residual.result c.from_residual.ensures.1 in
+    λ l h. rw (e.1, e.2) (lines.collect_read A.encoded.now A.route A.source.now (state_of A.memories.now A.buffer.now l A.status.now) A.grid.now _
+    c.in_err-table.ensures.number (code_some _))
 
-pub returns-then-grid-sizes : goal.returns-then-grid-sizes
-returns-then-grid-sizes c =
-    let opens = c.open-opening in
-    let if1 = c.if-number-ne0 in
-    let if2 = c.if-grid-sizes in
+pub returns-then-grid-table : goal.returns-then-grid-table
+returns-then-grid-table c =
     let A = c.args in
-    let p = plan_of opens.result.sizes.route opens.result.nest in
+    let x = c.in_ok-table.table.layout in
+    let p = plan_of x.sizes.route x.nest in
     λ l h. lines.collect_grid A.encoded.now A.route A.source.now (state_of A.memories.now A.buffer.now l A.status.now) A.grid.now p
-    (opens.ensures.opened if1.false)
-    (λ q. if2.true (q ∙ sym (opens.ensures.planned if1.false).0.cells))
+    c.in_ok-table.ensures.layout.opened (λ q. c.if-grid-table.true (q ∙ sym x.sized.cells))
 
-pub refusal_of_areas-n-requires : goal.refusal_of_areas-n-requires
-refusal_of_areas-n-requires c =
-    let opens = c.open-opening in
-    let if1 = c.if-number-ne0 in
-    record { sized = opens.ensures.planned if1.false; words_len = c.requires }
-
-pub returns-then-n-ne0 : goal.returns-then-n-ne0
-returns-then-n-ne0 c =
-    let opens = c.open-opening in
-    let if1 = c.if-number-ne0 in
-    let if2 = c.if-grid-sizes in
-    let refusal-of-areas = c.refusal_of_areas-n in
-    let if3 = c.if-n-ne0 in
+pub returns-in_err-check_areas : goal.returns-in_err-check_areas
+returns-in_err-check_areas c =
     let A = c.args in
-    let p = plan_of opens.result.sizes.route opens.result.nest in
-    λ l h. lines.collect_unfit A.encoded.now A.route A.source.now (state_of A.memories.now A.buffer.now l A.status.now) A.grid.now
-    p (opens.ensures.opened if1.false) (if2.false
-    ∙ (opens.ensures.planned if1.false).0.cells) refusal-of-areas.result (refusal-of-areas.ensures.0 l h) if3.true
-
-pub slice_bounds-tiles_left-end : goal.slice_bounds-tiles_left-end
-slice_bounds-tiles_left-end c =
-    let if1 = c.if-number-ne0 in
-    let opens = c.open-opening in
-    let refusal-of-areas = c.refusal_of_areas-n in
-    let if3 = c.if-n-ne0 in
-    let A = c.args in
-    omega (arith, c.requires, reading.few_words _ _ (opens.ensures.planned if1.false).0 A.progress.count (refusal-of-areas.ensures.1 if3.false))
+    let x = c.in_ok-table.table.layout in
+    let p = plan_of x.sizes.route x.nest in
+    let e = err_from_is_err_and c.from_residual-in_err-check_areas.result c.from_residual-in_err-check_areas.ensures.1 in
+    λ l h. rw (e.1, e.2) (lines.collect_unfit A.encoded.now A.route A.source.now (state_of A.memories.now A.buffer.now l A.status.now) A.grid.now p
+    c.in_ok-table.ensures.layout.opened (c.if-grid-table.false ∙ x.sized.cells) _
+    (c.in_err-check_areas.ensures.0 l h) (code_some _))
 
 pub tiles_left-requires : goal.tiles_left-requires
 tiles_left-requires c =
-    let if1 = c.if-number-ne0 in
-    let opens = c.open-opening in
-    let planned = opens.ensures.planned if1.false in
-    let refusal-of-areas = c.refusal_of_areas-n in
-    let if3 = c.if-n-ne0 in
     let A = c.args in
-    let p = plan_of opens.result.sizes.route opens.result.nest in
-    let few = reading.few_words _ _ planned.0 A.progress.count (refusal-of-areas.ensures.1 if3.false) in
-    let l = take (A.progress.count - 0) (drop 0 A.progress.words) in (
-      planned.0,
-      (
-        planned.1,
-        (lines.areas_are p A.source.now (state_of A.memories.now A.buffer.now l A.status.now)
-            (lines.unfit_none p A.source.now (state_of A.memories.now A.buffer.now l A.status.now) refusal-of-areas.result
-            (refusal-of-areas.ensures.0 l (reading.part_carries A.progress c.requires few)) if3.false).0).progress,
-      ),
-    )
+    let x = c.in_ok-table.table.layout in
+    let p = plan_of x.sizes.route x.nest in
+    let few = reading.few_words _ _ x.sized A.progress.count c.in_ok-check_areas.ensures.1 in
+    let l = take (A.progress.count - 0) (drop 0 A.progress.words) in
+    (lines.areas_are p A.source.now (state_of A.memories.now A.buffer.now l A.status.now)
+    (lines.unfit_none p A.source.now (state_of A.memories.now A.buffer.now l A.status.now) 0
+    (c.in_ok-check_areas.ensures.0 l (reading.part_carries A.progress c.requires few)) refl).0).progress
 
 pub returns-then-tiles_left : goal.returns-then-tiles_left
 returns-then-tiles_left c =
-    let opens = c.open-opening in
-    let if1 = c.if-number-ne0 in
-    let planned = opens.ensures.planned if1.false in
-    let if2 = c.if-grid-sizes in
-    let refusal-of-areas = c.refusal_of_areas-n in
-    let if3 = c.if-n-ne0 in
-    let tiles_left = c.tiles_left in
-    let if4 = c.if-tiles_left in
     let A = c.args in
-    let p = plan_of opens.result.sizes.route opens.result.nest in
-    let few = reading.few_words _ _ planned.0 A.progress.count (refusal-of-areas.ensures.1 if3.false) in
+    let x = c.in_ok-table.table.layout in
+    let p = plan_of x.sizes.route x.nest in
+    let few = reading.few_words _ _ x.sized A.progress.count c.in_ok-check_areas.ensures.1 in
     λ l h. lines.collect_left A.encoded.now A.route A.source.now (state_of A.memories.now A.buffer.now l A.status.now) A.grid.now p
-    (opens.ensures.opened if1.false) (if2.false
-    ∙ planned.0.cells) refusal-of-areas.result (refusal-of-areas.ensures.0 l h) if3.false tiles_left.result (tiles_left.ensures
-    ∙ sym (reading.left_as p _ l (reading.part_is A.progress l few h))) if4.true
+    c.in_ok-table.ensures.layout.opened (c.if-grid-table.false ∙ x.sized.cells) 0
+    (c.in_ok-check_areas.ensures.0 l h) refl c.tiles_left.result (c.tiles_left.ensures
+    ∙ sym (reading.left_as p _ l (reading.part_is A.progress l few h))) c.if-tiles_left.true
 
 pub copy_cells-requires : goal.copy_cells-requires
 copy_cells-requires c =
-    let opens = c.open-opening in
-    let if1 = c.if-number-ne0 in
-    let planned = opens.ensures.planned if1.false in
-    let if2 = c.if-grid-sizes in
-    let refusal-of-areas = c.refusal_of_areas-n in
-    let if3 = c.if-n-ne0 in
     let A = c.args in
-    let p = plan_of opens.result.sizes.route opens.result.nest in
-    let few = reading.few_words _ _ planned.0 A.progress.count (refusal-of-areas.ensures.1 if3.false) in
-    let l = take (A.progress.count - 0) (drop 0 A.progress.words) in record {
-      sized = (planned.0, planned.1.routed);
+    let x = c.in_ok-table.table.layout in
+    let p = plan_of x.sizes.route x.nest in
+    let few = reading.few_words _ _ x.sized A.progress.count c.in_ok-check_areas.ensures.1 in
+    let l = take (A.progress.count - 0) (drop 0 A.progress.words) in
+    record {
       memories_len = (
-        (lines.areas_are p A.source.now (state_of A.memories.now A.buffer.now l A.status.now) (lines.unfit_none p A.source.now
-            (state_of A.memories.now A.buffer.now l A.status.now) refusal-of-areas.result
-            (refusal-of-areas.ensures.0 l (reading.part_carries A.progress c.requires few))
-            if3.false).0).memories,
-        if2.false ∙ planned.0.cells,
+        (lines.areas_are p A.source.now (state_of A.memories.now A.buffer.now l A.status.now)
+            (lines.unfit_none p A.source.now (state_of A.memories.now A.buffer.now l A.status.now) 0
+            (c.in_ok-check_areas.ensures.0 l (reading.part_carries A.progress c.requires few)) refl).0).memories,
+        c.if-grid-table.false ∙ x.sized.cells,
       );
     }
 
 pub returns : goal.returns
 returns c =
-    let opens = c.open-opening in
-    let if1 = c.if-number-ne0 in
-    let planned = opens.ensures.planned if1.false in
-    let if2 = c.if-grid-sizes in
-    let refusal-of-areas = c.refusal_of_areas-n in
-    let if3 = c.if-n-ne0 in
-    let tiles_left = c.tiles_left in
-    let if4 = c.if-tiles_left in
-    let copy-cells = c.copy_cells in
     let A = c.args in
-    let p = plan_of opens.result.sizes.route opens.result.nest in
-    let few = reading.few_words _ _ planned.0 A.progress.count (refusal-of-areas.ensures.1 if3.false) in
+    let x = c.in_ok-table.table.layout in
+    let p = plan_of x.sizes.route x.nest in
+    let few = reading.few_words _ _ x.sized A.progress.count c.in_ok-check_areas.ensures.1 in
     λ l h. lines.collect_done A.encoded.now A.route A.source.now (state_of A.memories.now A.buffer.now l A.status.now) A.grid.now p
-    (opens.ensures.opened if1.false) (if2.false
-    ∙ planned.0.cells) refusal-of-areas.result (refusal-of-areas.ensures.0 l h) if3.false tiles_left.result (tiles_left.ensures
-    ∙ sym (reading.left_as p _ l (reading.part_is A.progress l few h))) copy-cells.new.grid if4.false copy-cells.ensures
+    c.in_ok-table.ensures.layout.opened (c.if-grid-table.false ∙ x.sized.cells) 0
+    (c.in_ok-check_areas.ensures.0 l h) refl c.tiles_left.result (c.tiles_left.ensures
+    ∙ sym (reading.left_as p _ l (reading.part_is A.progress l few h))) c.copy_cells.new.grid c.if-tiles_left.false c.copy_cells.ensures

@@ -1,47 +1,32 @@
 -- Each return is the call by the line that counts.
 use mathlib.Core.Path.{refl}
+use Rattle.std.proofs.lemmas.Result.{err_from_is_err_and}
 use Rattle.machine.specs.Machine.{state_of}
 use Rattle.plan.specs.Shaped.{plan_of}
+use Rattle.base.proofs.Codes.{code_some}
 use Rattle.engine.proofs.Lines as lines
 use Rattle.engine.proofs.inner.deliver.Goals as goal
 
-pub open-opening-requires : goal.open-opening-requires
-open-opening-requires c = refl
-
-pub returns-then-number-ne0 : goal.returns-then-number-ne0
-returns-then-number-ne0 c =
-    let opens = c.open-opening in
+pub returns-in_err-table : goal.returns-in_err-table
+returns-in_err-table c =
     let A = c.args in
-    λ l h. lines.deliver_read A.encoded.now A.route A.source.now (state_of A.memories.now A.buffer.now l A.status.now) A.message
-    opens.result.number opens.ensures.number c.if-number-ne0.true
+    let e = err_from_is_err_and c.from_residual.result c.from_residual.ensures.1 in
+    λ l h. rw (e.1, e.2) (lines.deliver_read A.encoded.now A.route A.source.now (state_of A.memories.now A.buffer.now l A.status.now) A.message _
+    c.in_err-table.ensures.number (code_some _))
 
-pub refusal_of_areas-n-requires : goal.refusal_of_areas-n-requires
-refusal_of_areas-n-requires c =
-    let opens = c.open-opening in
-    let if1 = c.if-number-ne0 in
-    record { sized = opens.ensures.planned if1.false; words_len = c.requires }
-
-pub returns-then-n-ne0 : goal.returns-then-n-ne0
-returns-then-n-ne0 c =
-    let opens = c.open-opening in
-    let if1 = c.if-number-ne0 in
-    let if2 = c.if-n-ne0 in
-    let refusal-of-areas = c.refusal_of_areas-n in
+pub returns-in_err-check_areas : goal.returns-in_err-check_areas
+returns-in_err-check_areas c =
     let A = c.args in
-    let p = plan_of opens.result.sizes.route opens.result.nest in
-    λ l h. lines.deliver_unfit A.encoded.now A.route A.source.now (state_of A.memories.now A.buffer.now l A.status.now) A.message p
-    (opens.ensures.opened if1.false) refusal-of-areas.result
-    (refusal-of-areas.ensures.0 l h) if2.true
+    let x = c.in_ok-table.table.layout in
+    let p = plan_of x.sizes.route x.nest in
+    let e = err_from_is_err_and c.from_residual-in_err-check_areas.result c.from_residual-in_err-check_areas.ensures.1 in
+    λ l h. rw (e.1, e.2) (lines.deliver_unfit A.encoded.now A.route A.source.now (state_of A.memories.now A.buffer.now l A.status.now) A.message p
+    c.in_ok-table.ensures.layout.opened _ (c.in_err-check_areas.ensures.0 l h) (code_some _))
 
 pub returns : goal.returns
 returns c =
-    let opens = c.open-opening in
-    let if1 = c.if-number-ne0 in
-    let if2 = c.if-n-ne0 in
-    let refusal-of-areas = c.refusal_of_areas-n in
-    let hand-over = c.hand_over in
     let A = c.args in
-    let p = plan_of opens.result.sizes.route opens.result.nest in
+    let x = c.in_ok-table.table.layout in
+    let p = plan_of x.sizes.route x.nest in
     λ l h. lines.deliver_over A.encoded.now A.route A.source.now (state_of A.memories.now A.buffer.now l A.status.now) A.message p
-    (opens.ensures.opened if1.false) refusal-of-areas.result
-    (refusal-of-areas.ensures.0 l h) if2.false hand-over.result hand-over.new.status hand-over.ensures
+    c.in_ok-table.ensures.layout.opened 0 (c.in_ok-check_areas.ensures.0 l h) refl _ c.hand_over.new.status c.hand_over.ensures

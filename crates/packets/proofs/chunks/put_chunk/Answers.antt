@@ -1,5 +1,6 @@
--- There already, or put to its put-chunk.
+-- There already, or put to its place.
 use Rattle.packets.proofs.ChunkAnswers.{placed_same, placed_new}
+use native.Mathlib.Omega.{arith}
 use mathlib.Core.Path.{sym, ◌∙◌}
 use Rattle.packets.proofs.chunks.put_chunk.Goals as goal
 
@@ -8,5 +9,5 @@ returns-then-is_there c = placed_same c.args.chunk c.args.words.now c.args.area.
 
 pub returns : goal.returns
 returns c =
-    placed_new c.args.chunk c.word_index.result c.args.words.now c.args.area.now c.copy_part.new.to c.args.mask
-    c.with_chunk.result (sym c.is_there.ensures ∙ c.if-is_there.false) c.word_index.ensures c.copy_part.ensures c.with_chunk.ensures
+    placed_new c.args.chunk _ c.args.words.now _ c.args.area.now c.args.mask c.with_chunk.result (sym c.is_there.ensures ∙ c.if-is_there.false)
+    (omega arith) c.copy_from_slice.ensures.after c.with_chunk.ensures

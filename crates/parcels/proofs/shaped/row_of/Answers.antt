@@ -5,9 +5,6 @@ use Rattle.parcels.proofs.Rows.{box_places, row_small}
 use Rattle.parcels.proofs.shaped.Rows as R
 use Rattle.parcels.proofs.shaped.row_of.Goals as goal
 
-pub overflow_sub-nest : goal.overflow_sub-nest
-overflow_sub-nest c = omega (arith, c.requires.accepted.0.dimensions_least)
-
 pub place-at-requires : goal.place-at-requires
 place-at-requires c = box_places _ c.requires.accepted.0 _ c.requires.accepted.1.1.0
 

@@ -16,27 +16,6 @@ end_in_row-limit-requires c = record { accepted = (c.requires.accepted.0, (c.loo
 pub reach_of-run-requires : goal.reach_of-run-requires
 reach_of-run-requires c = record { accepted = (c.requires.accepted.0, (c.loop-e-test.true, c.requires.accepted.1.0)); by_index = c.requires.by_index }
 
-pub offset_bounds-starts-runs : goal.offset_bounds-starts-runs
-offset_bounds-starts-runs c = omega (arith, c.loop-e-test.true, c.loop-e.invariant.1.few, c.requires.accepted.0.distances_most)
-
-pub bounds-starts-runs : goal.bounds-starts-runs
-bounds-starts-runs c = omega (arith, c.loop-e-test.true, c.loop-e.invariant.1.few, c.requires.accepted.0.distances_most)
-
-pub offset_bounds-ends-runs : goal.offset_bounds-ends-runs
-offset_bounds-ends-runs c = omega (arith, c.loop-e-test.true, c.loop-e.invariant.1.few, c.requires.accepted.0.distances_most)
-
-pub bounds-ends-runs : goal.bounds-ends-runs
-bounds-ends-runs c = omega (arith, c.loop-e-test.true, c.loop-e.invariant.1.few, c.requires.accepted.0.distances_most)
-
-pub overflow_add-runs : goal.overflow_add-runs
-overflow_add-runs c = omega (arith, c.loop-e-test.true, c.loop-e.invariant.1.few, c.requires.accepted.0.distances_most)
-
-pub overflow_step-e : goal.overflow_step-e
-overflow_step-e c = omega (arith, c.loop-e-test.true, c.requires.accepted.0.distances_most)
-
-pub loop-e-smaller : goal.loop-e-smaller
-loop-e-smaller c = omega (arith, c.loop-e-test.true)
-
 pub loop-e-preserved : goal.loop-e-preserved
 loop-e-preserved c =
     let loop-test = c.loop-e-test in (

@@ -1,10 +1,6 @@
 -- `parcels::shaped::unpack` meets its contract: the words of the first r rows are at their cells.
-use Prim.Native.Nat.{◌-◌}
 use Rattle.parcels.proofs.shaped.Found.{Unpacking}
 use Rattle.parcels.proofs.shaped.unpack.Given as goal
 
 abbrev pub invariant-loop-r : goal.invariant-loop-r
-invariant-loop-r l = Unpacking l.nest l.rows l.initial.memory l.words l.memory l.count l.r
-
-abbrev pub decreases-loop-r : goal.decreases-loop-r
-decreases-loop-r l = l.n - l.r
+invariant-loop-r l = Unpacking l.layout.nest l.rows l.initial.memory l.words l.memory l.count l.r

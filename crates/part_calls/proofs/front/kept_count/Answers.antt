@@ -10,26 +10,21 @@ use Rattle.part_calls.proofs.front.kept_count.Goals as goal
 pub slice_bounds-kept-end : goal.slice_bounds-kept-end
 slice_bounds-kept-end c =
     let A = c.args in
-    front.cells_fit A.nest A.sizes A.b c.requires.0.0 (replicate {A = ℕ} 16384 0) (length-replicate {A = ℕ} 16384 0)
+    front.cells_fit A.table.now.layout.nest A.table.now.layout.sizes A.b c.args.table.now.layout.sized (replicate {A = ℕ} 16384 0) (length-replicate {A = ℕ} 16384 0)
 
 pub slice_bounds-keep_cells-end : goal.slice_bounds-keep_cells-end
 slice_bounds-keep_cells-end c =
     let A = c.args in
-    front.lent_cells A.nest A.sizes A.b c.requires.0.0 (replicate {A = ℕ} 16384 0) (length-replicate {A = ℕ} 16384 0)
+    front.lent_cells A.table.now.layout.nest A.table.now.layout.sizes A.b c.args.table.now.layout.sized (replicate {A = ℕ} 16384 0) (length-replicate {A = ℕ} 16384 0)
 
 pub keep_cells-requires : goal.keep_cells-requires
 keep_cells-requires c =
-    let A = c.args in (
-      c.requires.0,
-      (
-        c.requires.1,
-        (front.lent_long A.nest A.sizes A.b c.requires.0.0 (replicate {A = ℕ} 16384 0) (length-replicate {A = ℕ} 16384 0), refl),
-      ),
-    )
+    let A = c.args in
+    (c.requires, (front.lent_long A.table.now.layout.nest A.table.now.layout.sizes A.b c.args.table.now.layout.sized (replicate {A = ℕ} 16384 0) (length-replicate {A = ℕ} 16384 0), refl))
 
 pub returns : goal.returns
 returns c =
     let A = c.args in
     let keep-cells = c.keep_cells in
-    front.cells_few A.nest A.sizes A.b c.requires.0.0 (keeps (plan_of A.sizes.route A.nest) A.b) keep-cells.result
+    front.cells_few A.table.now.layout.nest A.table.now.layout.sizes A.b c.args.table.now.layout.sized (keeps (plan_of A.table.now.layout.sizes.route A.table.now.layout.nest) A.b) keep-cells.result
     keep-cells.ensures.1

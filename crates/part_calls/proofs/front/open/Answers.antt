@@ -1,22 +1,20 @@
--- `part_calls::front::open` meets its contract: the first true line, or the nest.
+-- `part_calls::front::open` meets its contract: the first true line, or the table.
+use Rattle.std.proofs.lemmas.Result.{err_from_is_err_and}
 use Rattle.part_calls.proofs.front.Front as front
 use Rattle.part_calls.proofs.front.open.Goals as goal
 
-pub returns-then-board-ne0 : goal.returns-then-board-ne0
-returns-then-board-ne0 c =
+pub returns-in_err-table : goal.returns-in_err-table
+returns-in_err-table c =
     let A = c.args in
-    let read = c.with_sizes-board in
-    front.closed_read A.encoded.now A.route A.processor read.result read.ensures c.if-board-ne0.true
+    let p = err_from_is_err_and c.from_residual.result c.from_residual.ensures.1 in
+    rw (p.1, p.2) (front.closed_read A.encoded.now A.route A.processor _ c.in_err-table.ensures)
 
-pub returns-then-processor-sizes : goal.returns-then-processor-sizes
-returns-then-processor-sizes c =
+pub returns-then-processor-table : goal.returns-then-processor-table
+returns-then-processor-table c =
     let A = c.args in
-    let read = c.with_sizes-board in
-    front.closed_beyond A.encoded.now A.route A.processor read.result read.ensures c.if-board-ne0.false c.closed.result
-    c.closed.ensures c.if-processor-sizes.true
+    front.closed_beyond A.encoded.now A.route A.processor _ c.in_ok-table.ensures c.if-processor-table.true
 
 pub returns : goal.returns
 returns c =
     let A = c.args in
-    let read = c.with_sizes-board in
-    front.opens A.encoded.now A.route A.processor read.result read.ensures c.if-board-ne0.false c.if-processor-sizes.false
+    front.opens A.encoded.now A.route A.processor _ c.in_ok-table.ensures c.if-processor-table.false

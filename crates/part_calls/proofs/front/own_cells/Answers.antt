@@ -6,13 +6,13 @@ use Rattle.part_calls.proofs.front.Front as front
 use Rattle.part_calls.proofs.front.own_cells.Goals as goal
 
 pub mark_own-requires : goal.mark_own-requires
-mark_own-requires c = (c.requires.sized.0, (c.requires.sized.1.0, (c.requires.sized.1.1, c.requires.owned_len.0)))
+mark_own-requires c = (c.requires.low, c.requires.owned_len.0)
 
 pub fill_counts-requires : goal.fill_counts-requires
 fill_counts-requires c =
     let A = c.args in
     let mark_own = c.mark_own in (
-      front.marks_few A.nest A.sizes A.b c.requires.sized.0 (owns (plan_of A.sizes.route A.nest) A.b)
+      front.marks_few A.layout.now.nest A.layout.now.sizes A.b c.args.layout.now.sized (owns (plan_of A.layout.now.sizes.route A.layout.now.nest) A.b)
           mark_own.new.marks (mark_own.auto.marks ∙ c.requires.owned_len.0),
       c.requires.owned_len.1,
     )
@@ -24,9 +24,9 @@ rank-requires c =
     let mark_own = c.mark_own in (
       fill-counts.ensures,
       (
-        front.cells_below A.nest A.sizes A.b c.requires.sized.0 (owns (plan_of A.sizes.route A.nest) A.b)
+        front.cells_below A.layout.now.nest A.layout.now.sizes A.b c.args.layout.now.sized (owns (plan_of A.layout.now.sizes.route A.layout.now.nest) A.b)
             _ mark_own.ensures,
-        front.marks_few A.nest A.sizes A.b c.requires.sized.0 (owns (plan_of A.sizes.route A.nest) A.b)
+        front.marks_few A.layout.now.nest A.layout.now.sizes A.b c.args.layout.now.sized (owns (plan_of A.layout.now.sizes.route A.layout.now.nest) A.b)
             mark_own.new.marks (mark_own.auto.marks ∙ c.requires.owned_len.0),
       ),
     )
@@ -38,6 +38,6 @@ returns c =
     let A = c.args in
     let rank = c.rank in (
       record { are = mark_own.ensures; counted = fill-counts.ensures },
-      front.all_marked A.nest A.sizes A.b c.requires.sized.0 (owns (plan_of A.sizes.route A.nest) A.b) _ mark_own.ensures rank.result
+      front.all_marked A.layout.now.nest A.layout.now.sizes A.b c.args.layout.now.sized (owns (plan_of A.layout.now.sizes.route A.layout.now.nest) A.b) _ mark_own.ensures rank.result
           rank.ensures,
     )

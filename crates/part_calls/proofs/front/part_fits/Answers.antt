@@ -1,68 +1,50 @@
 -- `part_calls::front::part_fits` meets its contract: each length in its turn.
-use mathlib.Core.Path.{sym, ap, ◌∙◌}
-use native.Mathlib.Omega.{arith}
-use Rattle.std.specs.Prelude.{eqb, length}
+use mathlib.Core.Path.{◌≡◌, sym, ap, ◌∙◌}
+use mathlib.Core.Bool.{true}
+use borrow.Author.Tests.{eqb-true, eq-eqb}
+use Rattle.std.specs.Prelude.{eqb, length, get_or}
 use Rattle.machine.specs.Machine.{state_of}
 use Rattle.plan.specs.Shaped.{plan_of}
 use Rattle.part_calls.proofs.front.Front as front
 use Rattle.part_calls.proofs.front.part_fits.Goals as goal
+use Rattle.part_calls.proofs.front.part_fits.Goals.{then-memory-many, else-memory-many, then-mail-starts, else-mail-starts}
 
-pub returns-then-memory-many : goal.returns-then-memory-many
-returns-then-memory-many c =
+pub returns-then-words-eq3 : goal.returns-then-words-eq3
+returns-then-words-eq3 c =
     let A = c.args in
-    let if1 = c.if-memory-many in
-    let p = plan_of A.sizes.route A.nest in
-    λ l h. front.no_memory p A.b (state_of A.memory.now A.mail.now l A.marks.now) (λ q. if1.true (q ∙ sym c.requires.1.kept))
+    let p = plan_of A.table.now.layout.sizes.route A.table.now.layout.nest in
+    let all_mail = front.all_mail A.table.now A.b A.ordinals.now A.starts.now c.requires.0 A.messages c.requires.1.messages in
+    elim c.if-mail-starts.branch [
+      | then-mail-starts w ↦
+          elim c.if-memory-many.branch [
+            | then-memory-many v ↦
+                λ l h. ap (eqb (length A.marks.now)) (front.all_handled A.table.now A.b A.ordinals.now A.starts.now c.requires.0 A.messages
+                c.requires.1.messages)
+                ∙ front.by_marks p A.b (state_of A.memory.now A.mail.now l A.marks.now) (v.if-memory-many.true ∙ c.requires.1.kept)
+                (eqb-true _ _ (sym v.value-is ∙ w.if-mail-starts.true) ∙ all_mail) (sym h ∙ eqb-true _ _ (sym w.value-is ∙ c.if-words-eq3.true))
+            | else-memory-many v ↦ absurd (v.if-memory-many.false (eqb-true _ _ (sym v.value-is ∙ w.if-mail-starts.true)))
+          ]
+      | else-mail-starts w ↦ λ l h. cc
+    ]
 
-pub offset_bounds-starts-messages : goal.offset_bounds-starts-messages
-offset_bounds-starts-messages c =
+pub returns-else-words-eq3 : goal.returns-else-words-eq3
+returns-else-words-eq3 c =
     let A = c.args in
-    omega (arith, front.last_low A.nest A.sizes A.b A.lens.now A.ordinals.now A.starts.now c.requires.0 A.messages c.requires.1.messages)
-
-pub bounds-starts-messages : goal.bounds-starts-messages
-bounds-starts-messages c =
-    let A = c.args in
-    front.last_low A.nest A.sizes A.b A.lens.now A.ordinals.now A.starts.now c.requires.0 A.messages c.requires.1.messages
-
-pub returns-then-mail-word_index : goal.returns-then-mail-word_index
-returns-then-mail-word_index c =
-    let A = c.args in
-    let word-index = c.word_index in
-    let if2 = c.if-mail-word_index in
-    let p = plan_of A.sizes.route A.nest in
-    let all_mail = word-index.ensures ∙ front.all_mail A.nest A.sizes A.b A.lens.now A.ordinals.now A.starts.now c.requires.0 A.messages
-    c.requires.1.messages in
-    λ l h. front.no_mail p A.b (state_of A.memory.now A.mail.now l A.marks.now) (λ q. if2.true (q ∙ sym all_mail))
-
-pub returns-then-words-ne3 : goal.returns-then-words-ne3
-returns-then-words-ne3 c =
-    let A = c.args in
-    let if3 = c.if-words-ne3 in
-    let p = plan_of A.sizes.route A.nest in
-    λ l h. front.no_record p A.b (state_of A.memory.now A.mail.now l A.marks.now) (λ q. if3.true (h ∙ q))
-
-pub offset_bounds-ordinals-messages : goal.offset_bounds-ordinals-messages
-offset_bounds-ordinals-messages c =
-    let A = c.args in
-    omega (arith, front.last_low A.nest A.sizes A.b A.lens.now A.ordinals.now A.starts.now c.requires.0 A.messages c.requires.1.messages)
-
-pub bounds-ordinals-messages : goal.bounds-ordinals-messages
-bounds-ordinals-messages c =
-    let A = c.args in
-    front.last_low A.nest A.sizes A.b A.lens.now A.ordinals.now A.starts.now c.requires.0 A.messages c.requires.1.messages
-
-pub returns-else-words-ne3 : goal.returns-else-words-ne3
-returns-else-words-ne3 c =
-    let A = c.args in
-    let word-index = c.word_index in
-    let word-index2 = c.word_index-else-words-ne3 in
-    let if1 = c.if-memory-many in
-    let if2 = c.if-mail-word_index in
-    let if3 = c.if-words-ne3 in
-    let p = plan_of A.sizes.route A.nest in
-    let all_mail = word-index.ensures ∙ front.all_mail A.nest A.sizes A.b A.lens.now A.ordinals.now A.starts.now c.requires.0 A.messages
-    c.requires.1.messages in
-    λ l h. ap (eqb (length A.marks.now)) (word-index2.ensures ∙ front.all_handled A.nest A.sizes A.b A.lens.now A.ordinals.now
-    A.starts.now c.requires.0 A.messages c.requires.1.messages)
-    ∙ front.by_marks p A.b (state_of A.memory.now A.mail.now l A.marks.now) (if1.false ∙ c.requires.1.kept) (if2.false ∙ all_mail)
-    (sym h ∙ if3.false)
+    let p = plan_of A.table.now.layout.sizes.route A.table.now.layout.nest in
+    let all_mail = front.all_mail A.table.now A.b A.ordinals.now A.starts.now c.requires.0 A.messages c.requires.1.messages in
+    elim c.if-mail-starts.branch [
+      | then-mail-starts w ↦
+          λ l h. c.if-words-eq3.false
+          ∙ front.no_record p A.b (state_of A.memory.now A.mail.now l A.marks.now)
+          (λ q. let e : eqb A.words 3 ≡ true = eq-eqb _ _ (h ∙ q) in cc)
+      | else-mail-starts w ↦
+          elim c.if-memory-many.branch [
+            | then-memory-many v ↦
+                λ l h. c.if-words-eq3.false
+                ∙ front.no_mail p A.b (state_of A.memory.now A.mail.now l A.marks.now)
+                (λ q. let e : eqb (length A.mail.now) (get_or A.starts.now A.messages 0) ≡ true = eq-eqb _ _ (q ∙ sym all_mail) in cc)
+            | else-memory-many v ↦
+                λ l h. c.if-words-eq3.false
+                ∙ front.no_memory p A.b (state_of A.memory.now A.mail.now l A.marks.now) (λ q. v.if-memory-many.false (q ∙ sym c.requires.1.kept))
+          ]
+    ]

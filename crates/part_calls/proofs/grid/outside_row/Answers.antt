@@ -25,30 +25,6 @@ bounds-row-y c =
     let loop-test = c.loop-y-test in
     omega (arith, loop.invariant.stored.long, loop-test.true)
 
-pub offset_bounds-row-y-in-loop-y : goal.offset_bounds-row-y-in-loop-y
-offset_bounds-row-y-in-loop-y c =
-    let loop = c.loop-y in
-    let loop-test = c.loop-y-test in
-    omega (arith, c.requires, loop.invariant.stored.long, loop-test.true)
-
-pub bounds-row-y-in-loop-y : goal.bounds-row-y-in-loop-y
-bounds-row-y-in-loop-y c =
-    let loop = c.loop-y in
-    let loop-test = c.loop-y-test in
-    omega (arith, loop.invariant.stored.long, loop-test.true)
-
-pub overflow_add-y : goal.overflow_add-y
-overflow_add-y c =
-    let loop = c.loop-y in
-    let loop-test = c.loop-y-test in
-    omega (arith, c.requires, loop.invariant.stored.long, loop-test.true)
-
-pub loop-y-smaller : goal.loop-y-smaller
-loop-y-smaller c =
-    let loop = c.loop-y in
-    let loop-test = c.loop-y-test in
-    omega (arith, loop.invariant.stored.long, loop-test.true)
-
 pub loop-y-preserved : goal.loop-y-preserved
 loop-y-preserved c =
     let A = c.args in

@@ -9,7 +9,7 @@ returns-then-mark-eq1 c =
     let if1 = c.if-mark-eq1 in
     sym (pick_true _ _ _ (eq-eqb _ _ if1.true))
 
-pub returns : goal.returns
-returns c =
+pub returns-else-mark-eq1 : goal.returns-else-mark-eq1
+returns-else-mark-eq1 c =
     let if1 = c.if-mark-eq1 in
     sym (pick_false _ _ _ (ne_eqb _ _ if1.false))

@@ -1,6 +1,8 @@
 -- `grid::put_cells` meets its contract: the words passed are the grid's, the rest as it was.
 use mathlib.Core.Logic.{inl, inr}
+use mathlib.Core.Path.{◌∙◌}
 use native.Mathlib.Omega.{arith}
+use Rattle.std.proofs.lemmas.List.{set-get_or}
 use Rattle.part_calls.proofs.Collecting as collecting
 use Rattle.part_calls.proofs.grid.put_cells.Goals as goal
 use Rattle.part_calls.proofs.grid.put_cells.Goals.{then-kept-c-eq1, else-kept-c-eq1}
@@ -55,18 +57,6 @@ bounds-grid-c c =
     let loop-test = c.loop-c-test in
     omega (arith, loop.invariant.filled.stored.long, loop-test.true)
 
-pub offset_bounds-grid-c-then-kept-c-eq1 : goal.offset_bounds-grid-c-then-kept-c-eq1
-offset_bounds-grid-c-then-kept-c-eq1 c =
-    let loop = c.loop-c in
-    let loop-test = c.loop-c-test in
-    omega (arith, loop.invariant.filled.stored.long, loop-test.true, c.requires.few)
-
-pub bounds-grid-c-then-kept-c-eq1 : goal.bounds-grid-c-then-kept-c-eq1
-bounds-grid-c-then-kept-c-eq1 c =
-    let loop = c.loop-c in
-    let loop-test = c.loop-c-test in
-    omega (arith, loop.invariant.filled.stored.long, loop-test.true)
-
 pub overflow_add-n : goal.overflow_add-n
 overflow_add-n c =
     let A = c.args in
@@ -79,18 +69,6 @@ overflow_add-n c =
       c.requires.few,
     )
 
-pub overflow_add-c : goal.overflow_add-c
-overflow_add-c c =
-    let loop = c.loop-c in
-    let loop-test = c.loop-c-test in
-    omega (arith, loop.invariant.filled.stored.long, loop-test.true, c.requires.few)
-
-pub loop-c-smaller : goal.loop-c-smaller
-loop-c-smaller c =
-    let loop = c.loop-c in
-    let loop-test = c.loop-c-test in
-    omega (arith, loop.invariant.filled.stored.long, loop-test.true)
-
 pub loop-c-preserved : goal.loop-c-preserved
 loop-c-preserved c =
     let A = c.args in
@@ -98,7 +76,7 @@ loop-c-preserved c =
     let loop-test = c.loop-c-test in
     collecting.put_next A.owned.now A.kept.now A.memory.now A.grid.now c.requires loop.grid loop.c loop.n loop.invariant
     (omega (arith, loop.invariant.filled.stored.long, loop-test.true)) c.if-kept-c-eq1.grid c.if-kept-c-eq1.n
-    (elim c.if-kept-c-eq1.branch [ then-kept-c-eq1 w ↦ inl (w.if-kept-c-eq1.true, (_, w.own_word.ensures, w.grid-is), w.n-is) | else-kept-c-eq1 w ↦ inr (w.if-kept-c-eq1.false, w.grid-is, w.n-is) ])
+    (elim c.if-kept-c-eq1.branch [ then-kept-c-eq1 w ↦ inl (w.if-kept-c-eq1.true, (_, w.own_word.ensures, w.grid-is), w.n-is) | else-kept-c-eq1 w ↦ inr (w.if-kept-c-eq1.false, w.grid-is ∙ set-get_or loop.grid loop.c 0, w.n-is) ])
 
 pub shape_of-grid : goal.shape_of-grid
 shape_of-grid c =

@@ -5,12 +5,7 @@ use Rattle.part_calls.proofs.Answers as answers
 use Rattle.part_calls.proofs.inner.fresh_part.Goals as goal
 
 pub prepare-messages-requires : goal.prepare-messages-requires
-prepare-messages-requires c = record { sized = c.requires; lens_len = (refl, (refl, refl)) }
-
-pub kept_count-many-requires : goal.kept_count-many-requires
-kept_count-many-requires c =
-    let prepare = c.prepare-messages in
-    (prepare.ensures.0.planned, c.requires.1.1)
+prepare-messages-requires c = record { low = c.requires; lengths = (refl, refl) }
 
 pub part_fits-requires : goal.part_fits-requires
 part_fits-requires c =
@@ -23,18 +18,15 @@ returns-then-not-part_fits c =
     let A = c.args in
     let part_fits_lem = c.part_fits in
     let if1 = c.if-not-part_fits in
-    let p = plan_of A.sizes.route A.nest in
-    λ l h. answers.fresh_nine p A.b c.requires.1.1 A.memory.now A.mail.now l A.marks.now part_fits_lem.result (part_fits_lem.ensures l h)
+    let p = plan_of A.table.now.layout.sizes.route A.table.now.layout.nest in
+    λ l h. answers.fresh_nine p A.b c.requires A.memory.now A.mail.now l A.marks.now part_fits_lem.result (part_fits_lem.ensures l h)
     if1.true
 
-pub returns-else-not-part_fits : goal.returns-else-not-part_fits
-returns-else-not-part_fits c =
+pub returns : goal.returns
+returns c =
     let A = c.args in
     let part_fits_lem = c.part_fits in
     let if1 = c.if-not-part_fits in
-    let zero-words = c.zero_words in
-    let zero-words2 = c.zero_words-else-not-part_fits in
-    let zero-bytes = c.zero_bytes in
-    let p = plan_of A.sizes.route A.nest in
-    λ l h. answers.fresh_done p A.b c.requires.1.1 A.memory.now A.mail.now l A.marks.now part_fits_lem.result (part_fits_lem.ensures l h)
-    if1.false _ _ _ zero-words.ensures zero-words2.ensures zero-bytes.ensures
+    let p = plan_of A.table.now.layout.sizes.route A.table.now.layout.nest in
+    λ l h. answers.fresh_done p A.b c.requires A.memory.now A.mail.now l A.marks.now part_fits_lem.result (part_fits_lem.ensures l h)
+    if1.false _ _ _ (c.fill.ensures.after (λ y h. h)) (c.fill-2.ensures.after (λ y h. h)) (c.fill-3.ensures.after (λ y h. h))

@@ -8,5 +8,5 @@ returns c =
     let own-count = c.own_count-own in
     let kept-count = c.kept_count-kept in
     let A = c.args in
-    front.sizes_are A.nest A.sizes A.b _ _ _ prepare.ensures.0 prepare.result prepare.ensures.1 own-count.result
+    front.sizes_are A.table.now A.b _ _ prepare.ensures.0 prepare.result prepare.ensures.1 own-count.result
     own-count.ensures.0 kept-count.result kept-count.ensures.0

@@ -8,7 +8,7 @@ use Rattle.part_calls.proofs.listing.put_rows.Goals as goal
 pub loop-m-init : goal.loop-m-init
 loop-m-init c =
     let A = c.args in
-    let p = plan_of A.sizes.route A.nest in
+    let p = plan_of A.table.now.layout.sizes.route A.table.now.layout.nest in
     rows.rows_start p A.b A.out.now
 
 pub put_row-requires : goal.put_row-requires
@@ -17,23 +17,13 @@ put_row-requires c =
     let loop = c.loop-m in
     record { known = (c.requires.known.0, omega (arith, loop-test.true, c.requires.known.1)); out_len = loop.invariant.long ∙ c.requires.out_len }
 
-pub overflow_add-m : goal.overflow_add-m
-overflow_add-m c =
-    let loop-test = c.loop-m-test in
-    omega (arith, loop-test.true, c.requires.known.1, c.requires.known.0.few)
-
-pub loop-m-smaller : goal.loop-m-smaller
-loop-m-smaller c =
-    let loop-test = c.loop-m-test in
-    omega (arith, loop-test.true)
-
 pub loop-m-preserved : goal.loop-m-preserved
 loop-m-preserved c =
     let A = c.args in
     let loop = c.loop-m in
     let loop-test = c.loop-m-test in
     let put_row = c.put_row in
-    let p = plan_of A.sizes.route A.nest in
+    let p = plan_of A.table.now.layout.sizes.route A.table.now.layout.nest in
     rows.rows_next p A.b A.out.now loop.out loop.m loop.invariant (omega (arith, loop-test.true, c.requires.known.1)) c.requires.out_len _
     put_row.ensures
 
@@ -47,5 +37,5 @@ returns c =
     let A = c.args in
     let loop = c.loop-m in
     let loop-test = c.loop-m-test in
-    let p = plan_of A.sizes.route A.nest in
+    let p = plan_of A.table.now.layout.sizes.route A.table.now.layout.nest in
     rows.rows_all p A.b A.out.now loop.out loop.m loop.invariant c.requires.out_len (omega (arith, loop-test.false, c.requires.known.1))

@@ -5,7 +5,7 @@ use Rattle.part_calls.proofs.Rows as rows
 use Rattle.part_calls.proofs.listing.put_rows.Given as goal
 
 abbrev pub invariant-loop-m : goal.invariant-loop-m
-invariant-loop-m l = rows.Rowed (plan_of l.sizes.route l.nest) l.b l.initial.out l.out l.m
+invariant-loop-m l = rows.Rowed (plan_of l.table.layout.sizes.route l.table.layout.nest) l.b l.initial.out l.out l.m
 
 abbrev pub decreases-loop-m : goal.decreases-loop-m
 decreases-loop-m l = l.messages - l.m

@@ -3,12 +3,11 @@ use Rattle.part_calls.proofs.tile.Tiles.{given_box, calculated}
 use Rattle.part_calls.proofs.tile.calculate.Goals as goal
 
 pub calculate_box-requires : goal.calculate_box-requires
-calculate_box-requires c =
-    let g = c.requires in
-    (g.sized, given_box _ _ _ _ _ _ _ _ _ _ _ _ g c.box_tile-number.ensures.0)
+calculate_box-requires c = given_box _ _ _ _ _ _ _ _ _ _ c.requires c.box_tile-number.ensures.0
 
 pub returns : goal.returns
 returns c =
+    let layout = c.args.table.now.layout in
     let g = c.requires in
-    calculated _ _ g.sized.accepted g.tabled.routed _ _ g.low g.mine _ _ g.kept_are g.own_are _ _ _ _ c.box_tile-number.ensures.0
+    calculated _ _ layout.sized.accepted layout.routed _ _ g.low g.mine _ _ g.kept_are g.own_are _ _ _ _ c.box_tile-number.ensures.0
     g.memory c.calculate_box.ensures

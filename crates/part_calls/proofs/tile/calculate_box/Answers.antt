@@ -11,22 +11,22 @@ use Rattle.part_calls.proofs.tile.Tiles.{row_worked}
 use Rattle.part_calls.proofs.tile.calculate_box.Goals as goal
 
 pub bounds_of-bounds-requires : goal.bounds_of-bounds-requires
-bounds_of-bounds-requires c = (c.requires.0, c.requires.1.low)
+bounds_of-bounds-requires c = c.requires.low
 
 pub backs_of-back-requires : goal.backs_of-back-requires
-backs_of-back-requires c = (c.requires.0.accepted, record { is = refl })
+backs_of-back-requires c = (c.args.layout.now.sized.accepted, record { is = refl })
 
 pub overflow_sub-last : goal.overflow_sub-last
-overflow_sub-last c = omega (arith, c.requires.0.accepted.dimensions_least)
+overflow_sub-last c = omega (arith, c.args.layout.now.sized.accepted.dimensions_least)
 
 pub product-rows-requires : goal.product-rows-requires
-product-rows-requires c = fewer _ c.requires.0.accepted _ (box_counts _ c.requires.0.accepted _ c.bounds_of-bounds.ensures.0)
+product-rows-requires c = fewer _ c.args.layout.now.sized.accepted _ (box_counts _ c.args.layout.now.sized.accepted _ c.bounds_of-bounds.ensures.0)
 
 pub offset_bounds-lengths-last : goal.offset_bounds-lengths-last
-offset_bounds-lengths-last c = omega (arith, c.requires.0.accepted.dimensions_most)
+offset_bounds-lengths-last c = omega (arith, c.args.layout.now.sized.accepted.dimensions_most)
 
 pub bounds-lengths-last : goal.bounds-lengths-last
-bounds-lengths-last c = omega (arith, c.requires.0.accepted.dimensions_most)
+bounds-lengths-last c = omega (arith, c.args.layout.now.sized.accepted.dimensions_most)
 
 pub loop-r-init : goal.loop-r-init
 loop-r-init c = (omega arith, (refl, storing_start _ _ _ _))
@@ -35,25 +35,22 @@ pub overflow_mul-r : goal.overflow_mul-r
 overflow_mul-r c =
     omega (
       arith,
-      (box_in _ c.requires.0.accepted _ c.bounds_of-bounds.ensures.0 c.loop-r.r _ _ c.product-rows.ensures refl
+      (box_in _ c.args.layout.now.sized.accepted _ c.bounds_of-bounds.ensures.0 c.loop-r.r _ _ c.product-rows.ensures refl
           c.loop-r-test.true).0,
-      tile_few _ c.requires.0.accepted _ c.bounds_of-bounds.ensures.0,
+      tile_few _ c.args.layout.now.sized.accepted _ c.bounds_of-bounds.ensures.0,
     )
 
 pub cell_in-cell-requires : goal.cell_in-cell-requires
 cell_in-cell-requires c = (
-  c.requires.0.accepted,
-  (
-    c.bounds_of-bounds.ensures.0,
-    (let b = box_in _ c.requires.0.accepted _ c.bounds_of-bounds.ensures.0 c.loop-r.r _ _ c.product-rows.ensures refl
-        c.loop-r-test.true in omega (arith, b.0, b.1)),
-  ),
+  c.bounds_of-bounds.ensures.0,
+  (let b = box_in _ c.args.layout.now.sized.accepted _ c.bounds_of-bounds.ensures.0 c.loop-r.r _ _ c.product-rows.ensures refl
+      c.loop-r-test.true in omega (arith, b.0, b.1)),
 )
 
 pub row_in-row-requires : goal.row_in-row-requires
 row_in-row-requires c =
-    let a = c.requires.0.accepted in
-    let g = c.requires.1 in
+    let a = c.args.layout.now.sized.accepted in
+    let g = c.requires in
     let is = c.bounds_of-bounds.ensures in record {
       accepted = (a, (c.backs_of-back.ensures, (g.kept_marks, g.own_marks)));
       located = (relocated _ _ _ c.cell_in-cell.ensures, row_fits _ a _ is.0 c.loop-r.r _ c.cell_in-cell.ensures);
@@ -63,14 +60,14 @@ row_in-row-requires c =
 
 pub store-requires : goal.store-requires
 store-requires c =
-    let g = c.requires.1 in
+    let g = c.requires in
     c.row_in-row.ensures.readable _ _ g.source (c.loop-r.invariant.1.0 ∙ g.memory)
 
 pub overflow_step-r : goal.overflow_step-r
 overflow_step-r c =
     omega (
       arith,
-      row_count _ c.requires.0.accepted _ c.bounds_of-bounds.ensures.0,
+      row_count _ c.args.layout.now.sized.accepted _ c.bounds_of-bounds.ensures.0,
       c.product-rows.ensures,
       c.loop-r-test.true,
     )
@@ -80,8 +77,8 @@ loop-r-smaller c = omega (arith, c.loop-r-test.true)
 
 pub loop-r-preserved : goal.loop-r-preserved
 loop-r-preserved c =
-    let a = c.requires.0.accepted in
-    let g = c.requires.1 in
+    let a = c.args.layout.now.sized.accepted in
+    let g = c.requires in
     let is = c.bounds_of-bounds.ensures in
     let inv = c.loop-r.invariant in (
       omega (arith, c.loop-r-test.true),
@@ -98,10 +95,10 @@ shape_of-memory c = c.loop-r.invariant.1.0
 
 pub returns : goal.returns
 returns c =
-    let a = c.requires.0.accepted in
+    let a = c.args.layout.now.sized.accepted in
     let is = c.bounds_of-bounds.ensures in
     let inv = c.loop-r.invariant in (
       inv.1.0,
-      tile_stored _ a _ c.requires.1.low _ _ _ _
+      tile_stored _ a _ c.requires.low _ _ _ _
           (tile_end _ a _ is.0 _ is.1 _ _ _ c.product-rows.ensures refl inv.0 c.loop-r-test.false) inv.1.1,
     )

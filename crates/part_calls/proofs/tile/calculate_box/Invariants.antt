@@ -10,7 +10,7 @@ use Rattle.part_calls.proofs.tile.calculate_box.Given as goal
 abbrev pub invariant-loop-r : goal.invariant-loop-r
 invariant-loop-r l =
     (l.r ≤ l.rows) × ((length l.memory ≡ length l.initial.memory)
-    × Storing (inside_only l.nest (shaped_value l.nest (spread_out l.owned l.source))) (box_cell l.nest l.tile) (spread_out l.kept l.initial.memory) (spread_out l.kept l.memory) (l.r * l.width))
+    × Storing (inside_only l.layout.nest (shaped_value l.layout.nest (spread_out l.owned l.source))) (box_cell l.layout.nest l.tile) (spread_out l.kept l.initial.memory) (spread_out l.kept l.memory) (l.r * l.width))
 
 abbrev pub decreases-loop-r : goal.decreases-loop-r
 decreases-loop-r l = l.rows - l.r

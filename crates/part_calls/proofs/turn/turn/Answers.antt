@@ -1,31 +1,21 @@
 -- Each return is the call by the line that counts.
-use Rattle.std.specs.Prelude.{ℕ, List}
-use Rattle.machine.specs.Machine.{State, state_of}
-use Rattle.engine.proofs.Reading as reading
+use Rattle.std.proofs.lemmas.Result.{err_from_is_err_and}
+use Rattle.machine.specs.Machine.{state_of}
 use Rattle.part_calls.proofs.turn.Turned as turned
 use Rattle.part_calls.proofs.turn.turn.Goals as goal
 
-pub returns-then-number-ne0 : goal.returns-then-number-ne0
-returns-then-number-ne0 c =
-    let if1 = c.if-number-ne0 in
-    let board = c.open-board in
+pub returns-in_err-table : goal.returns-in_err-table
+returns-in_err-table c =
     let A = c.args in
-    let s : List ℕ → State = λ l. state_of A.memory.now A.mail.now l A.marks.now in
-    λ l h. reading.refuses c.refused.result board.result.number c.refused.ensures if1.true (s l) 0 _
-    (turned.turn_read A.encoded.now A.route A.processor board.result board.ensures A.source.now (s l) if1.true)
+    let p = err_from_is_err_and c.from_residual.result c.from_residual.ensures.1 in
+    λ l h. rw (p.1, p.2)
+    (turned.turn_read A.encoded.now A.route A.processor A.source.now (state_of A.memory.now A.mail.now l A.marks.now) _ c.in_err-table.ensures)
 
 pub take_turn-requires : goal.take_turn-requires
-take_turn-requires c =
-    let if1 = c.if-number-ne0 in
-    let board = c.open-board in
-    record { sized = (board.ensures.sized if1.false, (board.ensures.routed if1.false, board.ensures.low if1.false)); words_len = c.requires }
+take_turn-requires c = record { low = c.in_ok-table.ensures.board.low; words_len = c.requires }
 
-pub returns-else-number-ne0 : goal.returns-else-number-ne0
-returns-else-number-ne0 c =
-    let Turned-so = c.take_turn in
-    let if1 = c.if-number-ne0 in
-    let board = c.open-board in
+pub returns : goal.returns
+returns c =
     let A = c.args in
-    let s : List ℕ → State = λ l. state_of A.memory.now A.mail.now l A.marks.now in
-    λ l h. turned.turn_past A.encoded.now A.route A.processor board.result board.ensures A.source.now (s l) if1.false _
-    (Turned-so.ensures l h)
+    λ l h. turned.turn_past A.encoded.now A.route A.processor A.source.now (state_of A.memory.now A.mail.now l A.marks.now) _
+    c.in_ok-table.ensures _ (c.take_turn.ensures l h)

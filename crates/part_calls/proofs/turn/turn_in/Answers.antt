@@ -1,32 +1,30 @@
 -- Each return is the turn on the part, by the line that counts.
 use Rattle.std.specs.Prelude.{◌≡◌, ℕ, List, take}
-use mathlib.Core.Path.{sym, subst}
+use mathlib.Core.Path.{refl, sym, subst}
 use native.Mathlib.Omega.{arith}
 use lib.Seq.{length-take-le}
+use Rattle.std.proofs.lemmas.Result.{err_from_is_err_and}
+use Rattle.base.specs.Refusals.{number_of}
+use Rattle.base.proofs.Codes.{code_some}
 use Rattle.machine.specs.Machine.{State, state_of}
 use Rattle.plan.specs.Shaped.{plan_of}
 use Rattle.engine.specs.Calls.{answer}
 use Rattle.engine.specs.Given.{records_after}
 use Rattle.part_calls.specs.turn.Step.{turned_or}
-use Rattle.engine.proofs.Reading as reading
 use Rattle.part_calls.proofs.turn.Turned as turned
 use Rattle.part_calls.proofs.turn.turn_in.Goals as goal
 
-pub refusal_of_areas-n-requires : goal.refusal_of_areas-n-requires
-refusal_of_areas-n-requires c = (c.requires.tables.0.known, c.requires.tables.1)
+pub check_areas-requires : goal.check_areas-requires
+check_areas-requires c = (c.requires.tables.0.known, c.requires.tables.1)
 
-pub returns-then-n-ne0 : goal.returns-then-n-ne0
-returns-then-n-ne0 c =
+pub returns-in_err-check_areas : goal.returns-in_err-check_areas
+returns-in_err-check_areas c =
     let A = c.args in
-    let refused = c.refused in
-    let refusal-of-areas = c.refusal_of_areas-n in
-    let if1 = c.if-n-ne0 in
-    let p = plan_of A.sizes.route A.nest in
-    let s : List ℕ → State = λ l. state_of A.memory.now A.mail.now l A.marks.now in λ l h. reading.refuses refused.result
-    refusal-of-areas.result
-    refused.ensures if1.true (s l) 0 _ (turned.no_part p A.b A.source.now (s l) c.requires.source_len refusal-of-areas.result
-    (refusal-of-areas.ensures.0 l h)
-    if1.true)
+    let p = plan_of A.table.now.layout.sizes.route A.table.now.layout.nest in
+    let e = err_from_is_err_and c.from_residual.result c.from_residual.ensures.1 in
+    λ l h. rw (e.1, e.2)
+    (turned.no_part p A.b A.source.now (state_of A.memory.now A.mail.now l A.marks.now) c.requires.source_len _
+    (c.in_err-check_areas.ensures.lines l h) (code_some _))
 
 pub slice_bounds-step-end : goal.slice_bounds-step-end
 slice_bounds-step-end c =
@@ -36,29 +34,25 @@ slice_bounds-step-end c =
 pub step-requires : goal.step-requires
 step-requires c =
     let A = c.args in
-    let refusal-of-areas = c.refusal_of_areas-n in
-    let if1 = c.if-n-ne0 in
-    let p = plan_of A.sizes.route A.nest in
-    let s : List ℕ → State = λ l. state_of A.memory.now A.mail.now l A.marks.now in record {
+    let areas = c.in_ok-check_areas in
+    let p = plan_of A.table.now.layout.sizes.route A.table.now.layout.nest in record {
       tables = c.requires.tables.0;
-      may_step = turned.may_step p A.b A.source.now (s (take 3 A.progress.words)) c.requires.source_len refusal-of-areas.result
-          (refusal-of-areas.ensures.0 _ (turned.three_carried A.progress c.requires.tables.1.1 (refusal-of-areas.ensures.1 if1.false))) if1.false
+      may_step = turned.may_step p A.b A.source.now (state_of A.memory.now A.mail.now (take 3 A.progress.words) A.marks.now)
+          c.requires.source_len 0
+          (areas.ensures.lines _ (turned.three_carried A.progress c.requires.tables.1.1 areas.ensures.three)) refl
           c.requires.tables.0.known.low;
     }
 
-pub returns-else-n-ne0 : goal.returns-else-n-ne0
-returns-else-n-ne0 c =
-    let S = c in
-    let A = S.args in
+pub returns : goal.returns
+returns c =
+    let A = c.args in
     let step = c.step in
-    let refusal-of-areas = c.refusal_of_areas-n in
-    let if1 = c.if-n-ne0 in
-    let p = plan_of A.sizes.route A.nest in
+    let areas = c.in_ok-check_areas in
+    let p = plan_of A.table.now.layout.sizes.route A.table.now.layout.nest in
     let s : List ℕ → State = λ l. state_of A.memory.now A.mail.now l A.marks.now in
-    λ l h. subst (λ (k : List ℕ). answer step.result.number (state_of step.new.memory step.new.mail
+    λ l h. subst (λ (k : List ℕ). answer (number_of step.result) (state_of step.new.memory step.new.mail
     (records_after k 0 step.result) step.new.marks) ≡ turned_or p A.source.now (s k) A.b)
-    (turned.three_are A.progress l (refusal-of-areas.ensures.1 if1.false) h) (turned.turned_is p A.b A.source.now
-    (s (take 3 A.progress.words))
-    S.requires.source_len refusal-of-areas.result (refusal-of-areas.ensures.0 _ (turned.three_carried A.progress S.requires.tables.1.1
-    (refusal-of-areas.ensures.1 if1.false))) if1.false _
+    (turned.three_are A.progress l areas.ensures.three h) (turned.turned_is p A.b A.source.now
+    (s (take 3 A.progress.words)) c.requires.source_len 0
+    (areas.ensures.lines _ (turned.three_carried A.progress c.requires.tables.1.1 areas.ensures.three)) refl _
     step.ensures)

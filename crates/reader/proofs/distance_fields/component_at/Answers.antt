@@ -14,4 +14,4 @@ returns-then-encoded-at-eq4 c =
     )
 
 pub returns : goal.returns
-returns c = c.byte_index.ensures ∙ L.component_narrow c.args.encoded.now c.args.r c.args.j c.if-encoded-at-eq4.false
+returns c = c.from.ensures ∙ L.component_narrow c.args.encoded.now c.args.r c.args.j c.if-encoded-at-eq4.false

@@ -1,24 +1,17 @@
--- `reader::distance_fields::needlessly_wide` meets its contract: no record that the loop has passed ends it.
-use mathlib.Core.Path.{sym, ◌∙◌}
+-- `reader::distance_fields::needlessly_wide` meets its contract: what `any` answers over the range.
+use mathlib.Core.Path.{◌∙◌, refl}
 use native.Mathlib.Omega.{arith}
-use Rattle.base.proofs.Tests.{some_one}
-use Rattle.nest.specs.Reader.{needlessly_wide}
-use Rattle.nest.proofs.Laws as L
+use borrow.Author.Rules.{rules}
+use borrow.Author.Tests.{tests}
+use Rattle.std.proofs.lemmas.Iterator.{YieldsList-from_range}
+use Rattle.std.proofs.lemmas.Iterator.Search.{any_from_yields_List}
+use Rattle.base.proofs.Chains.{range_any}
+use Rattle.nest.specs.Reader.{records, narrow_at, needlessly_wide}
 use Rattle.reader.proofs.distance_fields.needlessly_wide.Goals as goal
-
-pub loop-r-init : goal.loop-r-init
-loop-r-init c = (omega arith, L.some_start _)
-
-pub narrow_at-requires : goal.narrow_at-requires
-narrow_at-requires c = omega arith
-
-pub returns-then-narrow_at : goal.returns-then-narrow_at
-unfolding needlessly_wide
-returns-then-narrow_at c = sym (some_one _ _ c.loop-r.r c.loop-r-test.true (sym c.narrow_at.ensures ∙ c.if-narrow_at.true))
-
-pub loop-r-preserved : goal.loop-r-preserved
-loop-r-preserved c = (omega arith, L.some_step _ _ c.loop-r.invariant.1 (sym c.narrow_at.ensures ∙ c.if-narrow_at.false))
 
 pub returns : goal.returns
 unfolding needlessly_wide
-returns c = sym (L.some_end _ _ c.loop-r.r c.loop-r.invariant.0 c.loop-r-test.false c.loop-r.invariant.1)
+returns c =
+    any_from_yields_List (narrow_at c.args.encoded.now) _ _ _ c.any.ensures.ran (YieldsList-from_range 0 (records c.args.encoded.now) (records c.args.encoded.now) refl (omega arith))
+    (λ x b q k. search (rules, tests))
+    ∙ range_any _ _

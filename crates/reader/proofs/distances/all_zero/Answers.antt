@@ -1,19 +1,16 @@
--- `reader::distances::all_zero` meets its contract: no place that the loop has passed ends it.
-use mathlib.Core.Path.{sym}
-use native.Mathlib.Omega.{arith}
-use borrow.Author.Tests.{eq-eqb, ne_eqb}
-use Rattle.base.proofs.Tests.{every_not}
-use Rattle.nest.proofs.Laws as L
+-- `reader::distances::all_zero` meets its contract: what `all` answers over the range.
+use mathlib.Core.Path.{◌∙◌, refl}
+use borrow.Author.Rules.{rules}
+use borrow.Author.Tests.{tests}
+use Rattle.std.proofs.lemmas.Iterator.{YieldsList-from_range}
+use Rattle.std.proofs.lemmas.Iterator.Search.{all_from_yields_List}
+use Rattle.base.proofs.Chains.{range_all}
+use Rattle.nest.specs.Nest.{component}
+use lib.Dec.{eqb}
 use Rattle.reader.proofs.distances.all_zero.Goals as goal
 
-pub loop-j-init : goal.loop-j-init
-loop-j-init c = (omega arith, L.every_start _)
-
-pub returns-then-nest-e-ne0 : goal.returns-then-nest-e-ne0
-returns-then-nest-e-ne0 c = sym (every_not _ _ c.loop-j.j c.loop-j-test.true (ne_eqb _ _ c.if-nest-e-ne0.true))
-
-pub loop-j-preserved : goal.loop-j-preserved
-loop-j-preserved c = (omega arith, L.every_step _ _ c.loop-j.invariant.1 (eq-eqb _ _ c.if-nest-e-ne0.false))
-
 pub returns : goal.returns
-returns c = sym (L.every_end _ _ c.loop-j.j c.loop-j.invariant.0 c.loop-j-test.false c.loop-j.invariant.1)
+returns c =
+    all_from_yields_List (λ j. eqb (component c.args.nest c.args.e j) 0) _ _ _ c.all.ensures.ran (YieldsList-from_range 0 4 _ refl refl)
+    (λ x b q k. search (rules, tests))
+    ∙ range_all _ _

@@ -1,29 +1,19 @@
--- `reader::distances::bad_tile` meets its contract: no place that the loop has passed ends it.
-use mathlib.Core.Path.{sym, ◌∙◌}
+-- `reader::distances::bad_tile` meets its contract: what `any` answers over the range.
+use mathlib.Core.Path.{◌∙◌, refl}
 use native.Mathlib.Omega.{arith}
-use Rattle.base.proofs.Tests.{some_one, or_left, or_right, or_false}
-use Rattle.nest.specs.Reader.{bad_tile}
-use Rattle.nest.proofs.Laws as L
+use borrow.Author.Rules.{rules}
+use borrow.Author.Tests.{tests}
+use Rattle.std.proofs.lemmas.Iterator.{YieldsList-from_range}
+use Rattle.std.proofs.lemmas.Iterator.Search.{any_from_yields_List}
+use Rattle.base.proofs.Chains.{range_any}
+use Rattle.nest.specs.Nest.{tile_length}
+use Rattle.base.specs.Tests.{◌or◌}
+use Rattle.nest.specs.Reader.{no_length, reached, bad_tile}
 use Rattle.reader.proofs.distances.bad_tile.Goals as goal
 
-pub loop-j-init : goal.loop-j-init
-loop-j-init c = (omega arith, L.some_start _)
-
-pub returns-then-no_length : goal.returns-then-no_length
-unfolding bad_tile
-returns-then-no_length c = sym (some_one _ _ c.loop-j.j c.loop-j-test.true (or_left _ (sym c.no_length.ensures ∙ c.if-no_length.true)))
-
-pub returns-then-reached : goal.returns-then-reached
-unfolding bad_tile
-returns-then-reached c = sym (some_one _ _ c.loop-j.j c.loop-j-test.true (or_right _ (sym c.reached.ensures ∙ c.if-reached.true)))
-
-pub loop-j-preserved : goal.loop-j-preserved
-loop-j-preserved c = (
-  omega arith,
-  L.some_step _ _ c.loop-j.invariant.1 (or_false (sym c.no_length.ensures ∙ c.if-no_length.false)
-      (sym c.reached.ensures ∙ c.if-reached.false)),
-)
-
 pub returns : goal.returns
-unfolding bad_tile
-returns c = sym (L.some_end _ _ c.loop-j.j c.loop-j.invariant.0 c.loop-j-test.false c.loop-j.invariant.1)
+unfolding bad_tile ◌or◌
+returns c =
+    any_from_yields_List (λ j. no_length (tile_length c.args.nest j) or reached c.args.nest j) _ _ _ c.any.ensures.ran (YieldsList-from_range 0 c.args.nest.dimensions c.args.nest.dimensions refl (omega arith))
+    (λ x b q k. search (rules, tests))
+    ∙ range_any _ _

@@ -4,17 +4,23 @@ use Rattle.base.proofs.Tests.{or_left, or_right}
 use Rattle.nest.specs.Reader.{faulty}
 use Rattle.nest.proofs.Laws as L
 use Rattle.reader.proofs.distances.faulty.Goals as goal
-
-pub returns-then-all_zero : goal.returns-then-all_zero
-unfolding faulty
-returns-then-all_zero c = sym (or_left _ (sym c.all_zero.ensures ∙ c.if-all_zero.true))
+use Rattle.reader.proofs.distances.faulty.Goals.{then-all_zero, else-all_zero}
 
 pub returns-then-repeated : goal.returns-then-repeated
 unfolding faulty
-returns-then-repeated c = sym (or_right _ (or_left _ (sym c.repeated.ensures ∙ c.if-repeated.true)))
+returns-then-repeated c =
+    c.if-repeated.true
+    ∙ sym (elim c.if-all_zero.branch [
+      | then-all_zero w ↦ or_left _ (sym c.all_zero.ensures ∙ w.if-all_zero.true)
+      | else-all_zero w ↦ or_right _ (or_left _ (sym w.repeated.ensures ∙ (sym w.value-is ∙ c.if-repeated.true)))
+    ])
 
-pub returns : goal.returns
+pub returns-else-repeated : goal.returns-else-repeated
 unfolding faulty
-returns c =
-    c.beyond.ensures ∙ sym (L.or_skip (sym c.all_zero.ensures ∙ c.if-all_zero.false) ∙ L.or_skip (sym c.repeated.ensures
-    ∙ c.if-repeated.false))
+returns-else-repeated c =
+    elim c.if-all_zero.branch [
+      | then-all_zero w ↦ absurd cc
+      | else-all_zero w ↦
+          c.beyond.ensures ∙ sym (L.or_skip (sym c.all_zero.ensures ∙ w.if-all_zero.false)
+          ∙ L.or_skip (sym w.repeated.ensures ∙ (sym w.value-is ∙ c.if-repeated.false)))
+    ]

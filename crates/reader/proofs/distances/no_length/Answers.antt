@@ -8,6 +8,6 @@ pub returns-then-v-eq0 : goal.returns-then-v-eq0
 unfolding no_length ◌or◌
 returns-then-v-eq0 c = simp (eq-eqb _ _ c.if-v-eq0.true)
 
-pub returns : goal.returns
+pub returns-else-v-eq0 : goal.returns-else-v-eq0
 unfolding no_length ◌or◌
-returns c = simp (ne_eqb _ _ c.if-v-eq0.false)
+returns-else-v-eq0 c = simp (ne_eqb _ _ c.if-v-eq0.false)

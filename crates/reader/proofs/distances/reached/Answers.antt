@@ -1,22 +1,19 @@
--- `reader::distances::reached` meets its contract: no place that the loop has passed ends it.
-use mathlib.Core.Path.{sym}
+-- `reader::distances::reached` meets its contract: what `any` answers over the range.
+use mathlib.Core.Path.{◌∙◌, refl}
 use native.Mathlib.Omega.{arith}
-use borrow.Author.Tests.{lt-ltb, le-ltb}
-use Rattle.base.proofs.Tests.{some_one}
+use borrow.Author.Rules.{rules}
+use borrow.Author.Tests.{tests}
+use Rattle.std.proofs.lemmas.Iterator.{YieldsList-from_range}
+use Rattle.std.proofs.lemmas.Iterator.Search.{any_from_yields_List}
+use Rattle.base.proofs.Chains.{range_any}
+use Rattle.nest.specs.Nest.{component, tile_length}
+use lib.Dec.{ltb}
 use Rattle.nest.specs.Reader.{reached}
-use Rattle.nest.proofs.Laws as L
 use Rattle.reader.proofs.distances.reached.Goals as goal
-
-pub loop-e-init : goal.loop-e-init
-loop-e-init c = (omega arith, L.some_start _)
-
-pub returns-then-tile-nest : goal.returns-then-tile-nest
-unfolding reached
-returns-then-tile-nest c = sym (some_one _ _ c.loop-e.e c.loop-e-test.true (lt-ltb _ _ c.if-tile-nest.true))
-
-pub loop-e-preserved : goal.loop-e-preserved
-loop-e-preserved c = (omega arith, L.some_step _ _ c.loop-e.invariant.1 (le-ltb _ _ c.if-tile-nest.false))
 
 pub returns : goal.returns
 unfolding reached
-returns c = sym (L.some_end _ _ c.loop-e.e c.loop-e.invariant.0 c.loop-e-test.false c.loop-e.invariant.1)
+returns c =
+    any_from_yields_List (λ e. ltb (tile_length c.args.nest c.args.j) (component c.args.nest e c.args.j)) _ _ _ c.any.ensures.ran (YieldsList-from_range 0 c.args.nest.distances c.args.nest.distances refl (omega arith))
+    (λ x b q k. search (rules, tests))
+    ∙ range_any _ _

@@ -1,18 +1,16 @@
--- `reader::distances::repeated` meets its contract: no place that the loop has passed ends it.
-use mathlib.Core.Path.{sym, ◌∙◌}
+-- `reader::distances::repeated` meets its contract: what `any` answers over the range.
+use mathlib.Core.Path.{◌∙◌, refl}
 use native.Mathlib.Omega.{arith}
-use Rattle.base.proofs.Tests.{some_one}
-use Rattle.nest.proofs.Laws as L
+use borrow.Author.Rules.{rules}
+use borrow.Author.Tests.{tests}
+use Rattle.std.proofs.lemmas.Iterator.{YieldsList-from_range}
+use Rattle.std.proofs.lemmas.Iterator.Search.{any_from_yields_List}
+use Rattle.base.proofs.Chains.{range_any}
+use Rattle.nest.specs.Reader.{same}
 use Rattle.reader.proofs.distances.repeated.Goals as goal
 
-pub loop-f-init : goal.loop-f-init
-loop-f-init c = (omega arith, L.some_start _)
-
-pub returns-then-same : goal.returns-then-same
-returns-then-same c = sym (some_one _ _ c.loop-f.f c.loop-f-test.true (sym c.same.ensures ∙ c.if-same.true))
-
-pub loop-f-preserved : goal.loop-f-preserved
-loop-f-preserved c = (omega arith, L.some_step _ _ c.loop-f.invariant.1 (sym c.same.ensures ∙ c.if-same.false))
-
 pub returns : goal.returns
-returns c = sym (L.some_end _ _ c.loop-f.f c.loop-f.invariant.0 c.loop-f-test.false c.loop-f.invariant.1)
+returns c =
+    any_from_yields_List (same c.args.nest c.args.e) _ _ _ c.any.ensures.ran (YieldsList-from_range 0 c.args.e c.args.e refl (omega arith))
+    (λ x b q k. search (rules, tests))
+    ∙ range_any _ _

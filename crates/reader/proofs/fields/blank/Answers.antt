@@ -1,22 +1,20 @@
--- `reader::fields::blank` meets its contract: the loop has passed only zero bytes.
-use mathlib.Core.Path.{sym}
+-- `reader::fields::blank` meets its contract: what `all` answers over the range.
+use mathlib.Core.Path.{◌∙◌, refl}
 use native.Mathlib.Omega.{arith}
-use borrow.Author.Tests.{eq-eqb, ne_eqb}
-use Rattle.base.proofs.Tests.{every_not}
+use borrow.Author.Rules.{rules}
+use borrow.Author.Tests.{tests}
+use Rattle.std.proofs.lemmas.Iterator.{YieldsList-from_range}
+use Rattle.std.proofs.lemmas.Iterator.Search.{all_from_yields_List}
+use Rattle.base.proofs.Chains.{range_all}
+use lib.Dec.{eqb}
+use lib.ListN.{get_or}
+use Prim.Native.Nat.{◌+◌}
 use Rattle.nest.specs.Reader.{blank}
-use Rattle.nest.proofs.Laws as L
 use Rattle.reader.proofs.fields.blank.Goals as goal
-
-pub loop-i-init : goal.loop-i-init
-loop-i-init c = (omega arith, L.every_start _)
-
-pub returns-then-encoded-at-ne0 : goal.returns-then-encoded-at-ne0
-unfolding blank
-returns-then-encoded-at-ne0 c = sym (every_not _ _ c.loop-i.i c.loop-i-test.true (ne_eqb _ _ c.if-encoded-at-ne0.true))
-
-pub loop-i-preserved : goal.loop-i-preserved
-loop-i-preserved c = (omega arith, L.every_step _ _ c.loop-i.invariant.1 (eq-eqb _ _ c.if-encoded-at-ne0.false))
 
 pub returns : goal.returns
 unfolding blank
-returns c = sym (L.every_end _ _ c.loop-i.i c.loop-i.invariant.0 c.loop-i-test.false c.loop-i.invariant.1)
+returns c =
+    all_from_yields_List (λ i. eqb (get_or c.args.encoded.now (c.args.at + i) 0) 0) _ _ _ c.all.ensures.ran (YieldsList-from_range 0 c.args.count c.args.count refl (omega arith))
+    (λ x b q k. search (rules, tests))
+    ∙ range_all _ _

@@ -3,4 +3,4 @@ use native.Mathlib.Omega.{arith}
 use Rattle.reader.proofs.fields.byte_at.Goals as goal
 
 pub returns : goal.returns
-returns c = record { value = c.byte_index.ensures; upper_bound = omega (arith, c.byte_index.ensures, c.type_inv.encoded c.args.at) }
+returns c = record { value = c.from.ensures; upper_bound = omega (arith, c.from.ensures, c.type_inv.encoded c.args.at) }

@@ -1,16 +1,12 @@
--- `reader::fields::close_fits` meets its contract: each return by its branches.
-use mathlib.Core.Path.{sym, ◌∙◌}
-use borrow.Author.Tests.{lt-ltb, le-ltb}
-use Rattle.base.proofs.Tests.{and_left, and_false}
+-- `reader::fields::close_fits` meets its contract: each test in turn.
+use Rattle.std.proofs.Common.{rules}
+use Rattle.base.specs.Tests.{◌and◌}
 use Rattle.reader.proofs.fields.close_fits.Goals as goal
 
-pub returns-then-encoded-at-ge32 : goal.returns-then-encoded-at-ge32
-returns-then-encoded-at-ge32 c = sym (and_false _ _ (le-ltb _ _ c.if-encoded-at-ge32.true))
-
 pub returns-then-blank : goal.returns-then-blank
-returns-then-blank c =
-    c.blank-then-blank.ensures ∙ sym (and_left _ _ (lt-ltb _ _ c.if-encoded-at-ge32.false) ∙ and_left _ _ (sym c.blank.ensures
-    ∙ c.if-blank.true))
+unfolding ◌and◌
+returns-then-blank c = search rules
 
-pub returns : goal.returns
-returns c = sym (and_left _ _ (lt-ltb _ _ c.if-encoded-at-ge32.false) ∙ and_false _ _ (sym c.blank.ensures ∙ c.if-blank.false))
+pub returns-else-blank : goal.returns-else-blank
+unfolding ◌and◌
+returns-else-blank c = search rules

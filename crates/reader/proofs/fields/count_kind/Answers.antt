@@ -1,33 +1,21 @@
--- `reader::fields::count_kind` meets its contract: the loop has counted the records that it passed.
+-- `reader::fields::count_kind` meets its contract: what `count` answers over the range.
 use mathlib.Core.Path.{◌∙◌}
 use native.Mathlib.Omega.{arith}
-use Rattle.base.proofs.Select.{those_few}
-use Rattle.nest.specs.Reader.{kind, of_kind}
-use Rattle.nest.proofs.Laws as L
+use lib.Dec.{eqb}
+use borrow.Author.Rules.{rules}
+use borrow.Author.Tests.{tests}
+use Rattle.std.proofs.lemmas.Iterator.{YieldsList-from_range}
+use Rattle.std.proofs.lemmas.Iterator.Consumers.{count_from_yields_List, YieldsList-from_filter}
+use Rattle.base.specs.Tests.{those}
+use Rattle.nest.specs.Reader.{kind, records, of_kind}
+use Rattle.reader.proofs.Counts.{range_count}
 use Rattle.reader.proofs.fields.count_kind.Goals as goal
-use Rattle.reader.proofs.fields.count_kind.Goals.{then-encoded-r, else-encoded-r}
-
-pub loop-r-init : goal.loop-r-init
-loop-r-init c = (omega arith, L.those_start _ _)
-
-pub overflow_mul-r : goal.overflow_mul-r
-overflow_mul-r c = omega arith
-
-pub bounds-encoded-r : goal.bounds-encoded-r
-bounds-encoded-r c = omega arith
-
-pub overflow_add-n : goal.overflow_add-n
-overflow_add-n c = omega (arith, those_few (kind c.args.encoded.now) c.args.wanted c.loop-r.r)
-
-pub loop-r-preserved : goal.loop-r-preserved
-loop-r-preserved c = (
-  omega arith,
-  elim c.if-encoded-r.branch [
-    | then-encoded-r w ↦ w.n-is ∙ L.those_one _ _ _ _ c.loop-r.invariant.1 w.if-encoded-r.true
-    | else-encoded-r w ↦ w.n-is ∙ L.those_skip _ _ _ _ c.loop-r.invariant.1 w.if-encoded-r.false
-  ],
-)
 
 pub returns : goal.returns
-unfolding of_kind
-returns c = L.those_end _ _ _ c.loop-r.r _ c.loop-r.invariant.0 c.loop-r-test.false c.loop-r.invariant.1
+unfolding of_kind those
+returns c =
+    count_from_yields_List c.filter.result _ c.count.ensures.ran
+    (YieldsList-from_filter _ (λ r. eqb (kind c.args.encoded.now r) c.args.wanted)
+    (YieldsList-from_range 0 (records c.args.encoded.now) (records c.args.encoded.now) c.filter.ensures.source (omega arith)) c.filter.ensures.closure
+    (λ x b q k. search (rules, tests)))
+    ∙ range_count (λ r. eqb (kind c.args.encoded.now r) c.args.wanted) (records c.args.encoded.now)

@@ -1,11 +1,13 @@
 -- `reader::fields::stands` meets its contract: each return by its branches.
-use mathlib.Core.Path.{sym}
+use mathlib.Core.Path.{sym, ◌∙◌}
 use borrow.Author.Tests.{lt-leb, le-leb}
 use Rattle.base.proofs.Tests.{and_false, and_left}
 use Rattle.reader.proofs.fields.stands.Goals as goal
 
-pub returns-then-r-from : goal.returns-then-r-from
-returns-then-r-from c = sym (and_false _ _ (lt-leb _ _ c.if-r-from.true))
+pub returns-then-from-r : goal.returns-then-from-r
+returns-then-from-r c = sym (and_left _ _ (le-leb _ _ c.if-from-r.true))
 
-pub returns : goal.returns
-returns c = sym (and_left _ _ (le-leb _ _ c.if-r-from.false))
+pub returns-else-from-r : goal.returns-else-from-r
+returns-else-from-r c =
+    let before = lt-leb _ _ c.if-from-r.false in
+    before ∙ sym (and_false _ _ before)

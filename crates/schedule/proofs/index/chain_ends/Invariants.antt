@@ -7,7 +7,4 @@ use Rattle.schedule.specs.Index.{ChainedFrom}
 use Rattle.schedule.proofs.index.chain_ends.Given as goal
 
 abbrev pub invariant-loop-m : goal.invariant-loop-m
-invariant-loop-m l = ChainedFrom (end_of l.side (plan_of l.sizes.route l.nest)) (count (plan_of l.sizes.route l.nest)) l.m l.chain × (l.m ≤ count (plan_of l.sizes.route l.nest))
-
-abbrev pub decreases-loop-m : goal.decreases-loop-m
-decreases-loop-m l = l.m
+invariant-loop-m l = ChainedFrom (end_of l.side (plan_of l.table.layout.sizes.route l.table.layout.nest)) (count (plan_of l.table.layout.sizes.route l.table.layout.nest)) l.m l.chain × (l.m ≤ count (plan_of l.table.layout.sizes.route l.table.layout.nest))

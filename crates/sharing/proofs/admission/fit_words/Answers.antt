@@ -18,11 +18,6 @@ loop-b-init c =
     let f = fit_word A.tenant (tenant_areas (progress_only A.progress.now) A.engaged.now) A.theirs.now in
     (omega arith, loops.every_start f)
 
-pub bounds-engaged-b : goal.bounds-engaged-b
-bounds-engaged-b c =
-    let loop-test = c.loop-b-test in
-    omega (arith, loop-test.true)
-
 pub returns-then-holder-gt2 : goal.returns-then-holder-gt2
 returns-then-holder-gt2 c =
     let loop = c.loop-b in
@@ -56,12 +51,6 @@ returns-then-not-stage_agrees-2 c =
     sym (every_not f (length A.engaged.now) loop.b (omega (arith, loop-test.true)) (tests.word_theirs A.tenant A.progress.now
     A.engaged.now A.theirs.now loop.b (ap (λ (k : ℕ). stage_agrees (get_or A.engaged.now loop.b 0) k (get_or A.theirs.now (3 * loop.b + 1)
     0)) (sym other.ensures) ∙ sym stage-agrees2.ensures ∙ if3.true)))
-
-pub overflow_add-b-in-loop-b-2 : goal.overflow_add-b-in-loop-b-2
-overflow_add-b-in-loop-b-2 c = omega arith
-
-pub loop-b-smaller : goal.loop-b-smaller
-loop-b-smaller c = omega arith
 
 pub loop-b-preserved : goal.loop-b-preserved
 loop-b-preserved c =

@@ -5,7 +5,7 @@ use Rattle.sharing.proofs.inner.clear_records.Goals as goal
 pub returns-then-number-eq0 : goal.returns-then-number-eq0
 returns-then-number-eq0 c =
     starts.cleared c.args.progress.now c.args.number c.if-number-eq0.true _
-    c.zero_words.ensures
+    (c.fill.ensures.after (λ y e. e))
 
 pub returns-else-number-eq0 : goal.returns-else-number-eq0
 returns-else-number-eq0 c = zeros_after_no _ _ c.if-number-eq0.false

@@ -9,34 +9,34 @@ pub overflow_mul-result : goal.overflow_mul-result
 overflow_mul-result c =
     omega (
       arith,
-      R.back_low c.args.sizes.route _ _ c.requires.sized.0.ways _ _ _ _ c.requires.sized.1.0 c.requires.ways_bound.0 c.requires.ways_bound.1,
-      R.slot_low c.args.sizes.route _ _ c.requires.sized.0.ways _ _ _ _ c.requires.sized.1.0 c.requires.ways_bound.0 c.requires.ways_bound.1,
-      L.slots_few c.args.sizes.route _ c.requires.sized.0.accepted c.requires.sized.1.1.plain,
+      R.back_low c.args.layout.now.sizes.route _ _ c.args.layout.now.sized.ways _ _ _ _ c.requires.sized.0 c.requires.ways_bound.0 c.requires.ways_bound.1,
+      R.slot_low c.args.layout.now.sizes.route _ _ c.args.layout.now.sized.ways _ _ _ _ c.requires.sized.0 c.requires.ways_bound.0 c.requires.ways_bound.1,
+      L.slots_few c.args.layout.now.sizes.route _ c.args.layout.now.sized.accepted c.requires.sized.1.plain,
     )
 
 pub overflow_sub-result : goal.overflow_sub-result
-overflow_sub-result c = R.back_low c.args.sizes.route _ _ c.requires.sized.0.ways _ _ _ _ c.requires.sized.1.0 c.requires.ways_bound.0 c.requires.ways_bound.1
+overflow_sub-result c = R.back_low c.args.layout.now.sizes.route _ _ c.args.layout.now.sized.ways _ _ _ _ c.requires.sized.0 c.requires.ways_bound.0 c.requires.ways_bound.1
 
 pub offset_bounds-lens-slot : goal.offset_bounds-lens-slot
 offset_bounds-lens-slot c =
     omega (
       arith,
-      R.back_low c.args.sizes.route _ _ c.requires.sized.0.ways _ _ _ _ c.requires.sized.1.0 c.requires.ways_bound.0 c.requires.ways_bound.1,
-      R.slot_low c.args.sizes.route _ _ c.requires.sized.0.ways _ _ _ _ c.requires.sized.1.0 c.requires.ways_bound.0 c.requires.ways_bound.1,
-      L.slots_few c.args.sizes.route _ c.requires.sized.0.accepted c.requires.sized.1.1.plain,
+      R.back_low c.args.layout.now.sizes.route _ _ c.args.layout.now.sized.ways _ _ _ _ c.requires.sized.0 c.requires.ways_bound.0 c.requires.ways_bound.1,
+      R.slot_low c.args.layout.now.sizes.route _ _ c.args.layout.now.sized.ways _ _ _ _ c.requires.sized.0 c.requires.ways_bound.0 c.requires.ways_bound.1,
+      L.slots_few c.args.layout.now.sizes.route _ c.args.layout.now.sized.accepted c.requires.sized.1.plain,
     )
 
 pub bounds-lens-slot : goal.bounds-lens-slot
 bounds-lens-slot c =
     omega (
       arith,
-      R.back_low c.args.sizes.route _ _ c.requires.sized.0.ways _ _ _ _ c.requires.sized.1.0 c.requires.ways_bound.0 c.requires.ways_bound.1,
-      R.slot_low c.args.sizes.route _ _ c.requires.sized.0.ways _ _ _ _ c.requires.sized.1.0 c.requires.ways_bound.0 c.requires.ways_bound.1,
-      L.slots_few c.args.sizes.route _ c.requires.sized.0.accepted c.requires.sized.1.1.plain,
+      R.back_low c.args.layout.now.sizes.route _ _ c.args.layout.now.sized.ways _ _ _ _ c.requires.sized.0 c.requires.ways_bound.0 c.requires.ways_bound.1,
+      R.slot_low c.args.layout.now.sizes.route _ _ c.args.layout.now.sized.ways _ _ _ _ c.requires.sized.0 c.requires.ways_bound.0 c.requires.ways_bound.1,
+      L.slots_few c.args.layout.now.sizes.route _ c.args.layout.now.sized.accepted c.requires.sized.1.plain,
     )
 
 pub returns : goal.returns
 returns c =
-    c.requires.sized.1.1.each _
-    (R.back_before c.args.sizes.route _ _ c.requires.sized.0.ways _ _ _ _ c.requires.sized.1.0 c.requires.ways_bound.0 c.requires.ways_bound.1)
-    ∙ R.back_same c.args.sizes.route _ _ c.requires.sized.0.ways _ _ _ _ c.requires.sized.1.0 c.requires.ways_bound.0 c.requires.ways_bound.1
+    c.requires.sized.1.each _
+    (R.back_before c.args.layout.now.sizes.route _ _ c.args.layout.now.sized.ways _ _ _ _ c.requires.sized.0 c.requires.ways_bound.0 c.requires.ways_bound.1)
+    ∙ R.back_same c.args.layout.now.sizes.route _ _ c.args.layout.now.sized.ways _ _ _ _ c.requires.sized.0 c.requires.ways_bound.0 c.requires.ways_bound.1

@@ -6,48 +6,60 @@ use Rattle.tables.proofs.boxes.Scans as L
 use Rattle.tables.proofs.boxes.Ends as E
 use Rattle.tables.proofs.boxes.slot_at.Goals as goal
 
-pub overflow_mul-none : goal.overflow_mul-none
-overflow_mul-none c = omega (arith, L.slots_small _ _ c.requires.0 c.requires.1.0.plain)
-
 pub offset_bounds-steps-way : goal.offset_bounds-steps-way
-offset_bounds-steps-way c = omega (arith, c.requires.1.1, ways_few _ c.requires.0.accepted c.args.sizes.route)
+offset_bounds-steps-way c = omega (arith, c.requires.1, ways_few _ c.args.layout.now.sized.accepted c.args.layout.now.sizes.route)
 
 pub bounds-steps-way : goal.bounds-steps-way
-bounds-steps-way c = omega (arith, c.requires.1.1, ways_few _ c.requires.0.accepted c.args.sizes.route)
+bounds-steps-way c = omega (arith, c.requires.1, ways_few _ c.args.layout.now.sized.accepted c.args.layout.now.sizes.route)
 
 pub returns-then-step-tile : goal.returns-then-step-tile
-returns-then-step-tile c = λ side st. E.end_below _ _ c.requires.0 _ _ c.requires.1.1 _ side st c.if-step-tile.true
+returns-then-step-tile c = λ side st. E.end_below _ _ c.args.layout.now.sized _ _ c.requires.1 _ side st c.if-step-tile.true
 
-pub returns-then-sender-sizes : goal.returns-then-sender-sizes
-returns-then-sender-sizes c = λ side st. E.end_above _ _ c.requires.0 _ _ c.requires.1.1 _ side st c.if-step-tile.false c.if-sender-sizes.true
+pub returns-then-sender-layout : goal.returns-then-sender-layout
+returns-then-sender-layout c = λ side st. E.end_above _ _ c.args.layout.now.sized _ _ c.requires.1 _ side st c.if-step-tile.false c.if-sender-layout.true
 
 pub overflow_mul-slot : goal.overflow_mul-slot
 overflow_mul-slot c =
     omega (
       arith,
-      E.slot_under _ _ c.requires.0 _ _ c.requires.1.1 c.args.steps c.if-sender-sizes.false,
+      E.slot_under _ _ c.args.layout.now.sized _ _ c.requires.1 c.args.steps c.if-sender-layout.false,
       L.slots_few
-          c.args.sizes.route _ c.requires.0.accepted c.requires.1.0.plain,
+          c.args.layout.now.sizes.route _ c.args.layout.now.sized.accepted c.requires.0.plain,
     )
 
 pub overflow_add-slot : goal.overflow_add-slot
 overflow_add-slot c =
     omega (
       arith,
-      E.slot_under _ _ c.requires.0 _ _ c.requires.1.1 c.args.steps c.if-sender-sizes.false,
+      E.slot_under _ _ c.args.layout.now.sized _ _ c.requires.1 c.args.steps c.if-sender-layout.false,
       L.slots_few
-          c.args.sizes.route _ c.requires.0.accepted c.requires.1.0.plain,
+          c.args.layout.now.sizes.route _ c.args.layout.now.sized.accepted c.requires.0.plain,
     )
 
-pub length_at-requires : goal.length_at-requires
-length_at-requires c = (c.requires.0, (c.requires.1.0, E.slot_under _ _ c.requires.0 _ _ c.requires.1.1 c.args.steps c.if-sender-sizes.false))
+pub offset_bounds-lens-slot : goal.offset_bounds-lens-slot
+offset_bounds-lens-slot c =
+    omega (
+      arith,
+      E.slot_under _ _ c.args.layout.now.sized _ _ c.requires.1 c.args.steps c.if-sender-layout.false,
+      L.slots_few c.args.layout.now.sizes.route _ c.args.layout.now.sized.accepted c.requires.0.plain,
+      c.requires.0.long,
+    )
 
-pub returns-then-length_at-eq0 : goal.returns-then-length_at-eq0
-returns-then-length_at-eq0 c =
-    λ side st. E.end_none _ _ c.requires.0 _ _ c.requires.1.1 _ side st c.if-step-tile.false c.if-sender-sizes.false _ c.length_at.ensures.0
-    c.if-length_at-eq0.true
+pub bounds-lens-slot : goal.bounds-lens-slot
+bounds-lens-slot c =
+    omega (
+      arith,
+      E.slot_under _ _ c.args.layout.now.sized _ _ c.requires.1 c.args.steps c.if-sender-layout.false,
+      L.slots_few c.args.layout.now.sizes.route _ c.args.layout.now.sized.accepted c.requires.0.plain,
+      c.requires.0.long,
+    )
+
+pub returns-then-lens-slot-eq0 : goal.returns-then-lens-slot-eq0
+returns-then-lens-slot-eq0 c =
+    λ side st. E.end_none _ _ c.args.layout.now.sized _ _ c.requires.1 _ side st c.if-step-tile.false c.if-sender-layout.false _ (c.requires.0.each _ (E.slot_under _ _ c.args.layout.now.sized _ _ c.requires.1 c.args.steps c.if-sender-layout.false))
+    c.if-lens-slot-eq0.true
 
 pub returns : goal.returns
 returns c =
-    λ side st. E.end_one _ _ c.requires.0 _ _ c.requires.1.1 _ side st c.if-step-tile.false c.if-sender-sizes.false _ c.length_at.ensures.0
-    c.if-length_at-eq0.false
+    λ side st. E.end_one _ _ c.args.layout.now.sized _ _ c.requires.1 _ side st c.if-step-tile.false c.if-sender-layout.false _ (c.requires.0.each _ (E.slot_under _ _ c.args.layout.now.sized _ _ c.requires.1 c.args.steps c.if-sender-layout.false))
+    c.if-lens-slot-eq0.false

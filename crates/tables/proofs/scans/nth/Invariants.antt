@@ -1,11 +1,10 @@
 -- `tables::scans::nth` meets its contract: the message is not among the slots before.
-use Prim.Native.Nat.{ℕ, ◌-◌, ◌*◌, ◌≤◌}
+use Prim.Native.Nat.{ℕ, ◌*◌, ◌≤◌}
 use Rattle.machine.specs.Plan.{Message}
 use Rattle.tables.specs.scans.Scans.{Lengths, Summing}
 use Rattle.tables.proofs.scans.nth.Given as goal
 
 abbrev pub invariant-loop-slot : goal.invariant-loop-slot
-invariant-loop-slot l = (l.slot ≤ l.slots) × ((l.number ≤ l.m) × ((l.number ≤ l.slot) × ((l.offset ≤ 16384 * l.slot) × ((f : ℕ → Message) → Lengths f l.slots l.lens → Summing f l.slot l.number l.offset))))
-
-abbrev pub decreases-loop-slot : goal.decreases-loop-slot
-decreases-loop-slot l = l.slots - l.slot
+invariant-loop-slot l =
+    (l.number ≤ l.m) × ((l.number ≤ l.slot) × ((l.offset ≤ 16384 * l.slot)
+    × ((f : ℕ → Message) → Lengths f l.slots l.lens → Summing f l.slot l.number l.offset)))

@@ -1,125 +1,45 @@
--- `tables::shaped_table::copy_tile` meets its contract: the lengths of the first parcels of the tile.
-use Prim.Native.Nat.{◌*◌}
-use native.Mathlib.Nat.{add-zero}
+-- `tables::shaped_table::copy_tile` meets its contract: what is copied stands before the tile's own slots.
+use Prim.Native.Nat.{ℕ, ◌+◌, ◌*◌, ◌≤◌, ◌<◌}
+use mathlib.Core.Path.{◌≡◌}
+use mathlib.Core.List.{List}
 use native.Mathlib.Omega.{arith}
+use Rattle.nest.specs.declared.Nest.{Nest}
+use Rattle.nest.specs.Shape.{tiles}
+use Rattle.plan.specs.declared.Route.TheVariants.{Direct}
 use Rattle.plan.specs.Messages.{directions}
+use Rattle.layout.specs.declared.Sizes.{Sizes}
+use Rattle.layout.specs.Sizes.{Sized}
+use Rattle.tables.specs.shaped_table.Table.{Like, Filling}
 use Rattle.tables.proofs.shaped_table.Laws as L
 use Rattle.tables.proofs.shaped_table.copy_tile.Goals as goal
 
-pub loop-way-init : goal.loop-way-init
-loop-way-init c = (rw (add-zero (c.args.tile * directions c.args.nest)) c.requires.tile_bound.1, omega arith)
+rooms : (x : Nest) (z : Sizes) (lens : List ℕ) (t p : ℕ) → Sized x z → z.route ≡ Direct → t < tiles x → Like x t p
+    → Filling x lens (t * directions x) → (t * z.ways + z.ways ≤ 7168) × (p * z.ways + z.ways ≤ 7168)
+rooms x z lens t p s d h g f = L.tile_rooms x s.accepted lens t p z.ways (L.ways_are x s.accepted z.ways z.route s.ways d) h g f
 
-pub length_as-requires : goal.length_as-requires
-length_as-requires c =
-    record {
-      sized = c.requires.sized;
-      tile_bound = (
-        c.requires.tile_bound.0,
-        (
-          omega (
-            arith,
-            c.loop-way-test.true,
-            (L.ways_are c.args.nest c.requires.sized.0.accepted c.args.sizes.ways c.args.sizes.route
-                c.requires.sized.0.ways c.requires.sized.1.0),
-          ),
-          c.loop-way.invariant.0,
-        ),
-      );
-    }
+pub overflow_mul-from : goal.overflow_mul-from
+overflow_mul-from c =
+    omega (arith, rooms _ _ _ _ _ c.args.layout.now.sized c.requires.sized.0 c.requires.tile_bound.0 c.requires.sized.1 c.requires.tile_bound.1)
 
-pub overflow_mul-lens : goal.overflow_mul-lens
-overflow_mul-lens c =
-    let loop = c.loop-way in
-    let loop-test = c.loop-way-test in
-    omega (
-      arith,
-      (L.slot_place c.args.nest c.requires.sized.0.accepted c.args.tile c.args.sizes.ways loop.way
-          (L.ways_are c.args.nest c.requires.sized.0.accepted c.args.sizes.ways c.args.sizes.route c.requires.sized.0.ways
-          c.requires.sized.1.0)
-          c.requires.tile_bound.0 loop-test.true).0,
-      (L.slot_place c.args.nest c.requires.sized.0.accepted c.args.tile c.args.sizes.ways loop.way
-          (L.ways_are c.args.nest c.requires.sized.0.accepted c.args.sizes.ways c.args.sizes.route c.requires.sized.0.ways
-          c.requires.sized.1.0)
-          c.requires.tile_bound.0 loop-test.true).1,
-    )
+pub overflow_add-from : goal.overflow_add-from
+overflow_add-from c =
+    omega (arith, rooms _ _ _ _ _ c.args.layout.now.sized c.requires.sized.0 c.requires.tile_bound.0 c.requires.sized.1 c.requires.tile_bound.1)
 
-pub overflow_add-lens : goal.overflow_add-lens
-overflow_add-lens c =
-    let loop = c.loop-way in
-    let loop-test = c.loop-way-test in
-    omega (
-      arith,
-      (L.slot_place c.args.nest c.requires.sized.0.accepted c.args.tile c.args.sizes.ways loop.way
-          (L.ways_are c.args.nest c.requires.sized.0.accepted c.args.sizes.ways c.args.sizes.route c.requires.sized.0.ways
-          c.requires.sized.1.0)
-          c.requires.tile_bound.0 loop-test.true).0,
-      (L.slot_place c.args.nest c.requires.sized.0.accepted c.args.tile c.args.sizes.ways loop.way
-          (L.ways_are c.args.nest c.requires.sized.0.accepted c.args.sizes.ways c.args.sizes.route c.requires.sized.0.ways
-          c.requires.sized.1.0)
-          c.requires.tile_bound.0 loop-test.true).1,
-    )
+pub overflow_mul-tile : goal.overflow_mul-tile
+overflow_mul-tile c =
+    omega (arith, rooms _ _ _ _ _ c.args.layout.now.sized c.requires.sized.0 c.requires.tile_bound.0 c.requires.sized.1 c.requires.tile_bound.1)
 
-pub offset_bounds-lens-tile : goal.offset_bounds-lens-tile
-offset_bounds-lens-tile c =
-    let loop = c.loop-way in
-    let loop-test = c.loop-way-test in
-    omega (
-      arith,
-      (L.slot_place c.args.nest c.requires.sized.0.accepted c.args.tile c.args.sizes.ways loop.way
-          (L.ways_are c.args.nest c.requires.sized.0.accepted c.args.sizes.ways c.args.sizes.route c.requires.sized.0.ways
-          c.requires.sized.1.0)
-          c.requires.tile_bound.0 loop-test.true).0,
-      (L.slot_place c.args.nest c.requires.sized.0.accepted c.args.tile c.args.sizes.ways loop.way
-          (L.ways_are c.args.nest c.requires.sized.0.accepted c.args.sizes.ways c.args.sizes.route c.requires.sized.0.ways
-          c.requires.sized.1.0)
-          c.requires.tile_bound.0 loop-test.true).1,
-    )
+pub copy_within-requires-clause-in_bounds : goal.copy_within-requires-clause-in_bounds
+copy_within-requires-clause-in_bounds c =
+    omega (arith, c.requires.tile_bound.1.owned.tiled.numbers.long, rooms _ _ _ _ _ c.args.layout.now.sized c.requires.sized.0 c.requires.tile_bound.0 c.requires.sized.1 c.requires.tile_bound.1)
 
-pub bounds-lens-tile : goal.bounds-lens-tile
-bounds-lens-tile c =
-    let loop = c.loop-way in
-    omega (
-      arith,
-      (L.slot_place c.args.nest c.requires.sized.0.accepted c.args.tile c.args.sizes.ways loop.way
-          (L.ways_are c.args.nest c.requires.sized.0.accepted c.args.sizes.ways c.args.sizes.route c.requires.sized.0.ways
-          c.requires.sized.1.0)
-          c.requires.tile_bound.0 c.loop-way-test.true).1,
-      loop.invariant.0.owned.tiled.numbers.long,
-    )
-
-pub overflow_step-way : goal.overflow_step-way
-overflow_step-way c =
-    let loop = c.loop-way in
-    let loop-test = c.loop-way-test in
-    omega (
-      arith,
-      (L.slot_place c.args.nest c.requires.sized.0.accepted c.args.tile c.args.sizes.ways loop.way
-          (L.ways_are c.args.nest c.requires.sized.0.accepted c.args.sizes.ways c.args.sizes.route c.requires.sized.0.ways
-          c.requires.sized.1.0)
-          c.requires.tile_bound.0 loop-test.true).0,
-      (L.slot_place c.args.nest c.requires.sized.0.accepted c.args.tile c.args.sizes.ways loop.way
-          (L.ways_are c.args.nest c.requires.sized.0.accepted c.args.sizes.ways c.args.sizes.route c.requires.sized.0.ways
-          c.requires.sized.1.0)
-          c.requires.tile_bound.0 loop-test.true).1,
-    )
-
-pub loop-way-smaller : goal.loop-way-smaller
-loop-way-smaller c = omega (arith, c.loop-way-test.true)
-
-pub loop-way-preserved : goal.loop-way-preserved
-loop-way-preserved c =
-    let loop-test = c.loop-way-test in (
-      L.fill_step _ c.requires.sized.0.accepted _ _ _ _ _
-          (L.ways_are c.args.nest c.requires.sized.0.accepted c.args.sizes.ways c.args.sizes.route c.requires.sized.0.ways
-          c.requires.sized.1.0)
-          c.loop-way.invariant.0 c.requires.tile_bound.0 loop-test.true c.length_as.ensures,
-      omega (arith, loop-test.true),
-    )
+pub copy_within-requires-clause-dest_in_bounds : goal.copy_within-requires-clause-dest_in_bounds
+copy_within-requires-clause-dest_in_bounds c =
+    omega (arith, c.requires.tile_bound.1.owned.tiled.numbers.long, rooms _ _ _ _ _ c.args.layout.now.sized c.requires.sized.0 c.requires.tile_bound.0 c.requires.sized.1 c.requires.tile_bound.1)
 
 pub returns : goal.returns
 returns c =
-    let loop = c.loop-way in
-    L.fill_next _ c.requires.sized.0.accepted _ _ _ _
-    (L.ways_are c.args.nest c.requires.sized.0.accepted c.args.sizes.ways c.args.sizes.route c.requires.sized.0.ways
-    c.requires.sized.1.0)
-    loop.invariant.1 c.loop-way-test.false loop.invariant.0
+    let e = c.copy_within.ensures.after in
+    rw e (L.tile_copied c.args.layout.now.nest c.args.layout.now.sized.accepted _ c.args.tile c.args.p c.args.layout.now.sizes.ways
+    (L.ways_are c.args.layout.now.nest c.args.layout.now.sized.accepted c.args.layout.now.sizes.ways c.args.layout.now.sizes.route c.args.layout.now.sized.ways c.requires.sized.0)
+    c.requires.tile_bound.0 c.requires.sized.1 c.requires.tile_bound.1)

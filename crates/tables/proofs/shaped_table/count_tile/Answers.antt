@@ -8,13 +8,10 @@ use Rattle.tables.proofs.shaped_table.Laws as L
 use Rattle.tables.proofs.shaped_table.count_tile.Goals as goal
 
 pub box_of-number-requires : goal.box_of-number-requires
-box_of-number-requires c = (c.requires.sized.0.accepted, (c.requires.tile_bound.1.owned.tiled, c.requires.tile_bound.0))
-
-pub place_of_tile-at-requires : goal.place_of_tile-at-requires
-place_of_tile-at-requires c = c.requires.sized.0
+box_of-number-requires c = (c.args.layout.now.sized.accepted, (c.requires.tile_bound.1.owned.tiled, c.requires.tile_bound.0))
 
 pub loop-way-init : goal.loop-way-init
-loop-way-init c = (rw (add-zero (c.args.tile * directions c.args.nest)) c.requires.tile_bound.1, omega arith)
+loop-way-init c = (rw (add-zero (c.args.tile * directions c.args.layout.now.nest)) c.requires.tile_bound.1, omega arith)
 
 pub slot_length-length-requires : goal.slot_length-length-requires
 slot_length-length-requires c =
@@ -22,19 +19,16 @@ slot_length-length-requires c =
       sized = (
         c.requires.sized.0,
         (
-          c.requires.sized.1.0,
-          (
-            c.box_of-number.ensures.1,
-            omega (
-              arith,
-              c.loop-way-test.true,
-              (L.ways_are c.args.nest c.requires.sized.0.accepted c.args.sizes.ways c.args.sizes.route
-                  c.requires.sized.0.ways c.requires.sized.1.0),
-            ),
+          c.box_of-number.ensures.1,
+          omega (
+            arith,
+            c.loop-way-test.true,
+            (L.ways_are c.args.layout.now.nest c.args.layout.now.sized.accepted c.args.layout.now.sizes.ways c.args.layout.now.sizes.route
+                c.args.layout.now.sized.ways c.requires.sized.0),
           ),
         ),
       );
-      farthest = (c.requires.sized.1.1, c.place_of_tile-at.ensures);
+      farthest = (c.requires.sized.1, c.place_of_tile-at.ensures);
     }
 
 pub overflow_cast-lens : goal.overflow_cast-lens
@@ -46,13 +40,13 @@ overflow_mul-lens c =
     let loop-test = c.loop-way-test in
     omega (
       arith,
-      (L.slot_place c.args.nest c.requires.sized.0.accepted c.args.tile c.args.sizes.ways loop.way
-          (L.ways_are c.args.nest c.requires.sized.0.accepted c.args.sizes.ways c.args.sizes.route c.requires.sized.0.ways
-          c.requires.sized.1.0)
+      (L.slot_place c.args.layout.now.nest c.args.layout.now.sized.accepted c.args.tile c.args.layout.now.sizes.ways loop.way
+          (L.ways_are c.args.layout.now.nest c.args.layout.now.sized.accepted c.args.layout.now.sizes.ways c.args.layout.now.sizes.route c.args.layout.now.sized.ways
+          c.requires.sized.0)
           c.requires.tile_bound.0 loop-test.true).0,
-      (L.slot_place c.args.nest c.requires.sized.0.accepted c.args.tile c.args.sizes.ways loop.way
-          (L.ways_are c.args.nest c.requires.sized.0.accepted c.args.sizes.ways c.args.sizes.route c.requires.sized.0.ways
-          c.requires.sized.1.0)
+      (L.slot_place c.args.layout.now.nest c.args.layout.now.sized.accepted c.args.tile c.args.layout.now.sizes.ways loop.way
+          (L.ways_are c.args.layout.now.nest c.args.layout.now.sized.accepted c.args.layout.now.sizes.ways c.args.layout.now.sizes.route c.args.layout.now.sized.ways
+          c.requires.sized.0)
           c.requires.tile_bound.0 loop-test.true).1,
     )
 
@@ -62,13 +56,13 @@ overflow_add-lens c =
     let loop-test = c.loop-way-test in
     omega (
       arith,
-      (L.slot_place c.args.nest c.requires.sized.0.accepted c.args.tile c.args.sizes.ways loop.way
-          (L.ways_are c.args.nest c.requires.sized.0.accepted c.args.sizes.ways c.args.sizes.route c.requires.sized.0.ways
-          c.requires.sized.1.0)
+      (L.slot_place c.args.layout.now.nest c.args.layout.now.sized.accepted c.args.tile c.args.layout.now.sizes.ways loop.way
+          (L.ways_are c.args.layout.now.nest c.args.layout.now.sized.accepted c.args.layout.now.sizes.ways c.args.layout.now.sizes.route c.args.layout.now.sized.ways
+          c.requires.sized.0)
           c.requires.tile_bound.0 loop-test.true).0,
-      (L.slot_place c.args.nest c.requires.sized.0.accepted c.args.tile c.args.sizes.ways loop.way
-          (L.ways_are c.args.nest c.requires.sized.0.accepted c.args.sizes.ways c.args.sizes.route c.requires.sized.0.ways
-          c.requires.sized.1.0)
+      (L.slot_place c.args.layout.now.nest c.args.layout.now.sized.accepted c.args.tile c.args.layout.now.sizes.ways loop.way
+          (L.ways_are c.args.layout.now.nest c.args.layout.now.sized.accepted c.args.layout.now.sizes.ways c.args.layout.now.sizes.route c.args.layout.now.sized.ways
+          c.requires.sized.0)
           c.requires.tile_bound.0 loop-test.true).1,
     )
 
@@ -78,13 +72,13 @@ offset_bounds-lens-tile c =
     let loop-test = c.loop-way-test in
     omega (
       arith,
-      (L.slot_place c.args.nest c.requires.sized.0.accepted c.args.tile c.args.sizes.ways loop.way
-          (L.ways_are c.args.nest c.requires.sized.0.accepted c.args.sizes.ways c.args.sizes.route c.requires.sized.0.ways
-          c.requires.sized.1.0)
+      (L.slot_place c.args.layout.now.nest c.args.layout.now.sized.accepted c.args.tile c.args.layout.now.sizes.ways loop.way
+          (L.ways_are c.args.layout.now.nest c.args.layout.now.sized.accepted c.args.layout.now.sizes.ways c.args.layout.now.sizes.route c.args.layout.now.sized.ways
+          c.requires.sized.0)
           c.requires.tile_bound.0 loop-test.true).0,
-      (L.slot_place c.args.nest c.requires.sized.0.accepted c.args.tile c.args.sizes.ways loop.way
-          (L.ways_are c.args.nest c.requires.sized.0.accepted c.args.sizes.ways c.args.sizes.route c.requires.sized.0.ways
-          c.requires.sized.1.0)
+      (L.slot_place c.args.layout.now.nest c.args.layout.now.sized.accepted c.args.tile c.args.layout.now.sizes.ways loop.way
+          (L.ways_are c.args.layout.now.nest c.args.layout.now.sized.accepted c.args.layout.now.sizes.ways c.args.layout.now.sizes.route c.args.layout.now.sized.ways
+          c.requires.sized.0)
           c.requires.tile_bound.0 loop-test.true).1,
     )
 
@@ -93,9 +87,9 @@ bounds-lens-tile c =
     let loop = c.loop-way in
     omega (
       arith,
-      (L.slot_place c.args.nest c.requires.sized.0.accepted c.args.tile c.args.sizes.ways loop.way
-          (L.ways_are c.args.nest c.requires.sized.0.accepted c.args.sizes.ways c.args.sizes.route c.requires.sized.0.ways
-          c.requires.sized.1.0)
+      (L.slot_place c.args.layout.now.nest c.args.layout.now.sized.accepted c.args.tile c.args.layout.now.sizes.ways loop.way
+          (L.ways_are c.args.layout.now.nest c.args.layout.now.sized.accepted c.args.layout.now.sizes.ways c.args.layout.now.sizes.route c.args.layout.now.sized.ways
+          c.requires.sized.0)
           c.requires.tile_bound.0 c.loop-way-test.true).1,
       loop.invariant.0.owned.tiled.numbers.long,
     )
@@ -106,13 +100,13 @@ overflow_step-way c =
     let loop-test = c.loop-way-test in
     omega (
       arith,
-      (L.slot_place c.args.nest c.requires.sized.0.accepted c.args.tile c.args.sizes.ways loop.way
-          (L.ways_are c.args.nest c.requires.sized.0.accepted c.args.sizes.ways c.args.sizes.route c.requires.sized.0.ways
-          c.requires.sized.1.0)
+      (L.slot_place c.args.layout.now.nest c.args.layout.now.sized.accepted c.args.tile c.args.layout.now.sizes.ways loop.way
+          (L.ways_are c.args.layout.now.nest c.args.layout.now.sized.accepted c.args.layout.now.sizes.ways c.args.layout.now.sizes.route c.args.layout.now.sized.ways
+          c.requires.sized.0)
           c.requires.tile_bound.0 loop-test.true).0,
-      (L.slot_place c.args.nest c.requires.sized.0.accepted c.args.tile c.args.sizes.ways loop.way
-          (L.ways_are c.args.nest c.requires.sized.0.accepted c.args.sizes.ways c.args.sizes.route c.requires.sized.0.ways
-          c.requires.sized.1.0)
+      (L.slot_place c.args.layout.now.nest c.args.layout.now.sized.accepted c.args.tile c.args.layout.now.sizes.ways loop.way
+          (L.ways_are c.args.layout.now.nest c.args.layout.now.sized.accepted c.args.layout.now.sizes.ways c.args.layout.now.sizes.route c.args.layout.now.sized.ways
+          c.requires.sized.0)
           c.requires.tile_bound.0 loop-test.true).1,
     )
 
@@ -122,9 +116,9 @@ loop-way-smaller c = omega (arith, c.loop-way-test.true)
 pub loop-way-preserved : goal.loop-way-preserved
 loop-way-preserved c =
     let loop-test = c.loop-way-test in (
-      L.fill_step _ c.requires.sized.0.accepted _ _ _ _ _
-          (L.ways_are c.args.nest c.requires.sized.0.accepted c.args.sizes.ways c.args.sizes.route c.requires.sized.0.ways
-          c.requires.sized.1.0)
+      L.fill_step _ c.args.layout.now.sized.accepted _ _ _ _ _
+          (L.ways_are c.args.layout.now.nest c.args.layout.now.sized.accepted c.args.layout.now.sizes.ways c.args.layout.now.sizes.route c.args.layout.now.sized.ways
+          c.requires.sized.0)
           c.loop-way.invariant.0 c.requires.tile_bound.0 loop-test.true
           (c.slot_length-length.ensures.0 c.args.tile c.requires.tile_bound.0 (sym c.box_of-number.ensures.0)),
       omega (arith, loop-test.true),
@@ -133,7 +127,7 @@ loop-way-preserved c =
 pub returns : goal.returns
 returns c =
     let loop = c.loop-way in
-    L.fill_next _ c.requires.sized.0.accepted _ _ _ _
-    (L.ways_are c.args.nest c.requires.sized.0.accepted c.args.sizes.ways c.args.sizes.route c.requires.sized.0.ways
-    c.requires.sized.1.0)
+    L.fill_next _ c.args.layout.now.sized.accepted _ _ _ _
+    (L.ways_are c.args.layout.now.nest c.args.layout.now.sized.accepted c.args.layout.now.sizes.ways c.args.layout.now.sizes.route c.args.layout.now.sized.ways
+    c.requires.sized.0)
     loop.invariant.1 c.loop-way-test.false loop.invariant.0

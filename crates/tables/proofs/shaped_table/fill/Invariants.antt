@@ -6,7 +6,7 @@ use Rattle.tables.specs.shaped_table.Lines.{Lined}
 use Rattle.tables.proofs.shaped_table.fill.Given as goal
 
 abbrev pub invariant-loop-tile : goal.invariant-loop-tile
-invariant-loop-tile l = Filling l.nest l.lens (l.tile * directions l.nest) × ((l.tile ≤ l.n) × (Lined l.nest l.line.far l.line.from l.line.to × (l.back ≤ l.tile)))
+invariant-loop-tile l = Filling l.layout.nest l.lens (l.tile * directions l.layout.nest) × ((l.tile ≤ l.n) × (Lined l.layout.nest l.line.far l.line.from l.line.to × (l.back ≤ l.tile)))
 
 abbrev pub decreases-loop-tile : goal.decreases-loop-tile
 decreases-loop-tile l = l.n - l.tile

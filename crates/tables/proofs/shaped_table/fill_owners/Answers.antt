@@ -7,17 +7,17 @@ use Rattle.tables.proofs.shaped_table.Lines as R
 use Rattle.tables.proofs.shaped_table.fill_owners.Goals as goal
 
 pub tiles_of-n-requires : goal.tiles_of-n-requires
-tiles_of-n-requires c = (c.requires.0.accepted, c.requires.1)
+tiles_of-n-requires c = (c.args.layout.now.sized.accepted, c.requires)
 
 pub loop-t-init : goal.loop-t-init
 loop-t-init c = (
-  L.owned_none _ c.requires.0.accepted _ c.requires.1,
-  (omega arith, λ s h l. R.held_none c.args.nest c.requires.0.accepted _),
+  L.owned_none _ c.args.layout.now.sized.accepted _ c.requires,
+  (omega arith, λ s h l. R.held_none c.args.layout.now.nest c.args.layout.now.sized.accepted _),
 )
 
 pub box_of-tile-requires : goal.box_of-tile-requires
 box_of-tile-requires c = (
-  c.requires.0.accepted,
+  c.args.layout.now.sized.accepted,
   (
     c.loop-t.invariant.0.tiled,
     omega (
@@ -31,17 +31,14 @@ box_of-tile-requires c = (
 pub owner_at-owner-requires : goal.owner_at-owner-requires
 owner_at-owner-requires c =
     let loop = c.loop-t in (
-      c.requires.0,
-      (
-        c.box_of-tile.ensures.1,
-        R.held_later c.args.nest c.requires.0.accepted _ _ _ _
-            (loop.invariant.1.1 loop.t (omega arith) (omega (arith, c.tiles_of-n.ensures.0, c.loop-t-test.true)))
-            (omega (arith, c.box_of-tile.ensures.0)),
-      ),
+      c.box_of-tile.ensures.1,
+      R.held_later c.args.layout.now.nest c.args.layout.now.sized.accepted _ _ _ _
+          (loop.invariant.1.1 loop.t (omega arith) (omega (arith, c.tiles_of-n.ensures.0, c.loop-t-test.true)))
+          (omega (arith, c.box_of-tile.ensures.0)),
     )
 
 pub overflow_cast-lens : goal.overflow_cast-lens
-overflow_cast-lens c = omega (arith, c.owner_at-owner.ensures.1.0, c.requires.0.accepted.processors_most)
+overflow_cast-lens c = omega (arith, c.owner_at-owner.ensures.1.0, c.args.layout.now.sized.accepted.processors_most)
 
 pub overflow_add-lens : goal.overflow_add-lens
 overflow_add-lens c = omega (arith, c.tiles_of-n.ensures.1, c.loop-t-test.true, c.loop-t.invariant.0.tiled.numbers.long)
@@ -64,14 +61,14 @@ loop-t-preserved c =
     let tiles-of = c.tiles_of-n in
     let loop-test = c.loop-t-test in
     let box_of = c.box_of-tile in (
-      L.owned_more _ c.requires.0.accepted _ _ _ loop.invariant.0 (omega (arith, tiles-of.ensures.0, loop-test.true)) (c.owner_at-owner.ensures.0
+      L.owned_more _ c.args.layout.now.sized.accepted _ _ _ loop.invariant.0 (omega (arith, tiles-of.ensures.0, loop-test.true)) (c.owner_at-owner.ensures.0
           ∙ ap (processor_of _) box_of.ensures.0),
       (
         omega (arith, loop-test.true),
-        R.held_next c.args.nest c.requires.0.accepted loop.t _ _ _
+        R.held_next c.args.layout.now.nest c.args.layout.now.sized.accepted loop.t _ _ _
             box_of.ensures.0 (omega (arith, tiles-of.ensures.0, loop-test.true)) c.owner_at-owner.ensures.1.1,
       ),
     )
 
 pub returns : goal.returns
-returns c = L.owned_end _ c.requires.0.accepted _ _ c.loop-t.invariant.0 (omega (arith, c.tiles_of-n.ensures.0, c.loop-t-test.false))
+returns c = L.owned_end _ c.args.layout.now.sized.accepted _ _ c.loop-t.invariant.0 (omega (arith, c.tiles_of-n.ensures.0, c.loop-t-test.false))

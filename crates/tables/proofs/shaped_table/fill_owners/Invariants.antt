@@ -7,7 +7,7 @@ use Rattle.tables.specs.shaped_table.Lines.{OneProcessor}
 use Rattle.tables.proofs.shaped_table.fill_owners.Given as goal
 
 abbrev pub invariant-loop-t : goal.invariant-loop-t
-invariant-loop-t l = Owned l.nest l.lens l.t × ((l.t ≤ l.n) × ((s : ℕ) → l.t ≤ s → s < tiles l.nest → OneProcessor l.nest (box_tile l.nest s) l.owner.number l.owner.end))
+invariant-loop-t l = Owned l.layout.nest l.lens l.t × ((l.t ≤ l.n) × ((s : ℕ) → l.t ≤ s → s < tiles l.layout.nest → OneProcessor l.layout.nest (box_tile l.layout.nest s) l.owner.number l.owner.end))
 
 abbrev pub decreases-loop-t : goal.decreases-loop-t
 decreases-loop-t l = l.n - l.t

@@ -1,62 +1,46 @@
 -- `tables::shaped_table::nth_at` meets its contract: not among the slots before s.
-use mathlib.Core.Path.{◌∙◌}
 use mathlib.Core.Logic.{inl, inr}
 use native.Mathlib.Omega.{arith}
-use Rattle.plan.specs.Shaped.{shaped_message}
+use Prim.Native.Nat.{◌<◌}
+use Rattle.plan.specs.Shaped.{shaped_message, shaped_slots}
 use Rattle.tables.proofs.scans.Laws.{not_yet}
 use Rattle.tables.proofs.shaped_table.Laws as L
 use Rattle.tables.proofs.shaped_table.nth_at.Goals as goal
 use Rattle.tables.proofs.shaped_table.nth_at.Goals.{then-sends_at+else-seen-j, else-sends_at}
 
 pub steps_of-steps-requires : goal.steps_of-steps-requires
-steps_of-steps-requires c = (c.requires.sized.0, c.requires.sized.1.0)
+steps_of-steps-requires c = c.requires.sized.0
 
-pub range_of-slots-requires : goal.range_of-slots-requires
-range_of-slots-requires c = (c.requires.sized.0, (c.requires.sized.1.0, c.requires.sized.1.1.1))
+pub range_of-start-requires : goal.range_of-start-requires
+range_of-start-requires c = (c.requires.sized.0, c.requires.sized.1.1)
 
 pub loop-s-init : goal.loop-s-init
 loop-s-init c =
-    let range-of = c.range_of-slots in (
+    let range-of = c.range_of-start in (
       range-of.ensures.first_low,
-      (omega arith, L.range_start _ c.requires.sized.0.accepted c.args.side c.args.tile _ _ range-of.ensures),
+      (omega arith, L.range_start _ c.args.layout.now.sized.accepted c.args.side c.args.tile _ _ range-of.ensures),
     )
 
 pub sends_at-requires : goal.sends_at-requires
-sends_at-requires c = record { sized = (c.requires.sized.0, (c.requires.sized.1.0, (c.requires.sized.1.1.0, c.steps_of-steps.ensures))); slot_bound = (omega (arith, c.loop-s-test.true, c.range_of-slots.ensures.end_low), c.requires.sized.1.1.1) }
+sends_at-requires c = record { sized = (c.requires.sized.0, (c.requires.sized.1.0, c.steps_of-steps.ensures)); slot_bound = (omega (arith, c.loop-s-test.true, c.range_of-start.ensures.end_low), c.requires.sized.1.1) }
 
-pub sums_to-before-requires : goal.sums_to-before-requires
-sums_to-before-requires c = L.sheet _ c.requires.sized.0.accepted _ c.requires.sized.1.1.0 _ (omega (arith, c.loop-s-test.true, c.range_of-slots.ensures.end_low))
-
-pub offset_bounds-lens-s : goal.offset_bounds-lens-s
-offset_bounds-lens-s c = omega (arith, c.loop-s-test.true, c.range_of-slots.ensures.end_low, L.slots_few _ c.requires.sized.0.accepted)
-
-pub bounds-lens-s : goal.bounds-lens-s
-bounds-lens-s c =
-    omega (
-      arith,
-      c.loop-s-test.true,
-      c.range_of-slots.ensures.end_low,
-      L.slots_few _ c.requires.sized.0.accepted,
-      c.requires.sized.1.1.0.owned.tiled.numbers.long,
-    )
+pub message_of-requires : goal.message_of-requires
+message_of-requires c = L.sheet _ c.args.layout.now.sized.accepted _ c.requires.sized.1.0 _ (omega (arith, c.loop-s-test.true, c.range_of-start.ensures.end_low))
 
 pub returns-then-seen-j : goal.returns-then-seen-j
 returns-then-seen-j c =
-    let loop = c.loop-s in
-    let loop-test = c.loop-s-test in
-    let range-of = c.range_of-slots in
     let f = c.sends_at.ensures.0 c.if-sends_at.true in
-    L.seen_found _ c.requires.sized.0.accepted c.args.side c.args.tile loop.s loop.seen c.args.j _ _ _
-    (omega (arith, loop-test.true, range-of.ensures.end_low)) loop.invariant.1.1 c.if-seen-j.true f.0 f.1
-    (c.sums_to-before.ensures.1.1 (shaped_message c.args.nest) (L.lengths _ c.requires.sized.0.accepted _ c.requires.sized.1.1.0 _
-    (omega (arith, loop-test.true, range-of.ensures.end_low)))) (c.half_index.ensures ∙ c.requires.sized.1.1.0.each loop.s
-    (omega (arith, loop-test.true, range-of.ensures.end_low)))
+    let low : c.loop-s.s < shaped_slots c.args.layout.now.nest = omega (arith, c.loop-s-test.true, c.range_of-start.ensures.end_low) in
+    L.seen_found _ c.args.layout.now.sized.accepted c.args.side c.args.tile c.loop-s.s c.loop-s.seen c.args.j
+    low c.loop-s.invariant.1.1 c.if-seen-j.true f.0 f.1 _
+    (c.message_of.ensures (shaped_message c.args.layout.now.nest) (shaped_slots c.args.layout.now.nest)
+    (L.lengths _ c.args.layout.now.sized.accepted _ c.requires.sized.1.0 _ (omega arith)) low f.0)
 
 pub overflow_add-seen : goal.overflow_add-seen
 overflow_add-seen c = omega (arith, c.loop-s.invariant.1.0)
 
 pub overflow_step-s : goal.overflow_step-s
-overflow_step-s c = omega (arith, c.loop-s-test.true, c.range_of-slots.ensures.end_low, L.slots_few _ c.requires.sized.0.accepted)
+overflow_step-s c = omega (arith, c.loop-s-test.true, c.range_of-start.ensures.end_low, L.slots_few _ c.args.layout.now.sized.accepted)
 
 pub loop-s-smaller : goal.loop-s-smaller
 loop-s-smaller c = omega (arith, c.loop-s-test.true)
@@ -69,15 +53,14 @@ loop-s-preserved c =
       omega (arith, loop-test.true),
       (
         elim if1.branch [ then-sends_at+else-seen-j w ↦ not_yet _ _ _ loop.invariant.1.0 w.if-seen-j.false w.seen-is | else-sends_at w ↦ omega (arith, w.seen-is, loop.invariant.1.0) ],
-        L.seen_turn _ c.requires.sized.0.accepted c.args.side c.args.tile _ _ _ _
-            (omega (arith, loop-test.true, c.range_of-slots.ensures.end_low)) loop.invariant.1.1 c.sends_at.ensures
+        L.seen_turn _ c.args.layout.now.sized.accepted c.args.side c.args.tile _ _ _ _
+            (omega (arith, loop-test.true, c.range_of-start.ensures.end_low)) loop.invariant.1.1 c.sends_at.ensures
             (elim if1.branch [ then-sends_at+else-seen-j w ↦ inl (w.if-sends_at.true, w.seen-is) | else-sends_at w ↦ inr (w.if-sends_at.false, w.seen-is) ]),
       ),
     )
 
-pub returns : goal.returns
-returns c =
+pub unreachable-requires : goal.unreachable-requires
+unreachable-requires c =
     let loop = c.loop-s in
-    absurd
-    (L.ranged_nowhere _ c.requires.sized.0.accepted c.args.side c.args.tile _ _ c.range_of-slots.ensures _ _ _
+    (L.ranged_nowhere _ c.args.layout.now.sized.accepted c.args.side c.args.tile _ _ c.range_of-start.ensures _ _ _
     loop.invariant.0 c.loop-s-test.false loop.invariant.1.1 loop.invariant.1.0 c.requires.j_in_bounds)

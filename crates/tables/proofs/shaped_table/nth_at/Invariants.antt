@@ -10,7 +10,7 @@ use Rattle.tables.proofs.shaped_table.nth_at.Given as goal
 abbrev pub invariant-loop-s : goal.invariant-loop-s
 invariant-loop-s l =
     (l.s ≤ l.end) ×
-    ((l.seen ≤ l.j) × (l.seen ≡ scan.seen (shaped_message l.nest) (shaped_slots l.nest) (end_of l.side) l.tile l.s))
+    ((l.seen ≤ l.j) × (l.seen ≡ scan.seen (shaped_message l.layout.nest) (shaped_slots l.layout.nest) (end_of l.side) l.tile l.s))
 
 abbrev pub decreases-loop-s : goal.decreases-loop-s
 decreases-loop-s l = l.end - l.s

@@ -2,8 +2,5 @@
 use Rattle.tables.proofs.shaped_table.Laws as L
 use Rattle.tables.proofs.shaped_table.steps_of.Goals as goal
 
-pub steps_of-requires : goal.steps_of-requires
-steps_of-requires c = c.requires.0
-
 pub returns : goal.returns
-returns c = L.steps_are _ c.requires.0.accepted c.args.sizes.route _ c.requires.1 c.steps_of.ensures
+returns c = L.steps_are _ c.args.layout.now.sized.accepted c.args.layout.now.sizes.route _ c.requires c.steps_of.ensures

@@ -5,50 +5,50 @@ use Rattle.tables.proofs.shaped_table.Laws as L
 use Rattle.tables.proofs.shaped_table.taker_of.Goals as goal
 
 pub steps_of-steps-requires : goal.steps_of-steps-requires
-steps_of-steps-requires c = (c.requires.0, c.requires.1.0)
+steps_of-steps-requires c = c.requires.0
 
 pub nonzero_div-slot : goal.nonzero_div-slot
 nonzero_div-slot c =
-    L.some_ways c.args.nest c.requires.0.accepted c.args.slot c.args.sizes.ways
-    (L.ways_are c.args.nest c.requires.0.accepted c.args.sizes.ways
-    c.args.sizes.route c.requires.0.ways c.requires.1.0) c.requires.1.1.1
+    L.some_ways c.args.layout.now.nest c.args.layout.now.sized.accepted c.args.slot c.args.layout.now.sizes.ways
+    (L.ways_are c.args.layout.now.nest c.args.layout.now.sized.accepted c.args.layout.now.sizes.ways
+    c.args.layout.now.sizes.route c.args.layout.now.sized.ways c.requires.0) c.requires.1.1
 
 pub box_of-from-requires : goal.box_of-from-requires
 box_of-from-requires c = (
-  c.requires.0.accepted,
+  c.args.layout.now.sized.accepted,
   (
-    c.requires.1.1.0.owned.tiled,
-    L.sender_low c.args.nest
-        c.requires.0.accepted c.args.slot c.args.sizes.ways (L.ways_are c.args.nest
-        c.requires.0.accepted c.args.sizes.ways c.args.sizes.route c.requires.0.ways
-        c.requires.1.0) c.requires.1.1.1,
+    c.requires.1.0.owned.tiled,
+    L.sender_low c.args.layout.now.nest
+        c.args.layout.now.sized.accepted c.args.slot c.args.layout.now.sizes.ways (L.ways_are c.args.layout.now.nest
+        c.args.layout.now.sized.accepted c.args.layout.now.sizes.ways c.args.layout.now.sizes.route c.args.layout.now.sized.ways
+        c.requires.0) c.requires.1.1,
   ),
 )
 
 pub nonzero_rem-number : goal.nonzero_rem-number
 nonzero_rem-number c =
-    L.some_ways c.args.nest c.requires.0.accepted c.args.slot c.args.sizes.ways
-    (L.ways_are c.args.nest c.requires.0.accepted c.args.sizes.ways c.args.sizes.route c.requires.0.ways
-    c.requires.1.0) c.requires.1.1.1
+    L.some_ways c.args.layout.now.nest c.args.layout.now.sized.accepted c.args.slot c.args.layout.now.sizes.ways
+    (L.ways_are c.args.layout.now.nest c.args.layout.now.sized.accepted c.args.layout.now.sizes.ways c.args.layout.now.sizes.route c.args.layout.now.sized.ways
+    c.requires.0) c.requires.1.1
 
 pub offset_bounds-steps-slot : goal.offset_bounds-steps-slot
 offset_bounds-steps-slot c =
     omega (
       arith,
-      L.way_low c.args.nest c.requires.0.accepted c.args.slot c.args.sizes.ways
-          (L.ways_are c.args.nest c.requires.0.accepted c.args.sizes.ways c.args.sizes.route c.requires.0.ways
-          c.requires.1.0) c.requires.1.1.1,
-      L.dirs_few _ c.requires.0.accepted,
+      L.way_low c.args.layout.now.nest c.args.layout.now.sized.accepted c.args.slot c.args.layout.now.sizes.ways
+          (L.ways_are c.args.layout.now.nest c.args.layout.now.sized.accepted c.args.layout.now.sizes.ways c.args.layout.now.sizes.route c.args.layout.now.sized.ways
+          c.requires.0) c.requires.1.1,
+      L.dirs_few _ c.args.layout.now.sized.accepted,
     )
 
 pub bounds-steps-slot : goal.bounds-steps-slot
 bounds-steps-slot c =
     omega (
       arith,
-      L.way_low c.args.nest c.requires.0.accepted c.args.slot c.args.sizes.ways
-          (L.ways_are c.args.nest c.requires.0.accepted c.args.sizes.ways c.args.sizes.route c.requires.0.ways
-          c.requires.1.0) c.requires.1.1.1,
-      L.dirs_few _ c.requires.0.accepted,
+      L.way_low c.args.layout.now.nest c.args.layout.now.sized.accepted c.args.slot c.args.layout.now.sizes.ways
+          (L.ways_are c.args.layout.now.nest c.args.layout.now.sized.accepted c.args.layout.now.sizes.ways c.args.layout.now.sizes.route c.args.layout.now.sized.ways
+          c.requires.0) c.requires.1.1,
+      L.dirs_few _ c.args.layout.now.sized.accepted,
     )
 
 pub overflow_add-number : goal.overflow_add-number
@@ -56,27 +56,27 @@ overflow_add-number c =
     omega (
       arith,
       c.box_of-from.ensures.1,
-      L.box_few _ c.requires.0.accepted,
-      L.step_most _ c.requires.0.accepted _
-          c.steps_of-steps.ensures _ (L.way_low c.args.nest c.requires.0.accepted c.args.slot c.args.sizes.ways
-          (L.ways_are c.args.nest c.requires.0.accepted c.args.sizes.ways c.args.sizes.route c.requires.0.ways
-          c.requires.1.0) c.requires.1.1.1),
+      L.box_few _ c.args.layout.now.sized.accepted,
+      L.step_most _ c.args.layout.now.sized.accepted _
+          c.steps_of-steps.ensures _ (L.way_low c.args.layout.now.nest c.args.layout.now.sized.accepted c.args.slot c.args.layout.now.sizes.ways
+          (L.ways_are c.args.layout.now.nest c.args.layout.now.sized.accepted c.args.layout.now.sizes.ways c.args.layout.now.sizes.route c.args.layout.now.sized.ways
+          c.requires.0) c.requires.1.1),
     )
 
 pub tiles_of-n-requires : goal.tiles_of-n-requires
-tiles_of-n-requires c = (c.requires.0.accepted, c.requires.1.1.0.owned.tiled)
+tiles_of-n-requires c = (c.args.layout.now.sized.accepted, c.requires.1.0.owned.tiled)
 
 pub loop-t-init : goal.loop-t-init
 loop-t-init c = (omega arith, λ i h. absurd (omega arith))
 
 pub box_of-own-requires : goal.box_of-own-requires
-box_of-own-requires c = (c.requires.0.accepted, (c.requires.1.1.0.owned.tiled, omega (arith, c.tiles_of-n.ensures.0, c.loop-t-test.true)))
+box_of-own-requires c = (c.args.layout.now.sized.accepted, (c.requires.1.0.owned.tiled, omega (arith, c.tiles_of-n.ensures.0, c.loop-t-test.true)))
 
 pub returns-then-own-number : goal.returns-then-own-number
 returns-then-own-number c =
-    λ full. sym (L.taker_here c.args.nest c.requires.0.accepted c.args.slot c.args.sizes.ways
-    (L.ways_are c.args.nest c.requires.0.accepted c.args.sizes.ways c.args.sizes.route c.requires.0.ways
-    c.requires.1.0) c.requires.1.1.1 c.steps_of-steps.result c.steps_of-steps.ensures c.box_of-from.result _
+    λ full. sym (L.taker_here c.args.layout.now.nest c.args.layout.now.sized.accepted c.args.slot c.args.layout.now.sizes.ways
+    (L.ways_are c.args.layout.now.nest c.args.layout.now.sized.accepted c.args.layout.now.sizes.ways c.args.layout.now.sizes.route c.args.layout.now.sized.ways
+    c.requires.0) c.requires.1.1 c.steps_of-steps.result c.steps_of-steps.ensures c.box_of-from.result _
     c.box_of-from.ensures.0 refl full c.loop-t.t (omega (arith, c.tiles_of-n.ensures.0, c.loop-t-test.true))
     (omega (arith, c.box_of-own.ensures.0, c.if-own-number.true)) c.loop-t.invariant.1)
 
@@ -95,8 +95,8 @@ loop-t-preserved c = (
 
 pub returns : goal.returns
 returns c =
-    λ full. L.taker_some c.args.nest c.requires.0.accepted c.args.slot c.args.sizes.ways
-    (L.ways_are c.args.nest c.requires.0.accepted c.args.sizes.ways c.args.sizes.route c.requires.0.ways
-    c.requires.1.0) c.requires.1.1.1 c.steps_of-steps.result c.steps_of-steps.ensures c.box_of-from.result _
+    λ full. L.taker_some c.args.layout.now.nest c.args.layout.now.sized.accepted c.args.slot c.args.layout.now.sizes.ways
+    (L.ways_are c.args.layout.now.nest c.args.layout.now.sized.accepted c.args.layout.now.sizes.ways c.args.layout.now.sizes.route c.args.layout.now.sized.ways
+    c.requires.0) c.requires.1.1 c.steps_of-steps.result c.steps_of-steps.ensures c.box_of-from.result _
     c.box_of-from.ensures.0 refl full _
     (λ i h. c.loop-t.invariant.1 i (omega (arith, h, c.tiles_of-n.ensures.0, c.loop-t-test.false)))

@@ -50,8 +50,8 @@ loop-t-preserved c = (
   ),
 )
 
-pub returns : goal.returns
-returns c =
-    absurd (L.own_nowhere _ c.requires.accepted.0 _ _ _ _ (omega (arith, c.loop-t.invariant.0, c.tiles_of-n.ensures.0))
+pub unreachable-requires : goal.unreachable-requires
+unreachable-requires c =
+    (L.own_nowhere _ c.requires.accepted.0 _ _ _ _ (omega (arith, c.loop-t.invariant.0, c.tiles_of-n.ensures.0))
     (omega (arith, c.loop-t-test.false, c.tiles_of-n.ensures.0)) c.loop-t.invariant.1.1 c.loop-t.invariant.1.0
     c.requires.finished_in_bounds)

@@ -11,16 +11,16 @@ use Rattle.transport.proofs.inner.mark_undelivered.Goals as goal
 use Rattle.transport.proofs.inner.mark_undelivered.Goals.{then-status-number-ne2, else-status-number-ne2}
 
 pub count_at-n-requires : goal.count_at-n-requires
-count_at-n-requires c = (c.requires.planned.0.0, (c.requires.planned.0.1, c.requires.planned.1))
+count_at-n-requires c = c.requires.planned
 
 pub loop-j-init : goal.loop-j-init
 loop-j-init c =
     let count_at = c.count_at-n in
-    waiting.mark_start (plan_of c.args.sizes.route c.args.nest) c.args.status.now c.args.tile c.args.marks.now
+    waiting.mark_start (plan_of c.args.table.now.layout.sizes.route c.args.table.now.layout.nest) c.args.status.now c.args.tile c.args.marks.now
     count_at.result count_at.ensures.0 c.requires.status_len.1
 
 pub nth_at-place-requires : goal.nth_at-place-requires
-nth_at-place-requires c = record { sized = (c.requires.planned.0.0, (c.requires.planned.0.1, c.requires.planned.1)); j_in_bounds = omega (arith, c.count_at-n.ensures.0, c.loop-j-test.true) }
+nth_at-place-requires c = record { sized = c.requires.planned; j_in_bounds = omega (arith, c.count_at-n.ensures.0, c.loop-j-test.true) }
 
 pub bounds-status-number : goal.bounds-status-number
 bounds-status-number c =
@@ -32,25 +32,19 @@ bounds-marks-number c =
     let nth-at = c.nth_at-place in
     omega (arith, nth-at.ensures.number, nth-at.ensures.low, c.loop-j.invariant.long)
 
-pub overflow_add-j : goal.overflow_add-j
-overflow_add-j c = omega (arith, c.loop-j-test.true, c.count_at-n.ensures.1)
-
-pub loop-j-smaller : goal.loop-j-smaller
-loop-j-smaller c = omega (arith, c.loop-j-test.true)
-
 pub loop-j-preserved : goal.loop-j-preserved
 loop-j-preserved c =
     let loop = c.loop-j in
     let nth-at = c.nth_at-place in
-    waiting.mark_next (plan_of c.args.sizes.route c.args.nest) c.args.status.now c.args.tile loop.marks c.count_at-n.result
+    waiting.mark_next (plan_of c.args.table.now.layout.sizes.route c.args.table.now.layout.nest) c.args.status.now c.args.tile loop.marks c.count_at-n.result
     loop.j loop.invariant c.loop-j-test.true nth-at.result.number nth-at.ensures.number
     (omega (arith, nth-at.ensures.number, nth-at.ensures.low)) c.if-status-number-ne2.marks (elim c.if-status-number-ne2.branch [ then-status-number-ne2 w ↦ inl (w.if-status-number-ne2.true, w.marks-is) | else-status-number-ne2 w ↦ inr (w.if-status-number-ne2.false, w.marks-is) ])
 
 pub shape_of-marks : goal.shape_of-marks
-shape_of-marks c = c.loop-j.invariant.long ∙ sym (ap length c.requires.status_len.1 ∙ length-replicate (count (plan_of c.args.sizes.route c.args.nest)) 0)
+shape_of-marks c = c.loop-j.invariant.long ∙ sym (ap length c.requires.status_len.1 ∙ length-replicate (count (plan_of c.args.table.now.layout.sizes.route c.args.table.now.layout.nest)) 0)
 
 pub returns : goal.returns
 returns c =
     let loop = c.loop-j in
-    waiting.mark_done (plan_of c.args.sizes.route c.args.nest) c.args.status.now c.args.tile loop.marks
+    waiting.mark_done (plan_of c.args.table.now.layout.sizes.route c.args.table.now.layout.nest) c.args.status.now c.args.tile loop.marks
     c.count_at-n.result loop.j loop.invariant c.loop-j-test.false

@@ -1,11 +1,7 @@
 -- `inner::mark_undelivered` meets its contract: the messages due that were looked at.
-use Rattle.std.specs.Prelude.{◌-◌}
 use Rattle.plan.specs.Shaped.{plan_of}
 use Rattle.transport.proofs.Awaiting as waiting
 use Rattle.transport.proofs.inner.mark_undelivered.Given as goal
 
 abbrev pub invariant-loop-j : goal.invariant-loop-j
-invariant-loop-j l = waiting.Marking (plan_of l.sizes.route l.nest) l.status l.tile l.marks l.n l.j
-
-abbrev pub decreases-loop-j : goal.decreases-loop-j
-decreases-loop-j l = l.n - l.j
+invariant-loop-j l = waiting.Marking (plan_of l.table.layout.sizes.route l.table.layout.nest) l.status l.tile l.marks l.n l.j

@@ -10,18 +10,6 @@ use Rattle.transport.proofs.inner.owner_row.Goals as goal
 pub loop-y-init : goal.loop-y-init
 loop-y-init c = stored.store_start (λ y. pick (within c.args.s y) c.args.processor c.args.none) c.args.row.now
 
-pub offset_bounds-row-y : goal.offset_bounds-row-y
-offset_bounds-row-y c = omega (arith, c.requires, c.loop-y.invariant.long)
-
-pub bounds-row-y : goal.bounds-row-y
-bounds-row-y c = omega (arith, c.loop-y.invariant.long, c.loop-y-test.true)
-
-pub overflow_add-y : goal.overflow_add-y
-overflow_add-y c = omega (arith, c.requires, c.loop-y.invariant.long, c.loop-y-test.true)
-
-pub loop-y-smaller : goal.loop-y-smaller
-loop-y-smaller c = omega (arith, c.loop-y.invariant.long, c.loop-y-test.true)
-
 pub loop-y-preserved : goal.loop-y-preserved
 loop-y-preserved c =
     let loop = c.loop-y in

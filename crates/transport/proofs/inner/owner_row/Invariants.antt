@@ -1,5 +1,4 @@
 -- `inner::owner_row` meets its contract: the words passed.
-use Rattle.std.specs.Prelude.{◌-◌, length}
 use Rattle.base.specs.Tests.{pick}
 use Rattle.nest.specs.Spans.{within}
 use Rattle.base.proofs.Stored as stored
@@ -7,6 +6,3 @@ use Rattle.transport.proofs.inner.owner_row.Given as goal
 
 abbrev pub invariant-loop-y : goal.invariant-loop-y
 invariant-loop-y l = stored.Stored (λ y. pick (within l.s y) l.processor l.none) l.initial.row l.row l.y
-
-abbrev pub decreases-loop-y : goal.decreases-loop-y
-decreases-loop-y l = length l.initial.row - l.y

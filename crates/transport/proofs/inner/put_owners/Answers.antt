@@ -9,61 +9,58 @@ use Rattle.transport.proofs.RowOwners as owners
 use Rattle.transport.proofs.inner.put_owners.Goals as goal
 
 pub overflow_cast-none : goal.overflow_cast-none
-overflow_cast-none c = omega (arith, c.requires.0.processors, c.requires.0.accepted.processors_most)
+overflow_cast-none c = omega (arith, c.args.layout.now.sized.processors, c.args.layout.now.sized.accepted.processors_most)
 
 pub overflow_sub-width : goal.overflow_sub-width
-overflow_sub-width c = omega (arith, c.requires.0.accepted.dimensions_least)
+overflow_sub-width c = omega (arith, c.args.layout.now.sized.accepted.dimensions_least)
 
-pub offset_bounds-nest-nest : goal.offset_bounds-nest-nest
-offset_bounds-nest-nest c = omega (arith, c.requires.0.accepted.dimensions_most)
+pub offset_bounds-layout-layout : goal.offset_bounds-layout-layout
+offset_bounds-layout-layout c = omega (arith, c.args.layout.now.sized.accepted.dimensions_most)
 
-pub bounds-nest-nest : goal.bounds-nest-nest
-bounds-nest-nest c = omega (arith, c.requires.0.accepted.dimensions_least, c.requires.0.accepted.dimensions_most)
+pub bounds-layout-layout : goal.bounds-layout-layout
+bounds-layout-layout c = omega (arith, c.args.layout.now.sized.accepted.dimensions_least, c.args.layout.now.sized.accepted.dimensions_most)
 
 pub row_count-rows-requires : goal.row_count-rows-requires
-row_count-rows-requires c = framed _ c.requires.0.accepted
+row_count-rows-requires c = framed _ c.args.layout.now.sized.accepted
 
 pub loop-q-init : goal.loop-q-init
-loop-q-init c = (omega arith, owners.rows_start c.args.nest c.requires.0.accepted c.args.out.now _)
+loop-q-init c = (omega arith, owners.rows_start c.args.layout.now.nest c.args.layout.now.sized.accepted c.args.out.now _)
 
 pub overflow_mul-c : goal.overflow_mul-c
 overflow_mul-c c =
     let row_count = c.row_count-rows in
     omega (
       arith,
-      (owners.row_ends c.args.nest c.requires.0.accepted row_count.result c.loop-q.q _ refl row_count.ensures c.loop-q-test.true),
-      c.requires.0.accepted.cells_most,
+      (owners.row_ends c.args.layout.now.nest c.args.layout.now.sized.accepted row_count.result c.loop-q.q _ refl row_count.ensures c.loop-q-test.true),
+      c.args.layout.now.sized.accepted.cells_most,
     )
 
 pub row_place-at-requires : goal.row_place-at-requires
-row_place-at-requires c = framed _ c.requires.0.accepted
+row_place-at-requires c = framed _ c.args.layout.now.sized.accepted
 
 pub span-own-requires : goal.span-own-requires
-span-own-requires c = (framed _ c.requires.0.accepted, c.row_place-at.ensures.narrow)
+span-own-requires c = (framed _ c.args.layout.now.sized.accepted, c.row_place-at.ensures.narrow)
 
 pub tile_of-tile-requires : goal.tile_of-tile-requires
 tile_of-tile-requires c =
-    let row_count = c.row_count-rows in (
-      c.requires.0,
-      omega (
-        arith,
-        (owners.row_ends c.args.nest c.requires.0.accepted row_count.result c.loop-q.q _ refl row_count.ensures
-            c.loop-q-test.true),
-        owners.wide_some c.args.nest c.requires.0.accepted,
-      ),
+    let row_count = c.row_count-rows in omega (
+      arith,
+      (owners.row_ends c.args.layout.now.nest c.args.layout.now.sized.accepted row_count.result c.loop-q.q _ refl row_count.ensures
+          c.loop-q-test.true),
+      owners.wide_some c.args.layout.now.nest c.args.layout.now.sized.accepted,
     )
 
 pub processor_of-processor-requires : goal.processor_of-processor-requires
-processor_of-processor-requires c = (c.requires.0, c.tile_of-tile.ensures.1)
+processor_of-processor-requires c = c.tile_of-tile.ensures.1
 
 pub overflow_add-end : goal.overflow_add-end
 overflow_add-end c =
     let row_count = c.row_count-rows in
     omega (
       arith,
-      (owners.row_ends c.args.nest c.requires.0.accepted row_count.result c.loop-q.q _ refl row_count.ensures
+      (owners.row_ends c.args.layout.now.nest c.args.layout.now.sized.accepted row_count.result c.loop-q.q _ refl row_count.ensures
           c.loop-q-test.true),
-      c.requires.0.accepted.cells_most,
+      c.args.layout.now.sized.accepted.cells_most,
     )
 
 pub offset_bounds-out-c : goal.offset_bounds-out-c
@@ -72,11 +69,11 @@ offset_bounds-out-c c =
     let loop = c.loop-q in
     omega (
       arith,
-      (owners.row_ends c.args.nest c.requires.0.accepted row_count.result loop.q _ refl row_count.ensures
+      (owners.row_ends c.args.layout.now.nest c.args.layout.now.sized.accepted row_count.result loop.q _ refl row_count.ensures
           c.loop-q-test.true),
       loop.invariant.1.long,
-      c.requires.1,
-      c.requires.0.accepted.cells_most,
+      c.requires,
+      c.args.layout.now.sized.accepted.cells_most,
     )
 
 pub slice_bounds-owner_row-count : goal.slice_bounds-owner_row-count
@@ -91,35 +88,35 @@ slice_bounds-owner_row-end c =
     let loop = c.loop-q in
     omega (
       arith,
-      (owners.row_ends c.args.nest c.requires.0.accepted row_count.result loop.q _ refl row_count.ensures
+      (owners.row_ends c.args.layout.now.nest c.args.layout.now.sized.accepted row_count.result loop.q _ refl row_count.ensures
           c.loop-q-test.true),
       loop.invariant.1.long,
-      c.requires.1,
-      c.requires.0.accepted.cells_most,
+      c.requires,
+      c.args.layout.now.sized.accepted.cells_most,
     )
 
 pub overflow_cast-processor : goal.overflow_cast-processor
-overflow_cast-processor c = omega (arith, c.processor_of-processor.ensures.1, c.requires.0.accepted.processors_most)
+overflow_cast-processor c = omega (arith, c.processor_of-processor.ensures.1, c.args.layout.now.sized.accepted.processors_most)
 
 pub owner_row-requires : goal.owner_row-requires
 owner_row-requires c =
     let loop = c.loop-q in
     let row_count = c.row_count-rows in
-    owners.mid_few loop.out (loop.q * length_of c.args.nest (last c.args.nest)) (length_of c.args.nest (last c.args.nest))
+    owners.mid_few loop.out (loop.q * length_of c.args.layout.now.nest (last c.args.layout.now.nest)) (length_of c.args.layout.now.nest (last c.args.layout.now.nest))
     (omega (
       arith,
-      (owners.row_ends c.args.nest c.requires.0.accepted row_count.result loop.q _ refl row_count.ensures
+      (owners.row_ends c.args.layout.now.nest c.args.layout.now.sized.accepted row_count.result loop.q _ refl row_count.ensures
           c.loop-q-test.true),
       loop.invariant.1.long,
-      c.requires.1,
-      c.requires.0.accepted.cells_most,
+      c.requires,
+      c.args.layout.now.sized.accepted.cells_most,
     ))
-    (omega (arith, loop.invariant.1.long, c.requires.1, c.requires.0.accepted.cells_most))
+    (omega (arith, loop.invariant.1.long, c.requires, c.args.layout.now.sized.accepted.cells_most))
 
 pub overflow_step-q : goal.overflow_step-q
 overflow_step-q c =
     let row_count = c.row_count-rows in
-    omega (arith, owners.rows_few c.args.nest c.requires.0.accepted row_count.result row_count.ensures, c.loop-q-test.true)
+    omega (arith, owners.rows_few c.args.layout.now.nest c.args.layout.now.sized.accepted row_count.result row_count.ensures, c.loop-q-test.true)
 
 pub loop-q-smaller : goal.loop-q-smaller
 loop-q-smaller c = omega (arith, c.loop-q-test.true)
@@ -135,12 +132,12 @@ loop-q-preserved c =
     let owner-row = c.owner_row in
     let row_count = c.row_count-rows in (
       omega (arith, loop-test.true),
-      owners.row_stored c.args.nest c.requires.0.accepted loop.q row_place.result row_place.ensures span.result
-          span.ensures tile-of.result processor-of.result _ tile-of.ensures.0 processor-of.ensures.0 c.requires.0.processors
+      owners.row_stored c.args.layout.now.nest c.args.layout.now.sized.accepted loop.q row_place.result row_place.ensures span.result
+          span.ensures tile-of.result processor-of.result _ tile-of.ensures.0 processor-of.ensures.0 c.args.layout.now.sized.processors
           c.args.out.now
           loop.out owner-row.new.row _ _ refl refl loop.invariant.1
-          (owners.row_ends c.args.nest c.requires.0.accepted row_count.result loop.q _ refl
-          row_count.ensures loop-test.true) c.requires.1 owner-row.auto.row owner-row.ensures,
+          (owners.row_ends c.args.layout.now.nest c.args.layout.now.sized.accepted row_count.result loop.q _ refl
+          row_count.ensures loop-test.true) c.requires owner-row.auto.row owner-row.ensures,
     )
 
 pub shape_of-out : goal.shape_of-out
@@ -150,5 +147,5 @@ pub returns : goal.returns
 returns c =
     let row_count = c.row_count-rows in
     let loop = c.loop-q in
-    owners.rows_all c.args.nest c.requires.0.accepted row_count.result loop.q _ c.args.out.now loop.out refl row_count.ensures
-    loop.invariant.0 c.loop-q-test.false c.requires.1 loop.invariant.1
+    owners.rows_all c.args.layout.now.nest c.args.layout.now.sized.accepted row_count.result loop.q _ c.args.out.now loop.out refl row_count.ensures
+    loop.invariant.0 c.loop-q-test.false c.requires loop.invariant.1

@@ -7,7 +7,7 @@ use Rattle.transport.specs.Calls.{owner_of}
 use Rattle.transport.proofs.inner.put_owners.Given as goal
 
 abbrev pub invariant-loop-q : goal.invariant-loop-q
-invariant-loop-q l = (l.q ≤ l.rows) × stored.Stored (owner_of (plan_of Direct l.nest)) l.initial.out l.out (l.q * l.width)
+invariant-loop-q l = (l.q ≤ l.rows) × stored.Stored (owner_of (plan_of Direct l.layout.nest)) l.initial.out l.out (l.q * l.width)
 
 abbrev pub decreases-loop-q : goal.decreases-loop-q
 decreases-loop-q l = l.rows - l.q

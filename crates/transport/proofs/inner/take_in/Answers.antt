@@ -1,81 +1,51 @@
 -- `inner::take_in` meets its contract: each return by the line that counts.
 use Rattle.std.specs.Prelude.{◌-◌, take, drop}
 use mathlib.Core.Path.{refl, sym, ◌∙◌}
-use Rattle.plan.specs.Shaped.{plan_of}
+use Rattle.std.proofs.lemmas.Result.{err_from_is_err_and}
+use Rattle.base.proofs.Codes.{code_some}
 use Rattle.machine.specs.Machine.{state_of}
+use Rattle.tables.specs.Given.{plan_of_table}
 use Rattle.engine.proofs.Reading as reading
 use Rattle.transport.proofs.Answers as answers
 use Rattle.transport.proofs.arrivals.Taking as taking
 use Rattle.transport.proofs.inner.take_in.Goals as goal
 
-pub open-opening-requires : goal.open-opening-requires
-open-opening-requires c = refl
-
-pub returns-then-number-ne0 : goal.returns-then-number-ne0
-returns-then-number-ne0 c =
+pub returns-in_err-table : goal.returns-in_err-table
+returns-in_err-table c =
     let A = c.args in
-    let opens = c.open-opening in
-    λ l h. answers.take_in_read A.encoded.now A.route A.source.now
-    (state_of A.memories.now A.buffer.now l A.status.now) A.processor A.message A.words.now
-    opens.result.number opens.ensures.number c.if-number-ne0.true
-
-pub as_long-requires : goal.as_long-requires
-as_long-requires c =
-    let if1 = c.if-number-ne0 in
-    let opens = c.open-opening in
-    opens.ensures.planned if1.false
+    let e = err_from_is_err_and c.from_residual.result c.from_residual.ensures.1 in
+    λ l h. rw (e.1, e.2)
+    (answers.take_in_read A.encoded.now A.route A.source.now (state_of A.memories.now A.buffer.now l A.status.now) A.processor A.message A.words.now _
+    c.in_err-table.ensures.number (code_some _))
 
 pub returns-then-not-as_long : goal.returns-then-not-as_long
 returns-then-not-as_long c =
     let A = c.args in
-    let opens = c.open-opening in
-    λ l h. answers.take_in_length A.encoded.now A.route A.source.now (state_of A.memories.now A.buffer.now l
-    A.status.now) A.processor A.message A.words.now (plan_of opens.result.sizes.route opens.result.nest)
-    (opens.ensures.opened c.if-number-ne0.false)
-    (sym (c.as_long.ensures A.words.now refl) ∙ c.if-not-as_long.true)
+    λ l h. answers.take_in_length A.encoded.now A.route A.source.now (state_of A.memories.now A.buffer.now l A.status.now) A.processor A.message A.words.now
+    (plan_of_table c.in_ok-table.table) c.in_ok-table.ensures.layout.opened (sym (c.as_long.ensures A.words.now refl) ∙ c.if-not-as_long.true)
 
-pub refusal_of_areas-n-requires : goal.refusal_of_areas-n-requires
-refusal_of_areas-n-requires c =
-    let if1 = c.if-number-ne0 in
-    let opens = c.open-opening in
-    record { sized = opens.ensures.planned if1.false; words_len = c.requires }
-
-pub returns-then-n-ne0 : goal.returns-then-n-ne0
-returns-then-n-ne0 c =
+pub returns-in_err-check_areas : goal.returns-in_err-check_areas
+returns-in_err-check_areas c =
     let A = c.args in
-    let opens = c.open-opening in
-    let refusal-of-areas = c.refusal_of_areas-n in
-    λ l h. answers.take_in_unfit A.encoded.now A.route A.source.now (state_of A.memories.now A.buffer.now l
-    A.status.now) A.processor A.message A.words.now (plan_of opens.result.sizes.route opens.result.nest)
-    (opens.ensures.opened c.if-number-ne0.false)
-    (sym (c.as_long.ensures A.words.now refl) ∙ c.if-not-as_long.false) refusal-of-areas.result (refusal-of-areas.ensures.0 l h)
-    c.if-n-ne0.true
+    let e = err_from_is_err_and c.from_residual-in_err-check_areas.result c.from_residual-in_err-check_areas.ensures.1 in
+    λ l h. rw (e.1, e.2)
+    (answers.take_in_unfit A.encoded.now A.route A.source.now (state_of A.memories.now A.buffer.now l A.status.now) A.processor A.message A.words.now
+    (plan_of_table c.in_ok-table.table) c.in_ok-table.ensures.layout.opened (sym (c.as_long.ensures A.words.now refl) ∙ c.if-not-as_long.false) _
+    (c.in_err-check_areas.ensures.0 l h) (code_some _))
 
 pub receive-requires : goal.receive-requires
 receive-requires c =
     let A = c.args in
-    let if1 = c.if-number-ne0 in
-    let opens = c.open-opening in
-    let planned = opens.ensures.planned if1.false in
-    let refusal-of-areas = c.refusal_of_areas-n in
-    let if3 = c.if-n-ne0 in (
-      planned,
-      taking.may_take (plan_of opens.result.sizes.route opens.result.nest)
-          A.source.now (state_of A.memories.now A.buffer.now
-          (take (A.progress.count - 0) (drop 0 A.progress.words))
-          A.status.now) refusal-of-areas.result (refusal-of-areas.ensures.0 (take (A.progress.count - 0) (drop 0 A.progress.words))
-          (reading.part_carries A.progress c.requires (reading.few_words _ _ planned.0 A.progress.count
-          (refusal-of-areas.ensures.1 if3.false)))) if3.false A.message A.words.now (sym (c.as_long.ensures A.words.now refl)
-          ∙ c.if-not-as_long.false),
-    )
+    let table = c.in_ok-table.table in
+    let lent = take (A.progress.count - 0) (drop 0 A.progress.words) in
+    let few = reading.few_words _ _ table.layout.sized A.progress.count c.in_ok-check_areas.ensures.1 in
+    taking.may_take (plan_of_table table) A.source.now (state_of A.memories.now A.buffer.now lent A.status.now) 0
+    (c.in_ok-check_areas.ensures.0 lent (reading.part_carries A.progress c.requires few)) refl A.message A.words.now
+    (sym (c.as_long.ensures A.words.now refl) ∙ c.if-not-as_long.false)
 
 pub returns : goal.returns
 returns c =
     let A = c.args in
-    let opens = c.open-opening in
-    let refusal-of-areas = c.refusal_of_areas-n in
-    λ l h. answers.take_in_received A.encoded.now A.route A.source.now (state_of A.memories.now A.buffer.now
-    l A.status.now) A.processor A.message A.words.now (plan_of opens.result.sizes.route opens.result.nest)
-    (opens.ensures.opened c.if-number-ne0.false)
-    (sym (c.as_long.ensures A.words.now refl) ∙ c.if-not-as_long.false) refusal-of-areas.result (refusal-of-areas.ensures.0 l h)
-    c.if-n-ne0.false _ (c.receive.ensures A.memories.now l)
+    λ l h. answers.take_in_received A.encoded.now A.route A.source.now (state_of A.memories.now A.buffer.now l A.status.now) A.processor A.message A.words.now
+    (plan_of_table c.in_ok-table.table) c.in_ok-table.ensures.layout.opened (sym (c.as_long.ensures A.words.now refl) ∙ c.if-not-as_long.false) 0
+    (c.in_ok-check_areas.ensures.0 l h) refl _ (c.receive.ensures A.memories.now l)

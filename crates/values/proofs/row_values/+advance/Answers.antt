@@ -2,25 +2,11 @@
 use native.Mathlib.Omega.{arith}
 use mathlib.Core.Path.{◌∙◌}
 use lib.ListN.{length-set}
-use Rattle.layout.proofs.Advance.{follows_none, follows_step, follows_carry, places_fewer, inside_fits, inside_fewer}
-use Prim.Native.Nat.{◌-◌}
+use Rattle.layout.proofs.Advance.{follows_none, follows_step, follows_carry, places_fewer, inside_fewer}
 use Rattle.values.proofs.row_values.+advance.Goals as goal
 
 pub returns-then-left-eq0 : goal.returns-then-left-eq0
 returns-then-left-eq0 t c = (c.requires.0, follows_none _ _ _ _ c.if-left-eq0.true)
-
-pub overflow_add-component : goal.overflow_add-component
-overflow_add-component t c =
-    record {
-      fits = omega (
-        arith,
-        inside_fits c.args.lengths.now c.args.from.now c.args.at.now c.args.left
-            c.if-left-eq0.false (omega (arith, c.requires.0, c.requires.1.0.low)) c.requires.1.0 c.requires.1.1,
-      );
-    }
-
-pub overflow_add-from : goal.overflow_add-from
-overflow_add-from t c = record { fits = omega (arith, c.requires.1.0.small (c.args.left - 1) (omega arith)) }
 
 pub returns-then-component-from : goal.returns-then-component-from
 returns-then-component-from t c = (

@@ -9,18 +9,6 @@ loop-e-init c = filled_none _ _ _ (omega arith)
 pub back_of-requires : goal.back_of-requires
 back_of-requires c = (c.requires.0, (c.loop-e-test.true, c.requires.1))
 
-pub offset_bounds-back-e : goal.offset_bounds-back-e
-offset_bounds-back-e c = omega (arith, c.requires.0.distances_most, c.loop-e-test.true)
-
-pub bounds-back-e : goal.bounds-back-e
-bounds-back-e c = omega (arith, c.requires.0.distances_most, c.loop-e-test.true)
-
-pub overflow_step-e : goal.overflow_step-e
-overflow_step-e c = omega (arith, c.requires.0.distances_most, c.loop-e-test.true)
-
-pub loop-e-smaller : goal.loop-e-smaller
-loop-e-smaller c = omega (arith, c.loop-e-test.true)
-
 pub loop-e-preserved : goal.loop-e-preserved
 loop-e-preserved c = filled_more _ _ _ _ _ c.loop-e.invariant c.loop-e-test.true c.requires.0.distances_most c.back_of.ensures
 

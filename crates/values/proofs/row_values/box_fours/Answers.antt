@@ -1,15 +1,11 @@
 -- `values::row_values::box_fours` meets its contract: the first g groups are stored.
 use Prim.Native.Nat.{◌*◌}
 use native.Mathlib.Omega.{arith}
-use Rattle.values.proofs.row_values.Boxes.{stored_long}
 use Rattle.values.proofs.row_values.Rows.{given_next, given_more, given_start, stored_rows}
 use Rattle.values.proofs.row_values.box_fours.Goals as goal
 
 pub loop-g-init : goal.loop-g-init
 loop-g-init c = (omega arith, λ x g. given_start _ _ _ _ _ _ c.args.source.now c.args.memory.now _ _ _ _ _ g _ (omega arith))
-
-pub overflow_mul-g : goal.overflow_mul-g
-overflow_mul-g c = omega (arith, c.loop-g-test.true, c.requires.1.1)
 
 pub four_rows-requires : goal.four_rows-requires
 four_rows-requires c =
@@ -22,12 +18,6 @@ four_rows-requires c =
       ),
     )
 
-pub overflow_step-g : goal.overflow_step-g
-overflow_step-g c = omega (arith, c.loop-g-test.true, c.requires.1.1)
-
-pub loop-g-smaller : goal.loop-g-smaller
-loop-g-smaller c = omega (arith, c.loop-g-test.true)
-
 pub loop-g-preserved : goal.loop-g-preserved
 loop-g-preserved c = (
   omega (arith, c.loop-g-test.true),
@@ -36,11 +26,6 @@ loop-g-preserved c = (
       (c.four_rows.ensures x (given_next _ _ _ _ _ _ c.args.source.now c.args.memory.now _ _ _ _ _ p _ _ _ s
       (4 * c.loop-g.g) (omega arith))),
 )
-
-pub shape_of-memory : goal.shape_of-memory
-shape_of-memory c =
-    let p = c.requires in
-    stored_long _ _ _ _ _ _ _ _ _ (c.loop-g.invariant.1 p.0 p.1.0)
 
 pub returns : goal.returns
 returns c = λ x p. stored_rows _ _ _ _ _ _ _ _ _ _ (omega (arith, c.loop-g.invariant.0, c.loop-g-test.false)) (c.loop-g.invariant.1 x p)

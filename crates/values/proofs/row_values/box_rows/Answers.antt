@@ -1,6 +1,5 @@
 -- `values::row_values::box_rows` meets its contract: the rows up to r are stored.
 use native.Mathlib.Omega.{arith}
-use Rattle.values.proofs.row_values.Boxes.{stored_long}
 use Rattle.values.proofs.row_values.Rows.{given_ranked, given_inside, given_row, given_one, given_next, given_more, given_start, stored_rows}
 use Rattle.values.proofs.row_values.box_rows.Goals as goal
 
@@ -14,8 +13,8 @@ loop-r-init c = (
   ),
 )
 
-pub rank_of-number-requires : goal.rank_of-number-requires
-rank_of-number-requires c =
+pub rank-number-requires : goal.rank-number-requires
+rank-number-requires c =
     let p = c.requires in
     let g = given_next _ _ _ _ _ _ c.args.source.now c.args.memory.now _ _ _ _ _ p.1.0 _ _ _
     (c.loop-r.invariant.1.1 p.0 p.1.0) c.loop-r.r (omega (arith, c.loop-r.invariant.0)) in
@@ -26,7 +25,7 @@ row-requires c =
     let p = c.requires in
     let g = given_next _ _ _ _ _ _ c.args.source.now c.args.memory.now _ _ _ _ _ p.1.0 _ _ _
     (c.loop-r.invariant.1.1 p.0 p.1.0) c.loop-r.r (omega (arith, c.loop-r.invariant.0)) in
-    (p.0, given_row _ _ _ _ _ _ c.args.source.now c.loop-r.memory _ _ _ _ _ g _ c.rank_of-number.ensures)
+    (p.0, given_row _ _ _ _ _ _ c.args.source.now c.loop-r.memory _ _ _ _ _ g _ c.rank-number.ensures)
 
 pub advance-requires : goal.advance-requires
 advance-requires c =
@@ -34,12 +33,6 @@ advance-requires c =
     let g = given_next _ _ _ _ _ _ c.args.source.now c.args.memory.now _ _ _ _ _ p.1.0 _ _ _
     (c.loop-r.invariant.1.1 p.0 p.1.0) c.loop-r.r (omega (arith, c.loop-r.invariant.0)) in
     given_inside _ _ _ _ _ _ c.args.source.now c.loop-r.memory _ _ _ _ _ g
-
-pub overflow_step-r : goal.overflow_step-r
-overflow_step-r c = omega (arith, c.loop-r-test.true, c.requires.1.1.1)
-
-pub loop-r-smaller : goal.loop-r-smaller
-loop-r-smaller c = omega (arith, c.loop-r-test.true)
 
 pub loop-r-preserved : goal.loop-r-preserved
 loop-r-preserved c = (
@@ -49,17 +42,12 @@ loop-r-preserved c = (
     λ x p. let s = c.loop-r.invariant.1.1 x p in
         let g = given_next _ _ _ _ _ _ c.args.source.now c.args.memory.now _ _ _ _ _ p _ _ _ s c.loop-r.r
         (omega (arith, c.loop-r.invariant.0)) in let h = given_row _ _ _ _ _ _ c.args.source.now c.loop-r.memory _ _ _ _ _ g _
-        c.rank_of-number.ensures in given_more _ _ _ _ _ _ c.args.source.now c.args.memory.now _ _ _ _ _ p _ _ _ s
+        c.rank-number.ensures in given_more _ _ _ _ _ _ c.args.source.now c.args.memory.now _ _ _ _ _ p _ _ _ s
         c.loop-r.r 1 _
         (omega (arith, c.loop-r.invariant.0)) (omega (arith, c.loop-r.invariant.0)) _ _ (given_one _ _ _ _ _ _ c.args.source.now
-        c.loop-r.memory _ _ _ _ _ g _ c.rank_of-number.ensures _ _ (c.row.ensures x h) c.advance.ensures),
+        c.loop-r.memory _ _ _ _ _ g _ c.rank-number.ensures _ _ (c.row.ensures x h) c.advance.ensures),
   ),
 )
-
-pub shape_of-memory : goal.shape_of-memory
-shape_of-memory c =
-    let p = c.requires in
-    stored_long _ _ _ _ _ _ _ _ _ (c.loop-r.invariant.1.1 p.0 p.1.0)
 
 pub returns : goal.returns
 returns c = λ x p. stored_rows _ _ _ _ _ _ _ _ _ _ (omega (arith, c.loop-r.invariant.1.0, c.loop-r-test.false)) (c.loop-r.invariant.1.1 x p)

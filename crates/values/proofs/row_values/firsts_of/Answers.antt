@@ -11,18 +11,6 @@ first_of-requires c =
     let p = c.requires in
     (p.0, (p.1.0, (c.loop-e-test.true, p.1.1)))
 
-pub offset_bounds-first-e : goal.offset_bounds-first-e
-offset_bounds-first-e c = omega (arith, c.requires.1.0.distances_most, c.loop-e-test.true)
-
-pub bounds-first-e : goal.bounds-first-e
-bounds-first-e c = omega (arith, c.requires.1.0.distances_most, c.loop-e-test.true)
-
-pub overflow_step-e : goal.overflow_step-e
-overflow_step-e c = omega (arith, c.requires.1.0.distances_most, c.loop-e-test.true)
-
-pub loop-e-smaller : goal.loop-e-smaller
-loop-e-smaller c = omega (arith, c.loop-e-test.true)
-
 pub loop-e-preserved : goal.loop-e-preserved
 loop-e-preserved c =
     λ x ok g.

@@ -1,5 +1,4 @@
 -- `values::row_values::four_rows` meets its contract: the rows go side by side, or one by one.
-use Prim.Native.Nat.{◌-◌}
 use native.Mathlib.Omega.{arith}
 use mathlib.Core.Path.{refl}
 use Rattle.values.proofs.row_values.Rows.{given_ranked, given_inside, given_margin, given_small, given_band, given_moved, given_four, stored_rows}
@@ -15,9 +14,6 @@ together-requires c =
     let i = given_inside _ _ _ _ _ _ c.args.source.now c.args.memory.now _ _ _ _ _ g in
     (omega (arith, g.0.0.dimensions_most), (c.start_of-from.ensures.1.1, i.1))
 
-pub overflow_add-first : goal.overflow_add-first
-overflow_add-first c = omega (arith, c.requires.1.1)
-
 pub box_rows-requires : goal.box_rows-requires
 box_rows-requires c =
     let p = c.requires in
@@ -26,22 +22,22 @@ box_rows-requires c =
 pub returns-then-not-together : goal.returns-then-not-together
 returns-then-not-together c = λ x g. stored_rows _ _ _ _ _ _ _ _ _ _ (omega arith) (c.box_rows.ensures x g)
 
-pub rank_of-a-requires : goal.rank_of-a-requires
-rank_of-a-requires c = given_ranked _ _ _ _ _ _ c.args.source.now c.args.memory.now _ _ _ _ _ c.requires.1.0
+pub rank-a-requires : goal.rank-a-requires
+rank-a-requires c = given_ranked _ _ _ _ _ _ c.args.source.now c.args.memory.now _ _ _ _ _ c.requires.1.0
 
 pub overflow_add-b : goal.overflow_add-b
 overflow_add-b c =
-    let q = given_small _ _ _ _ _ _ c.args.source.now c.args.memory.now _ _ _ _ _ c.requires.1.0 _ c.rank_of-a.ensures in
+    let q = given_small _ _ _ _ _ _ c.args.source.now c.args.memory.now _ _ _ _ _ c.requires.1.0 _ c.rank-a.ensures in
     omega (arith, q.0, q.1)
 
 pub overflow_add-c : goal.overflow_add-c
 overflow_add-c c =
-    let q = given_small _ _ _ _ _ _ c.args.source.now c.args.memory.now _ _ _ _ _ c.requires.1.0 _ c.rank_of-a.ensures in
+    let q = given_small _ _ _ _ _ _ c.args.source.now c.args.memory.now _ _ _ _ _ c.requires.1.0 _ c.rank-a.ensures in
     omega (arith, q.0, q.1)
 
 pub overflow_add-c-2 : goal.overflow_add-c-2
 overflow_add-c-2 c =
-    let q = given_small _ _ _ _ _ _ c.args.source.now c.args.memory.now _ _ _ _ _ c.requires.1.0 _ c.rank_of-a.ensures in
+    let q = given_small _ _ _ _ _ _ c.args.source.now c.args.memory.now _ _ _ _ _ c.requires.1.0 _ c.rank-a.ensures in
     omega (arith, q.0, q.1)
 
 pub side_by_side-requires : goal.side_by_side-requires
@@ -49,47 +45,20 @@ side_by_side-requires c =
     let p = c.requires in
     let t = c.together.ensures c.if-not-together.false in (
       with_body p.0 c.args.body,
-      given_band _ _ _ _ _ _ c.args.source.now c.args.memory.now _ _ _ _ _ p.1.0 _ c.rank_of-a.ensures t.1 _ _ _ refl
+      given_band _ _ _ _ _ _ c.args.source.now c.args.memory.now _ _ _ _ _ p.1.0 _ c.rank-a.ensures t.1 _ _ _ refl
           refl refl _ c.start_of-from.ensures t.0,
     )
-
-pub overflow_sub-at : goal.overflow_sub-at
-overflow_sub-at c =
-    let t = c.together.ensures c.if-not-together.false in
-    omega (arith, t.1.0)
-
-pub offset_bounds-at-last-2 : goal.offset_bounds-at-last-2
-offset_bounds-at-last-2 c =
-    let g = c.requires.1.0 in
-    omega (arith, g.0.0.dimensions_most)
-
-pub bounds-at-last-2 : goal.bounds-at-last-2
-bounds-at-last-2 c =
-    let g = c.requires.1.0 in
-    omega (arith, g.1.1.1.long, g.0.0.dimensions_most)
-
-pub overflow_add-at : goal.overflow_add-at
-overflow_add-at c =
-    let g = c.requires.1.0 in
-    let t = c.together.ensures c.if-not-together.false in
-    let i = given_inside _ _ _ _ _ _ c.args.source.now c.args.memory.now _ _ _ _ _ g in
-    omega (arith, t.1.0, t.1.1.1, i.1.0.small (c.args.body.dimensions - 1 - 1) (omega (arith, t.1.0)))
-
-pub bounds-at-last-3 : goal.bounds-at-last-3
-bounds-at-last-3 c =
-    let g = c.requires.1.0 in
-    omega (arith, g.1.1.1.long, g.0.0.dimensions_most)
 
 pub advance-requires : goal.advance-requires
 advance-requires c =
     let t = c.together.ensures c.if-not-together.false in
-    given_moved _ _ _ _ _ _ c.args.source.now c.args.memory.now _ _ _ _ _ c.requires.1.0 _ c.rank_of-a.ensures t.1 _ _ _
+    given_moved _ _ _ _ _ _ c.args.source.now c.args.memory.now _ _ _ _ _ c.requires.1.0 _ c.rank-a.ensures t.1 _ _ _
     refl refl refl
 
 pub returns : goal.returns
 returns c =
     λ x g. let t = c.together.ensures c.if-not-together.false in given_four _ _ _ _ _ _ c.args.source.now
-    c.args.memory.now _ _ _ _ _ g _ c.rank_of-a.ensures t.1 _ _ _ refl refl refl _ _
+    c.args.memory.now _ _ _ _ _ g _ c.rank-a.ensures t.1 _ _ _ refl refl refl _ _
     (c.side_by_side.ensures (with_body x c.args.body) (given_band _ _ _ _ _ _ c.args.source.now
-    c.args.memory.now _ _ _ _ _ g _ c.rank_of-a.ensures t.1 _ _ _ refl refl refl _ c.start_of-from.ensures t.0))
+    c.args.memory.now _ _ _ _ _ g _ c.rank-a.ensures t.1 _ _ _ refl refl refl _ c.start_of-from.ensures t.0))
     c.advance.ensures

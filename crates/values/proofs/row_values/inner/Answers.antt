@@ -1,5 +1,4 @@
 -- `values::row_values::inner` meets its contract: the first j dimensions pass.
-use native.Mathlib.Omega.{arith}
 use mathlib.Core.Path.{sym}
 use borrow.Author.Tests.{le-leb, lt-leb}
 use Rattle.base.proofs.Tests.{every_not}
@@ -9,23 +8,8 @@ use Rattle.values.proofs.row_values.inner.Goals as goal
 pub loop-j-init : goal.loop-j-init
 loop-j-init c = sofar_none _ _
 
-pub offset_bounds-at-j : goal.offset_bounds-at-j
-offset_bounds-at-j c = omega (arith, c.loop-j-test.true, c.requires)
-
-pub bounds-at-j : goal.bounds-at-j
-bounds-at-j c = omega (arith, c.loop-j-test.true, c.requires)
-
-pub offset_bounds-margin-j : goal.offset_bounds-margin-j
-offset_bounds-margin-j c = omega (arith, c.loop-j-test.true, c.requires)
-
-pub bounds-margin-j : goal.bounds-margin-j
-bounds-margin-j c = omega (arith, c.loop-j-test.true, c.requires)
-
 pub returns-then-at-j : goal.returns-then-at-j
 returns-then-at-j c = sym (every_not _ _ c.loop-j.j c.loop-j-test.true (lt-leb _ _ c.if-at-j.true))
-
-pub overflow_step-j : goal.overflow_step-j
-overflow_step-j c = omega (arith, c.loop-j-test.true, c.requires)
 
 pub loop-j-preserved : goal.loop-j-preserved
 loop-j-preserved c = sofar_more _ _ _ c.loop-j.invariant c.loop-j-test.true (le-leb _ _ c.if-at-j.false)

@@ -1,5 +1,4 @@
 -- `values::row_values::margins_of` meets its contract: the array is filled from its start.
-use native.Mathlib.Omega.{arith}
 use mathlib.Core.Path.{refl}
 use Rattle.layout.proofs.Loops.{filled_none, filled_more, filled_end}
 use Rattle.values.proofs.row_values.margins_of.Goals as goal
@@ -9,15 +8,6 @@ loop-j-init c = filled_none _ _ _ refl
 
 pub margin_of-requires : goal.margin_of-requires
 margin_of-requires c = (c.requires.0, (c.loop-j-test.true, c.requires.1))
-
-pub offset_bounds-margin-j : goal.offset_bounds-margin-j
-offset_bounds-margin-j c = omega (arith, c.loop-j-test.true, c.requires.0.dimensions_most)
-
-pub bounds-margin-j : goal.bounds-margin-j
-bounds-margin-j c = omega (arith, c.loop-j-test.true, c.requires.0.dimensions_most)
-
-pub overflow_step-j : goal.overflow_step-j
-overflow_step-j c = omega (arith, c.loop-j-test.true, c.requires.0.dimensions_most)
 
 pub loop-j-preserved : goal.loop-j-preserved
 loop-j-preserved c =

@@ -1,7 +1,6 @@
 -- `values::row_values::together` meets its contract.
 use mathlib.Core.Path.{sym, ◌∙◌}
 use mathlib.Core.Bool.{false≢true}
-use Prim.Native.Nat.{◌-◌}
 use native.Mathlib.Omega.{arith}
 use Rattle.values.proofs.row_values.together.Goals as goal
 
@@ -10,18 +9,6 @@ returns-then-width-from c = λ z. absurd (false≢true z)
 
 pub returns-then-last-eq0 : goal.returns-then-last-eq0
 returns-then-last-eq0 c = λ z. absurd (false≢true z)
-
-pub overflow_add-corner : goal.overflow_add-corner
-overflow_add-corner c = omega (arith, c.requires.1.1.0.small (c.args.last - 1) (omega (arith, c.if-last-eq0.false)))
-
-pub overflow_add-at : goal.overflow_add-at
-overflow_add-at c =
-    omega (
-      arith,
-      c.requires.1.1.1.each (c.args.last - 1) (omega (arith, c.if-last-eq0.false)),
-      c.requires.1.1.0.small (c.args.last - 1)
-          (omega (arith, c.if-last-eq0.false)),
-    )
 
 pub returns-then-corner-j : goal.returns-then-corner-j
 returns-then-corner-j c = λ z. absurd (false≢true z)

@@ -7,7 +7,7 @@ use Rattle.values.proofs.shaped_values.Stores.{Storing}
 use Rattle.values.proofs.shaped_values.calculate.Given as goal
 
 abbrev pub invariant-loop-r : goal.invariant-loop-r
-invariant-loop-r l = (l.r ≤ l.rows) × Storing (inside_only l.nest (shaped_value l.nest l.source)) (box_cell l.nest l.tile) l.initial.memory l.memory (l.r * l.width)
+invariant-loop-r l = (l.r ≤ l.rows) × Storing (inside_only l.layout.nest (shaped_value l.layout.nest l.source)) (box_cell l.layout.nest l.tile) l.initial.memory l.memory (l.r * l.width)
 
 abbrev pub decreases-loop-r : goal.decreases-loop-r
 decreases-loop-r l = l.rows - l.r

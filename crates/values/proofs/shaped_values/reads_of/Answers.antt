@@ -9,24 +9,6 @@ loop-e-init c = filling_none _ _ _ _ (omega arith) (omega arith)
 pub read_of-run-requires : goal.read_of-run-requires
 read_of-run-requires c = (c.requires.0, (c.loop-e-test.true, (c.requires.1.0, c.requires.1.1)))
 
-pub offset_bounds-firsts-e : goal.offset_bounds-firsts-e
-offset_bounds-firsts-e c = omega (arith, c.requires.0.distances_most, c.loop-e-test.true)
-
-pub bounds-firsts-e : goal.bounds-firsts-e
-bounds-firsts-e c = omega (arith, c.requires.0.distances_most, c.loop-e-test.true)
-
-pub offset_bounds-ends-e : goal.offset_bounds-ends-e
-offset_bounds-ends-e c = omega (arith, c.requires.0.distances_most, c.loop-e-test.true)
-
-pub bounds-ends-e : goal.bounds-ends-e
-bounds-ends-e c = omega (arith, c.requires.0.distances_most, c.loop-e-test.true)
-
-pub overflow_step-e : goal.overflow_step-e
-overflow_step-e c = omega (arith, c.requires.0.distances_most, c.loop-e-test.true)
-
-pub loop-e-smaller : goal.loop-e-smaller
-loop-e-smaller c = omega (arith, c.loop-e-test.true)
-
 pub loop-e-preserved : goal.loop-e-preserved
 loop-e-preserved c =
     filling_more _ _ _ _ _ _ _ c.loop-e.invariant c.loop-e-test.true c.requires.0.distances_most

@@ -2,7 +2,7 @@
 use Prim.Native.Nat.{◌-◌}
 use native.Mathlib.Omega.{arith}
 use Rattle.nest.proofs.Shapes.{framed}
-use Rattle.values.proofs.shaped_values.Words.{place_narrow, cut_low, row_readable, row_values_lem, row_none}
+use Rattle.values.proofs.shaped_values.Words.{place_narrow, row_readable, row_values_lem, row_none}
 use Rattle.values.proofs.shaped_values.row.Goals as goal
 
 pub span-own-requires : goal.span-own-requires
@@ -18,14 +18,6 @@ returns-then-few-eq0 c =
 
 pub reads_of-reads-requires : goal.reads_of-reads-requires
 reads_of-reads-requires c = (c.requires.accepted.0, (c.requires.accepted.1.0.0, place_narrow _ c.requires.accepted.0 _ c.requires.located.0))
-
-pub overflow_add-first : goal.overflow_add-first
-overflow_add-first c =
-    omega (
-      arith,
-      cut_low _ c.requires.accepted.0 _ c.requires.located.0 _ c.requires.located.1 _ _ c.span-own.ensures c.overlap-kept.ensures,
-      c.requires.accepted.0.cells_most,
-    )
 
 pub store_row-requires : goal.store_row-requires
 store_row-requires c =

@@ -6,7 +6,7 @@ use Rattle.values.proofs.shaped_values.Stores.{Storing}
 use Rattle.values.proofs.shaped_values.sweep.Given as goal
 
 abbrev pub invariant-loop-q : goal.invariant-loop-q
-invariant-loop-q l = (l.q ≤ l.rows) × Storing (inside_only l.nest (shaped_value l.nest l.source)) (λ y. y) l.initial.grid l.grid (l.q * l.width)
+invariant-loop-q l = (l.q ≤ l.rows) × Storing (inside_only l.layout.nest (shaped_value l.layout.nest l.source)) (λ y. y) l.initial.grid l.grid (l.q * l.width)
 
 abbrev pub decreases-loop-q : goal.decreases-loop-q
 decreases-loop-q l = l.rows - l.q

@@ -1,6 +1,6 @@
 -- `values::shaped_values::value_at` meets its contract: the sum of what the first k distances give, which fits 64 bits.
 use native.Mathlib.Omega.{arith}
-use Rattle.kernels.proofs.Sums.{mixing_none, mixing_fits, mixing_more}
+use Rattle.kernels.proofs.Sums.{mixing_none, mixing_more}
 use Rattle.values.proofs.shaped_values.Words.{mixing_end, first_back}
 use Rattle.values.proofs.shaped_values.value_at.Goals as goal
 
@@ -10,56 +10,8 @@ word_of-total-requires c = (omega (arith, c.requires.given), c.requires.few_give
 pub loop-k-init : goal.loop-k-init
 loop-k-init c = mixing_none _ _ _ _ _ c.word_of-total.ensures
 
-pub offset_bounds-firsts-k : goal.offset_bounds-firsts-k
-offset_bounds-firsts-k c = omega (arith, c.requires.few, c.loop-k-test.true)
-
-pub bounds-firsts-k : goal.bounds-firsts-k
-bounds-firsts-k c = omega (arith, c.requires.few, c.loop-k-test.true)
-
-pub offset_bounds-ends-k : goal.offset_bounds-ends-k
-offset_bounds-ends-k c = omega (arith, c.requires.few, c.loop-k-test.true)
-
-pub bounds-ends-k : goal.bounds-ends-k
-bounds-ends-k c = omega (arith, c.requires.few, c.loop-k-test.true)
-
-pub offset_bounds-backs-k : goal.offset_bounds-backs-k
-offset_bounds-backs-k c = omega (arith, c.requires.few, c.loop-k-test.true)
-
-pub bounds-backs-k : goal.bounds-backs-k
-bounds-backs-k c = omega (arith, c.requires.few, c.loop-k-test.true)
-
 pub word_at-w-requires : goal.word_at-w-requires
 word_at-w-requires c = (omega (arith, c.requires.inner), (c.requires.beyond, (c.requires.small, first_back c.requires _ c.loop-k-test.true)))
-
-pub offset_bounds-weights-k : goal.offset_bounds-weights-k
-offset_bounds-weights-k c = omega (arith, c.requires.few, c.loop-k-test.true)
-
-pub bounds-weights-k : goal.bounds-weights-k
-bounds-weights-k c = omega (arith, c.requires.few, c.loop-k-test.true)
-
-pub overflow_mul-total : goal.overflow_mul-total
-overflow_mul-total c =
-    omega (
-      arith,
-      c.requires.few,
-      mixing_fits _ _ _ _ _ _ c.loop-k.invariant c.loop-k-test.true
-          (c.requires.light _ c.loop-k-test.true) _ c.word_at-w.ensures,
-    )
-
-pub overflow_add-total : goal.overflow_add-total
-overflow_add-total c =
-    omega (
-      arith,
-      c.requires.few,
-      mixing_fits _ _ _ _ _ _ c.loop-k.invariant c.loop-k-test.true
-          (c.requires.light _ c.loop-k-test.true) _ c.word_at-w.ensures,
-    )
-
-pub overflow_step-k : goal.overflow_step-k
-overflow_step-k c = omega (arith, c.requires.few, c.loop-k-test.true)
-
-pub loop-k-smaller : goal.loop-k-smaller
-loop-k-smaller c = omega (arith, c.loop-k-test.true)
 
 pub loop-k-preserved : goal.loop-k-preserved
 loop-k-preserved c =

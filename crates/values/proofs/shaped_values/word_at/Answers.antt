@@ -5,12 +5,6 @@ use mathlib.Core.Path.{sym, ◌∙◌}
 use Rattle.base.proofs.Tests.{pick_true, pick_false}
 use Rattle.values.proofs.shaped_values.word_at.Goals as goal
 
-pub overflow_sub-result : goal.overflow_sub-result
-overflow_sub-result c = c.requires.1.1.1 (sym c.has.ensures ∙ c.if-has.true)
-
-pub overflow_cast-result : goal.overflow_cast-result
-overflow_cast-result c = omega (arith, c.type_inv.memory (c.args.cell - c.args.back))
-
 pub returns-then-has : goal.returns-then-has
 returns-then-has c = (
   sym (pick_true _ _ _ (sym c.has.ensures ∙ c.if-has.true)),

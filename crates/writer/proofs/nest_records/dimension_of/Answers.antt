@@ -1,8 +1,9 @@
 -- `writer::dimension_of` meets its contract: its record over the nest's numbers.
+use mathlib.Core.Path.{refl}
 use Rattle.writer.proofs.Records as L
 use Rattle.writer.proofs.nest_records.dimension_of.Goals as goal
 
 pub returns : goal.returns
 returns c =
-    L.dimension_is c.args.nest c.args.j _ _ _ _ c.index_wide.ensures c.index_wide-2.ensures c.index_wide-3.ensures
+    L.dimension_is c.args.nest c.args.j _ _ _ _ refl refl refl
     c.dimension_record.ensures

@@ -9,19 +9,19 @@ use Rattle.part_calls.proofs.turn.on_part.calculate_own.Goals as goal
 pub slice_bounds-owned-end : goal.slice_bounds-owned-end
 slice_bounds-owned-end c =
     let A = c.args in
-    front.cells_fit A.nest A.sizes A.b c.requires.planned.0.0 (replicate {A = ℕ} 16384 0) (length-replicate {A = ℕ} 16384 0)
+    front.cells_fit A.table.now.layout.nest A.table.now.layout.sizes A.b c.args.table.now.layout.sized (replicate {A = ℕ} 16384 0) (length-replicate {A = ℕ} 16384 0)
 
 pub slice_bounds-own_cells-end : goal.slice_bounds-own_cells-end
 slice_bounds-own_cells-end c =
     let A = c.args in
-    front.lent_cells A.nest A.sizes A.b c.requires.planned.0.0 (replicate {A = ℕ} 16384 0) (length-replicate {A = ℕ} 16384 0)
+    front.lent_cells A.table.now.layout.nest A.table.now.layout.sizes A.b c.args.table.now.layout.sized (replicate {A = ℕ} 16384 0) (length-replicate {A = ℕ} 16384 0)
 
 pub own_cells-requires : goal.own_cells-requires
 own_cells-requires c =
     let A = c.args in record {
-      sized = (c.requires.planned.0.0, (c.requires.planned.0.1.routed, c.requires.planned.1.0));
+      low = c.requires.planned.0;
       owned_len = (
-        front.lent_long A.nest A.sizes A.b c.requires.planned.0.0 (replicate {A = ℕ}
+        front.lent_long A.table.now.layout.nest A.table.now.layout.sizes A.b c.args.table.now.layout.sized (replicate {A = ℕ}
             16384 0) (length-replicate {A = ℕ} 16384 0),
         refl,
       );
@@ -31,31 +31,29 @@ pub slice_bounds-owned-end-2 : goal.slice_bounds-owned-end-2
 slice_bounds-owned-end-2 c =
     let A = c.args in
     let cells_are_own = c.own_cells in
-    front.back_room A.nest A.sizes A.b c.requires.planned.0.0 (replicate {A = ℕ} 16384 0) cells_are_own.new.owned (length-replicate {A = ℕ} 16384
+    front.back_room A.table.now.layout.nest A.table.now.layout.sizes A.b c.args.table.now.layout.sized (replicate {A = ℕ} 16384 0) cells_are_own.new.owned (length-replicate {A = ℕ} 16384
     0) cells_are_own.auto.owned
 
 pub slice_bounds-calculate-end : goal.slice_bounds-calculate-end
 slice_bounds-calculate-end c =
     let A = c.args in
     let cells_are_own = c.own_cells in
-    front.back_lent A.nest A.sizes A.b c.requires.planned.0.0 (replicate {A = ℕ} 16384 0) cells_are_own.new.owned (length-replicate {A = ℕ} 16384
+    front.back_lent A.table.now.layout.nest A.table.now.layout.sizes A.b c.args.table.now.layout.sized (replicate {A = ℕ} 16384 0) cells_are_own.new.owned (length-replicate {A = ℕ} 16384
     0) cells_are_own.auto.owned
 
 pub calculate-requires : goal.calculate-requires
 calculate-requires c =
     let A = c.args in
     let cells_are_own = c.own_cells in
-    let is = front.back_is A.nest A.sizes A.b c.requires.planned.0.0 (replicate {A = ℕ} 16384 0) cells_are_own.new.owned (length-replicate {A =
+    let is = front.back_is A.table.now.layout.nest A.table.now.layout.sizes A.b c.args.table.now.layout.sized (replicate {A = ℕ} 16384 0) cells_are_own.new.owned (length-replicate {A =
     ℕ} 16384 0) cells_are_own.auto.owned in
     record {
-      sized = c.requires.planned.0.0;
-      tabled = c.requires.planned.0.1;
-      processor = c.requires.planned.1.0;
-      low = c.requires.planned.1.1.0;
-      mine = c.requires.planned.1.1.1.0;
-      kept_are = c.requires.planned.1.1.1.1.are;
+      processor = c.requires.planned.0;
+      low = c.requires.planned.1.0;
+      mine = c.requires.planned.1.1.0;
+      kept_are = c.requires.planned.1.1.1.are;
       own_are = is ∙ cells_are_own.ensures.0.are;
-      counted = c.requires.planned.1.1.1.1.counted;
+      counted = c.requires.planned.1.1.1.counted;
       own_counted = subst (λ (k : List ℕ). Counted k cells_are_own.new.counts) (sym is) cells_are_own.ensures.0.counted;
       source = c.requires.source_len.0;
       memory = c.requires.source_len.1;

@@ -5,10 +5,10 @@ use Rattle.part_calls.proofs.turn.Stage as stage
 use Rattle.part_calls.proofs.turn.on_part.calculate_stage.Goals as goal
 
 pub calculate_own-requires : goal.calculate_own-requires
-calculate_own-requires c = record { planned = (c.requires.tables.0.known.planned, (c.requires.tables.0.known.low, (c.requires.tile_bound.0, (c.requires.tile_bound.1.0, c.requires.tables.0.cells)))); source_len = (c.requires.source_len, c.requires.tables.1) }
+calculate_own-requires c = record { planned = (c.requires.tables.0.known.low, (c.requires.tile_bound.0, (c.requires.tile_bound.1.0, c.requires.tables.0.cells))); source_len = (c.requires.source_len, c.requires.tables.1) }
 
 pub count_at-n-requires : goal.count_at-n-requires
-count_at-n-requires c = (c.requires.tables.0.known.planned.0, (c.requires.tables.0.known.planned.1, c.requires.tile_bound.0))
+count_at-n-requires c = c.requires.tile_bound.0
 
 pub next_record-requires : goal.next_record-requires
 next_record-requires c =
@@ -21,6 +21,6 @@ returns c =
     let count_at = c.count_at-n in
     let calculate-own = c.calculate_own in
     let next_record = c.next_record in
-    λ mail l marks g three f. stage.calculate_leaves A.nest A.sizes A.b A.lens.now A.kept.now A.counts.now A.ordinals.now
+    λ mail l marks g three f. stage.calculate_leaves A.table.now A.b A.kept.now A.counts.now A.ordinals.now
     A.starts.now c.requires.tables.0 A.memory.now mail marks l g three A.finished f A.tile count_at.result
-    (source_of (plan_of A.sizes.route A.nest) A.b A.source.now) _ _ calculate-own.ensures count_at.ensures.0 (next_record.ensures l 0)
+    (source_of (plan_of A.table.now.layout.sizes.route A.table.now.layout.nest) A.b A.source.now) _ _ calculate-own.ensures count_at.ensures.0 (next_record.ensures l 0)

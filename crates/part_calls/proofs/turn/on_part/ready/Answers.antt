@@ -5,7 +5,7 @@ use Rattle.part_calls.proofs.turn.Working as working
 use Rattle.part_calls.proofs.turn.on_part.ready.Goals as goal
 
 pub count_at-n-requires : goal.count_at-n-requires
-count_at-n-requires c = (c.requires.planned.0.0, (c.requires.planned.0.1, c.requires.planned.1))
+count_at-n-requires c = c.requires.planned
 
 pub loop-j-init : goal.loop-j-init
 loop-j-init c = record { low = omega arith; all = c.count_at-n.ensures.0; is = refl }
@@ -13,7 +13,7 @@ loop-j-init c = record { low = omega arith; all = c.count_at-n.ensures.0; is = r
 pub nth_at-place-requires : goal.nth_at-place-requires
 nth_at-place-requires c =
     let count_at = c.count_at-n in
-    record { sized = (c.requires.planned.0.0, (c.requires.planned.0.1, c.requires.planned.1)); j_in_bounds = omega (arith, count_at.ensures.0, c.loop-j-test.true) }
+    record { sized = c.requires.planned; j_in_bounds = omega (arith, count_at.ensures.0, c.loop-j-test.true) }
 
 pub offset_bounds-ordinals-number : goal.offset_bounds-ordinals-number
 offset_bounds-ordinals-number c =
@@ -23,7 +23,7 @@ offset_bounds-ordinals-number c =
     let A = c.args in
     omega (
       arith,
-      working.number_low A.sizes.route A.nest A.tile loop.j nth-at.result (omega (arith, loop.invariant.all, loop-test.true))
+      working.number_low A.table.now.layout.sizes.route A.table.now.layout.nest A.tile loop.j nth-at.result (omega (arith, loop.invariant.all, loop-test.true))
           nth-at.ensures c.requires.ranked.few,
     )
 
@@ -33,50 +33,41 @@ bounds-ordinals-number c =
     let loop-test = c.loop-j-test in
     let loop = c.loop-j in
     let A = c.args in
-    working.number_low A.sizes.route A.nest A.tile loop.j nth-at.result (omega (arith, loop.invariant.all, loop-test.true)) nth-at.ensures
+    working.number_low A.table.now.layout.sizes.route A.table.now.layout.nest A.tile loop.j nth-at.result (omega (arith, loop.invariant.all, loop-test.true)) nth-at.ensures
     c.requires.ranked.few
 
 pub bounds-marks-rank : goal.bounds-marks-rank
 bounds-marks-rank c =
-    let word-index = c.word_index-rank in
     let nth-at = c.nth_at-place in
     let loop-test = c.loop-j-test in
     let loop = c.loop-j in
     let A = c.args in
-    working.rank_low A.sizes.route A.nest A.tile loop.j nth-at.result (omega (arith, loop.invariant.all, loop-test.true)) nth-at.ensures
-    A.ordinals.now _ word-index.result c.requires.ranked word-index.ensures
+    working.rank_low A.table.now.layout.sizes.route A.table.now.layout.nest A.tile loop.j nth-at.result (omega (arith, loop.invariant.all, loop-test.true)) nth-at.ensures
+    A.ordinals.now _ _ c.requires.ranked refl
 
 pub returns-then-marks-rank-ne2 : goal.returns-then-marks-rank-ne2
 returns-then-marks-rank-ne2 c =
-    let word-index = c.word_index-rank in
     let nth-at = c.nth_at-place in
     let loop-test = c.loop-j-test in
     let loop = c.loop-j in
     let count_at = c.count_at-n in
     let A = c.args in
-    working.look_no A.sizes.route A.nest A.tile A.ordinals.now A.marks.now count_at.result loop.j loop.invariant nth-at.result
-    word-index.result loop-test.true nth-at.ensures word-index.ensures c.if-marks-rank-ne2.true
-
-pub overflow_add-j : goal.overflow_add-j
-overflow_add-j c = omega arith
-
-pub loop-j-smaller : goal.loop-j-smaller
-loop-j-smaller c = omega arith
+    working.look_no A.table.now.layout.sizes.route A.table.now.layout.nest A.tile A.ordinals.now A.marks.now count_at.result loop.j loop.invariant nth-at.result
+    _ loop-test.true nth-at.ensures refl c.if-marks-rank-ne2.true
 
 pub loop-j-preserved : goal.loop-j-preserved
 loop-j-preserved c =
-    let word-index = c.word_index-rank in
     let nth-at = c.nth_at-place in
     let loop-test = c.loop-j-test in
     let loop = c.loop-j in
     let count_at = c.count_at-n in
     let A = c.args in
-    working.look_again A.sizes.route A.nest A.tile A.ordinals.now A.marks.now count_at.result loop.j loop.invariant nth-at.result
-    word-index.result loop-test.true nth-at.ensures word-index.ensures c.if-marks-rank-ne2.false
+    working.look_again A.table.now.layout.sizes.route A.table.now.layout.nest A.tile A.ordinals.now A.marks.now count_at.result loop.j loop.invariant nth-at.result
+    _ loop-test.true nth-at.ensures refl c.if-marks-rank-ne2.false
 
 pub returns : goal.returns
 returns c =
     let loop = c.loop-j in
     let count_at = c.count_at-n in
     let A = c.args in
-    working.look_done A.sizes.route A.nest A.tile A.ordinals.now A.marks.now count_at.result loop.j loop.invariant c.loop-j-test.false
+    working.look_done A.table.now.layout.sizes.route A.table.now.layout.nest A.tile A.ordinals.now A.marks.now count_at.result loop.j loop.invariant c.loop-j-test.false

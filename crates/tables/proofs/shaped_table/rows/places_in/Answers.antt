@@ -15,4 +15,4 @@ overflow_add-result-2 c = omega (arith, L.places_room c.args.inner.from c.args.t
 pub returns : goal.returns
 returns c =
     L.places_some c.args.inner _ _ _ _ c.requires.0 c.requires.1.0 c.requires.1.1.0 c.requires.1.1.1.1 c.if-whole-eq0.false
-    c.if-inner-most.false c.least.ensures
+    c.if-inner-most.false c.min.ensures
