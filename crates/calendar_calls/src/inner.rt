@@ -22,7 +22,7 @@ use recipe::open;
 use records::{Flat, Progress};
 use sharing::admission::held_by_other;
 use sharing::inner::step_for;
-use tables::Table;
+use tables::{TABLE_WORDS, Table};
 
 // Line 25: a faulty window of any of n processors, or a faulty minute.
 pub fn faulty(calendar: &[u32], n: usize, minute: u32) -> bool
@@ -94,7 +94,8 @@ pub fn turn(
         ≡ turn_call_at encoded.now route source.now (moment_of hours.now minute)
         (state_of memories.old buffer.old records status.old) processor }
 {
-    let table = open(encoded, route)?;
+    let mut lens = [0; TABLE_WORDS];
+    let table = open(encoded, route, &mut lens)?;
     let b = processor as usize;
     check_turn(
         &table, source, memories, buffer, progress, status, hours, minute, b,
@@ -174,7 +175,8 @@ pub fn turn_for(
         (tenant_areas (state_of memories.old buffer.old records status.old)
         engaged.old) others processor }
 {
-    let table = open(encoded, route)?;
+    let mut lens = [0; TABLE_WORDS];
+    let table = open(encoded, route, &mut lens)?;
     let b = processor as usize;
     check_tenant_turn(
         &table, source, memories, buffer, progress, status, engaged, theirs, hours, minute, tenant,

@@ -18,7 +18,7 @@ use stages::{
     calculate_stage, copy_cells, fit_records, fit_status, gather_stage, ready, send_stage,
     tiles_left,
 };
-use tables::Table;
+use tables::{TABLE_WORDS, Table};
 
 // Each area has its length; `words` is how many words the records have.
 pub fn areas_fit(
@@ -133,7 +133,8 @@ pub fn turn(
         ≡ turn_call encoded.now route source.now
         (state_of memories.old buffer.old records status.old) processor }
 {
-    let table = open(encoded, route)?;
+    let mut lens = [0; TABLE_WORDS];
+    let table = open(encoded, route, &mut lens)?;
     check_areas(&table, source, memories, buffer, progress, status)?;
     let b = processor as usize;
     if b >= table.layout.sizes.processors {
@@ -184,7 +185,8 @@ pub fn deliver(
         ≡ deliver_call encoded.now route source.now
         (state_of memories.now buffer.now records status.old) message }
 {
-    let table = open(encoded, route)?;
+    let mut lens = [0; TABLE_WORDS];
+    let table = open(encoded, route, &mut lens)?;
     check_areas(&table, source, memories, buffer, progress, status)?;
     hand_over(status, message)
 }
@@ -206,7 +208,8 @@ pub fn collect(
         ≡ collect_call encoded.now route source.now
         (state_of memories.now buffer.now records status.now) grid.old }
 {
-    let table = open(encoded, route)?;
+    let mut lens = [0; TABLE_WORDS];
+    let table = open(encoded, route, &mut lens)?;
     if grid.len() != table.layout.sizes.cells {
         return Err(Refusal::Area);
     }
@@ -235,7 +238,8 @@ pub fn fresh(
         ≡ fresh_call encoded.now route source.now
         (state_of memories.old buffer.old records status.old) }
 {
-    let table = open(encoded, route)?;
+    let mut lens = [0; TABLE_WORDS];
+    let table = open(encoded, route, &mut lens)?;
     if !areas_fit(&table, source, memories, buffer, words, status) {
         return Err(Refusal::Area);
     }

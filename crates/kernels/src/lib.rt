@@ -60,22 +60,23 @@ fn store_after(source: &[u32], memory: &mut [u32], rule: Rule, p: Tap, v: u64, c
     word as u64
 }
 
-// The word of cell c, of N taps.
+// The word of cell c, of N taps. They come by value, here and in the loops below: behind a reference they are read anew for each
+// cell, since the compiler can't tell that a store to the memory leaves them as they are.
 fn store<const N: usize>(
     source: &[u32],
     memory: &mut [u32],
     rule: Rule,
-    backs: &[usize; 8],
-    weights: &[u64; 8],
+    backs: [usize; 8],
+    weights: [u64; 8],
     c: usize,
 )
-    requires { Fits N backs.now weights.now rule.outside rule.shift c 1 (length source.now) (length memory.old) }
+    requires { Fits N backs weights rule.outside rule.shift c 1 (length source.now) (length memory.old) }
     ensures { memory.new ≡ set memory.old c
-        (made N backs.now weights.now rule.outside rule.shift source.now memory.old c) }
+        (made N backs weights rule.outside rule.shift source.now memory.old c) }
 {
     let mut total = rule.outside + word_of(source, c);
     for k in 0..N {
-        let tap = tap_at(backs, weights, k);
+        let tap = tap_at(&backs, &weights, k);
         total = with_tap(total, tap, memory, c);
     }
     memory[c] = closed(total, rule.shift);
@@ -86,13 +87,13 @@ fn store_row<const N: usize>(
     source: &[u32],
     memory: &mut [u32],
     rule: Rule,
-    backs: &[usize; 8],
-    weights: &[u64; 8],
+    backs: [usize; 8],
+    weights: [u64; 8],
     cell: usize,
     width: usize,
 )
-    requires { Fits N backs.now weights.now rule.outside rule.shift cell width (length source.now) (length memory.old) }
-    ensures { memory.new ≡ store_all (made N backs.now weights.now rule.outside rule.shift
+    requires { Fits N backs weights rule.outside rule.shift cell width (length source.now) (length memory.old) }
+    ensures { memory.new ≡ store_all (made N backs weights rule.outside rule.shift
         source.now) memory.old (tabulate (λ y. cell + y) width) }
 {
     for y in 0..width {
@@ -105,13 +106,13 @@ fn row_one(
     source: &[u32],
     memory: &mut [u32],
     rule: Rule,
-    backs: &[usize; 8],
-    weights: &[u64; 8],
+    backs: [usize; 8],
+    weights: [u64; 8],
     cell: usize,
     width: usize,
 )
-    requires { Fits 1 backs.now weights.now rule.outside rule.shift cell width (length source.now) (length memory.old) }
-    ensures { memory.new ≡ store_all (made 1 backs.now weights.now rule.outside rule.shift
+    requires { Fits 1 backs weights rule.outside rule.shift cell width (length source.now) (length memory.old) }
+    ensures { memory.new ≡ store_all (made 1 backs weights rule.outside rule.shift
         source.now) memory.old (tabulate (λ y. cell + y) width) }
 {
     if rule.outside == 0 {
@@ -130,15 +131,15 @@ fn store_wave<const N: usize>(
     source: &[u32],
     memory: &mut [u32],
     rule: Rule,
-    backs: &[usize; 8],
-    weights: &[u64; 8],
+    backs: [usize; 8],
+    weights: [u64; 8],
     a: usize,
     t: usize,
     width: usize,
 )
-    requires { Fits N backs.now weights.now rule.outside rule.shift a (3 * t + width) (length source.now)
+    requires { Fits N backs weights rule.outside rule.shift a (3 * t + width) (length source.now)
         (length memory.old) }
-    ensures { memory.new ≡ store_all (made N backs.now weights.now rule.outside rule.shift
+    ensures { memory.new ≡ store_all (made N backs weights rule.outside rule.shift
         source.now) memory.old (wave_of a t width) }
 {
     for y in 0..width {
@@ -228,18 +229,18 @@ fn wave_one(
     source: &[u32],
     memory: &mut [u32],
     rule: Rule,
-    backs: &[usize; 8],
-    weights: &[u64; 8],
+    backs: [usize; 8],
+    weights: [u64; 8],
     a: usize,
     t: usize,
     width: usize,
 )
-    requires { Fits 1 backs.now weights.now rule.outside rule.shift a (3 * t + width) (length source.now)
+    requires { Fits 1 backs weights rule.outside rule.shift a (3 * t + width) (length source.now)
         (length memory.old) }
-    ensures { memory.new ≡ store_all (made 1 backs.now weights.now rule.outside rule.shift
+    ensures { memory.new ≡ store_all (made 1 backs weights rule.outside rule.shift
         source.now) memory.old (wave_of a t width) }
 {
-    let p = tap_at(backs, weights, 0);
+    let p = tap_at(&backs, &weights, 0);
     if p.back == 1 && 1 < t {
         wave_after(source, memory, rule, p, a, t, width);
         return;
@@ -275,15 +276,15 @@ pub fn row(
         source.now) memory.old (tabulate (λ y. cell + y) width) }
 {
     match n {
-        1 => row_one(source, memory, rule, backs, weights, cell, width),
-        2 => store_row::<2>(source, memory, rule, backs, weights, cell, width),
-        3 => store_row::<3>(source, memory, rule, backs, weights, cell, width),
-        4 => store_row::<4>(source, memory, rule, backs, weights, cell, width),
-        5 => store_row::<5>(source, memory, rule, backs, weights, cell, width),
-        6 => store_row::<6>(source, memory, rule, backs, weights, cell, width),
-        7 => store_row::<7>(source, memory, rule, backs, weights, cell, width),
-        8 => store_row::<8>(source, memory, rule, backs, weights, cell, width),
-        _ => store_row::<0>(source, memory, rule, backs, weights, cell, width),
+        1 => row_one(source, memory, rule, *backs, *weights, cell, width),
+        2 => store_row::<2>(source, memory, rule, *backs, *weights, cell, width),
+        3 => store_row::<3>(source, memory, rule, *backs, *weights, cell, width),
+        4 => store_row::<4>(source, memory, rule, *backs, *weights, cell, width),
+        5 => store_row::<5>(source, memory, rule, *backs, *weights, cell, width),
+        6 => store_row::<6>(source, memory, rule, *backs, *weights, cell, width),
+        7 => store_row::<7>(source, memory, rule, *backs, *weights, cell, width),
+        8 => store_row::<8>(source, memory, rule, *backs, *weights, cell, width),
+        _ => store_row::<0>(source, memory, rule, *backs, *weights, cell, width),
     }
 }
 
@@ -306,14 +307,14 @@ pub fn wave(
 {
     let rule = Rule { outside: 0, shift };
     match n {
-        1 => wave_one(source, memory, rule, backs, weights, a, t, width),
-        2 => store_wave::<2>(source, memory, rule, backs, weights, a, t, width),
-        3 => store_wave::<3>(source, memory, rule, backs, weights, a, t, width),
-        4 => store_wave::<4>(source, memory, rule, backs, weights, a, t, width),
-        5 => store_wave::<5>(source, memory, rule, backs, weights, a, t, width),
-        6 => store_wave::<6>(source, memory, rule, backs, weights, a, t, width),
-        7 => store_wave::<7>(source, memory, rule, backs, weights, a, t, width),
-        8 => store_wave::<8>(source, memory, rule, backs, weights, a, t, width),
-        _ => store_wave::<0>(source, memory, rule, backs, weights, a, t, width),
+        1 => wave_one(source, memory, rule, *backs, *weights, a, t, width),
+        2 => store_wave::<2>(source, memory, rule, *backs, *weights, a, t, width),
+        3 => store_wave::<3>(source, memory, rule, *backs, *weights, a, t, width),
+        4 => store_wave::<4>(source, memory, rule, *backs, *weights, a, t, width),
+        5 => store_wave::<5>(source, memory, rule, *backs, *weights, a, t, width),
+        6 => store_wave::<6>(source, memory, rule, *backs, *weights, a, t, width),
+        7 => store_wave::<7>(source, memory, rule, *backs, *weights, a, t, width),
+        8 => store_wave::<8>(source, memory, rule, *backs, *weights, a, t, width),
+        _ => store_wave::<0>(source, memory, rule, *backs, *weights, a, t, width),
     }
 }

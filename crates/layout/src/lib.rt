@@ -30,13 +30,12 @@ pub struct Sizes {
     pub across: [usize; 4],
 }
 
-// An accepted nest with its counts on a route that is open to it: what the code below the calls works on.
+// An accepted nest with its counts on a route: what the code below the calls works on.
 #[derive(Clone, Copy)]
 pub struct Layout {
     pub nest: Nest,
     pub sizes: Sizes,
     ghost sized: { Sized nest sizes },
-    ghost routed: { Routed nest sizes },
 }
 
 // A processor's share of the tiles along a dimension.
@@ -64,31 +63,49 @@ pub struct Bounds {
     pub size: usize,
 }
 
-// The number of a place among those of the first `left` dimensions, one dimension at a time.
-pub fn rank(lengths: [usize; 4], at: [usize; 4], left: usize) -> usize
-    requires { Ranked lengths at left }
-    ensures { result ≡ rank (nth lengths) (nth at) left }
+// The number of a place among those of the first `left` dimensions, one dimension at a time. The recursions go over references: arrays by value
+// are copied at each of their steps.
+pub fn rank_of(lengths: &[usize; 4], at: &[usize; 4], left: usize) -> usize
+    requires { Ranked lengths.now at.now left }
+    ensures { result ≡ rank (nth lengths.now) (nth at.now) left }
 {
     if left == 0 {
         return 0;
     }
     let j = left - 1;
-    rank(lengths, at, j) * lengths[j] + at[j]
+    rank_of(lengths, at, j) * lengths[j] + at[j]
 }
 
-// The inverse, by the same recursion: the place of number n, added to the place `from`.
+// The same of arrays by value.
+pub fn rank(lengths: [usize; 4], at: [usize; 4], left: usize) -> usize
+    requires { Ranked lengths at left }
+    ensures { result ≡ rank (nth lengths) (nth at) left }
+{
+    rank_of(&lengths, &at, left)
+}
+
+// The inverse, by the same recursion: the place of number n is added to the place `at`.
+pub fn add_place(lengths: &[usize; 4], at: &mut [usize; 4], n: usize, left: usize)
+    requires { (length at.old ≡ 4) × Places lengths.now at.old left }
+    ensures { (length at.new ≡ 4) × Placed lengths.now at.old n left at.new }
+{
+    if left == 0 {
+        return;
+    }
+    let j = left - 1;
+    let length = lengths[j];
+    at[j] += n % length;
+    add_place(lengths, at, n / length, j);
+}
+
+// The same of arrays by value: the place of number n, added to the place `from`.
 pub fn place(lengths: [usize; 4], from: [usize; 4], n: usize, left: usize) -> [usize; 4]
     requires { Places lengths from left }
     ensures { Placed lengths from n left result }
 {
-    if left == 0 {
-        return from;
-    }
-    let j = left - 1;
-    let length = lengths[j];
     let mut at = from;
-    at[j] += n % length;
-    place(lengths, at, n / length, j)
+    add_place(&lengths, &mut at, n, left);
+    at
 }
 
 // The product of the first `left` counts.
@@ -137,7 +154,8 @@ fn ways_of(nest: Nest, route: Route) -> usize
     }
 }
 
-fn sizes_of(nest: Nest, route: Route) -> Sizes
+// A nest's counts on a route.
+pub fn sizes_of(nest: Nest, route: Route) -> Sizes
     requires { Accepted nest }
     ensures { Sized nest result × (result.route ≡ route) }
 {
@@ -178,10 +196,33 @@ fn share_of(across: usize, count: usize, processor: usize, spread: bool) -> Shar
     }
 }
 
+// A cell's place; a nest alone is asked for, whatever its route.
+pub fn cell_of(nest: Nest, cell: usize) -> Cell
+    requires { Accepted nest × (cell < cells nest) }
+    ensures { Located nest cell result }
+{
+    Cell {
+        number: cell,
+        place: place(nest.lengths, [0; 4], cell, nest.dimensions),
+    }
+}
+
+// The q-th cell of a tile's box, likewise.
+pub fn cell_in(nest: Nest, bounds: Bounds, q: usize) -> Cell
+    requires { Accepted nest × (Bounded nest bounds × (q < bounds.size)) }
+    ensures { Located nest (box_cell nest bounds.tile q) result }
+{
+    let at = place(bounds.lengths, bounds.corner, q, nest.dimensions);
+    Cell {
+        number: rank_of(&nest.lengths, &at, nest.dimensions),
+        place: at,
+    }
+}
+
 impl Layout {
+    // The counts of an accepted nest, found once in a call.
     pub fn of(nest: Nest, route: Route) -> Self
-        requires accepted { Accepted nest }
-        requires routed { nest.bounds ≢ 0 → route ≡ Direct }
+        requires { Accepted nest }
         ensures { (result.nest ≡ nest) × (result.sizes.route ≡ route) }
     {
         let sizes = sizes_of(nest, route);
@@ -192,10 +233,7 @@ impl Layout {
         requires { cell < cells self.now.nest }
         ensures { Located self.now.nest cell result }
     {
-        Cell {
-            number: cell,
-            place: place(self.nest.lengths, [0; 4], cell, self.nest.dimensions),
-        }
+        cell_of(self.nest, cell)
     }
 
     pub fn place_of_tile(&self, tile: usize) -> [usize; 4]
@@ -221,7 +259,7 @@ impl Layout {
         ensures { (result ≡ box_tile_of self.now.nest cell) × (result < box_tiles self.now.nest) }
     {
         let tile = self.quotients(self.cell_of(cell).place);
-        rank(self.sizes.across, tile, self.nest.dimensions)
+        rank_of(&self.sizes.across, &tile, self.nest.dimensions)
     }
 
     // The processor's place of a tile's: the remainder in each spread dimension.
@@ -240,7 +278,7 @@ impl Layout {
         ensures { (result ≡ processor_of self.now.nest tile) × (result < processors self.now.nest) }
     {
         let at = self.remainders(self.place_of_tile(tile));
-        rank(self.nest.counts, at, self.nest.spread)
+        rank_of(&self.nest.counts, &at, self.nest.spread)
     }
 
     // How many tiles a processor has: the product of its shares.
@@ -315,11 +353,7 @@ impl Layout {
         requires { Bounded self.now.nest bounds × (q < bounds.size) }
         ensures { Located self.now.nest (box_cell self.now.nest bounds.tile q) result }
     {
-        let at = place(bounds.lengths, bounds.corner, q, self.nest.dimensions);
-        Cell {
-            number: rank(self.nest.lengths, at, self.nest.dimensions),
-            place: at,
-        }
+        cell_in(self.nest, bounds, q)
     }
 
     // How a way moves a tile's place: by a direction's components, or by one in a spread dimension.

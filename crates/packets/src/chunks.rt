@@ -6,6 +6,7 @@ ghost use Rattle.base.specs.Refusals.{number_of};
 ghost use Rattle.packets.specs.Cut.{chunks_of, chunk_length, chunk_of, assembly, there, complete, placed, take_lines, taking_of, take_chunk_call};
 
 use crate::MOST_WORDS;
+use base::copy_words;
 use base::refusal::Refusal;
 
 // What became of a chunk: a number, 1 where the message is whole now, and the mask of chunks that are there. At a refusal the mask is as it was.
@@ -84,7 +85,7 @@ fn put_chunk(chunk: u32, words: &[u32], area: &mut [u32], mask: u64) -> u64
         return mask;
     }
     let start = chunk as usize * MOST_WORDS;
-    area[start..start + words.len()].copy_from_slice(words);
+    copy_words(&mut area[start..start + words.len()], words);
     with_chunk(mask, chunk)
 }
 

@@ -11,6 +11,7 @@ ghost use Rattle.nest.specs.Nest.{processor_count, cells, box_tiles, processors}
 ghost use Rattle.nest.specs.Places.{rank};
 ghost use Rattle.plan.specs.Messages.{ways};
 ghost use Rattle.plan.specs.Shaped.{box_tile};
+ghost use Rattle.layout.specs.Sizes.{Routed};
 ghost use Rattle.layout.specs.Laid.{plan_of_layout};
 ghost use Rattle.tables.specs.Tables.{FoundIn};
 ghost use Rattle.tables.specs.Given.{plan_of_table};
@@ -74,7 +75,8 @@ fn rows_alike(nest: Nest, q: usize, most: usize) -> usize
 
 // Marks the cells of the processor's tiles: by rows that have one processor.
 pub fn mark_own(layout: &Layout, b: usize, marks: &mut [u8])
-    requires { (b < processors layout.now.nest) × (length marks.old ≡ cells layout.now.nest) }
+    requires routed { Routed layout.now.nest layout.now.sizes }
+    requires low { (b < processors layout.now.nest) × (length marks.old ≡ cells layout.now.nest) }
     ensures { marks.new ≡ tabulate (λ c. one (owns (plan_of_layout layout.now) b c)) (cells layout.now.nest) }
 {
     marks.fill(0);
@@ -137,7 +139,7 @@ pub fn box_tile(table: &Table, tile: usize) -> usize
     if table.layout.nest.bounds == 0 {
         return tile;
     }
-    tables::shaped_table::box_of(table.layout.nest, &table.lens, tile)
+    tables::shaped_table::box_of(table.layout.nest, table.lens, tile)
 }
 
 // For each slot which of its ends are the processor's, looked up once a chain.
@@ -181,7 +183,7 @@ fn mark_held(table: &Table, place: MessageSlot, list: &mut [u16], marks: &mut [u
     requires list_len { (length list.old ≡ place.words) × (length marks.old ≡ cells table.now.layout.nest) }
     ensures { marks.new ≡ set_all marks.old (held_by (plan_of_table table.now) place.number) 1 }
 {
-    cells_of(&table.layout, &table.lens, place, list);
+    cells_of(&table.layout, table.lens, place, list);
     mark_cells(marks, list);
 }
 
@@ -297,6 +299,7 @@ pub fn give(marks: &[u8], counts: &[u32; BLOCKS], cells: &[u16], memory: &[u32],
 
 // Whether the processor sends or takes the message, as a word, by its slot's byte.
 fn handled_one(layout: &Layout, place: MessageSlot, b: usize, side: u8) -> u32
+    requires routed { Routed layout.now.nest layout.now.sizes }
     requires sized { FoundIn layout.now.sizes.route layout.now.nest place.number place }
     requires side_value { side ≡ side_of layout.now.sizes.route layout.now.nest b (box_tile layout.now.nest (place.slot / ways layout.now.sizes.route layout.now.nest)) (place.slot % ways layout.now.sizes.route layout.now.nest) }
     ensures { result ≡ one (handles (plan_of_layout layout.now) b place.number) }

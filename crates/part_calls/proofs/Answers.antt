@@ -19,8 +19,8 @@ use Rattle.base.proofs.Select.{keep_more, keep_none, keep_lt}
 use Rattle.machine.specs.Plan.{Plan, count, held_by, offset, words}
 use Rattle.machine.specs.Machine.{State, state_of, finished_of, stage_of, sent_of, place_of, fit, Answered, answered, deliver_lines, fresh}
 use Rattle.machine.proofs.Values.{offset_apart}
-use Rattle.tables.specs.declared.Table.{Table}
-use Rattle.tables.specs.Given.{plan_of_table}
+use Rattle.layout.specs.declared.Layout.{Layout}
+use Rattle.layout.specs.Laid.{plan_of_layout}
 use Rattle.engine.specs.Calls.{answer, recipe}
 use Rattle.engine.specs.Given.{zeros_after}
 use Rattle.engine.proofs.Lines.{and_right}
@@ -63,10 +63,10 @@ module _ (bytes : List ℕ) (route b : ℕ) where
   sizes_read r o =
       sym (none_told (code r) (recipe bytes route) b (code_some r)) ∙ ap (λ (n : ℕ). lengths_if n (recipe bytes route) b) o.number
 
-  pub sizes_done : (t : Table) → OpensFor bytes route b (Ok t) → (new : AreaLengths) → new ≡ lengths_of (plan_of_table t) b
+  pub sizes_done : (l : Layout) → OpensFor bytes route b (Ok l) → (new : AreaLengths) → new ≡ lengths_of (plan_of_layout l) b
       → new ≡ part_sizes_call bytes route b
   unfolding part_sizes_call lengths_if
-  sizes_done t o new e =
+  sizes_done l o new e =
       e ∙ ap (λ (p : Plan). lengths_of p b) o.board.plan ∙ ap (λ (n : ℕ). lengths_if n (recipe bytes route) b) o.number
 
   module _ (s : State) where
@@ -74,7 +74,7 @@ module _ (bytes : List ℕ) (route b : ℕ) where
     unfolding part_fresh_call
     fresh_read = closed bytes route b (λ p. line 9 (not (part_fits p b s)) ∷ []) (λ p. to_part p b (fresh p)) s
 
-    pub fresh_past : (t : Table) → OpensFor bytes route b (Ok t) → (a : Answered State) → a ≡ fresh_or (plan_of_table t) b s
+    pub fresh_past : (l : Layout) → OpensFor bytes route b (Ok l) → (a : Answered State) → a ≡ fresh_or (plan_of_layout l) b s
         → a ≡ part_fresh_call bytes route s b
     unfolding part_fresh_call
     fresh_past = opened bytes route b (λ p. line 9 (not (part_fits p b s)) ∷ []) (λ p. to_part p b (fresh p)) s
@@ -84,7 +84,7 @@ module _ (bytes : List ℕ) (route b : ℕ) where
       unfolding part_post_call
       post_read = closed bytes route b (λ p. post_lines p b s m) (λ p. to_part p b (marked (from_part p b s) m)) s
 
-      pub post_past : (t : Table) → OpensFor bytes route b (Ok t) → (a : Answered State) → a ≡ posted_or (plan_of_table t) b s m
+      pub post_past : (l : Layout) → OpensFor bytes route b (Ok l) → (a : Answered State) → a ≡ posted_or (plan_of_layout l) b s m
           → a ≡ part_post_call bytes route s b m
       unfolding part_post_call
       post_past = opened bytes route b (λ p. post_lines p b s m) (λ p. to_part p b (marked (from_part p b s) m)) s
@@ -94,7 +94,7 @@ module _ (bytes : List ℕ) (route b : ℕ) where
         unfolding part_arrive_call
         arrive_read = closed bytes route b (λ p. arrive_lines p b s m ws) (λ p. to_part p b (received p (from_part p b s) m ws)) s
 
-        pub arrive_past : (t : Table) → OpensFor bytes route b (Ok t) → (a : Answered State) → a ≡ arrives_or (plan_of_table t) b s m ws
+        pub arrive_past : (l : Layout) → OpensFor bytes route b (Ok l) → (a : Answered State) → a ≡ arrives_or (plan_of_layout l) b s m ws
             → a ≡ part_arrive_call bytes route s b m ws
         unfolding part_arrive_call
         arrive_past = opened bytes route b (λ p. arrive_lines p b s m ws) (λ p. to_part p b (received p (from_part p b s) m ws)) s
@@ -433,7 +433,7 @@ module _ (bytes : List ℕ) (route b : ℕ) where
     unfolding part_messages_call
     messages_read = closed bytes route b row_lines (λ p. part_rows p b (handled p b)) out
 
-    pub messages_past : (t : Table) → OpensFor bytes route b (Ok t) → (a : Answered (List ℕ)) → a ≡ rows_or (plan_of_table t) b out
+    pub messages_past : (l : Layout) → OpensFor bytes route b (Ok l) → (a : Answered (List ℕ)) → a ≡ rows_or (plan_of_layout l) b out
         → a ≡ part_messages_call bytes route b out
     unfolding part_messages_call
     messages_past = opened bytes route b row_lines (λ p. part_rows p b (handled p b)) out
@@ -443,7 +443,7 @@ module _ (bytes : List ℕ) (route b : ℕ) where
     unfolding part_collect_call
     collect_read = closed bytes route b (λ p. collect_lines p b s grid) (λ p. part_collected p b s grid) grid
 
-    pub collect_past : (t : Table) → OpensFor bytes route b (Ok t) → (a : Answered (List ℕ)) → a ≡ collected_or (plan_of_table t) b s grid
+    pub collect_past : (l : Layout) → OpensFor bytes route b (Ok l) → (a : Answered (List ℕ)) → a ≡ collected_or (plan_of_layout l) b s grid
         → a ≡ part_collect_call bytes route s b grid
     unfolding part_collect_call
     collect_past = opened bytes route b (λ p. collect_lines p b s grid) (λ p. part_collected p b s grid) grid

@@ -7,6 +7,7 @@ ghost use Rattle.base.specs.Refusals.{number_of};
 ghost use Rattle.machine.specs.Plan.{count};
 ghost use Rattle.machine.specs.Machine.{State, state_of, finished_of, stage_of, sent_of, fit_record};
 ghost use Rattle.nest.specs.Nest.{cells, processors};
+ghost use Rattle.layout.specs.Sizes.{Routed};
 ghost use Rattle.layout.specs.Laid.{plan_of_layout};
 ghost use Rattle.tables.specs.Given.{plan_of_table};
 ghost use Rattle.records.specs.Records.{Flattens};
@@ -19,38 +20,51 @@ use layout::Layout;
 use nest::MOST_CELLS;
 use part::MESSAGE_ENDS;
 use rank_index::{BLOCKS, fill_counts, rank};
+use recipe::lay_out;
 use records::Flat;
 use stages::fit_status;
-use tables::Table;
+use tables::{TABLE_WORDS, Table};
 
 // ---- the first lines
 
 // The reader's lines and the route's, then 11.
-pub fn open(encoded: &[u8], route: u32, processor: u32) -> Result<Table, Refusal>
+pub fn open(encoded: &[u8], route: u32, processor: u32) -> Result<Layout, Refusal>
     ensures { OpensFor encoded.now route processor result }
 {
-    let table = recipe::open(encoded, route)?;
-    if processor as usize >= table.layout.sizes.processors {
+    let layout = lay_out(encoded, route)?;
+    if processor as usize >= layout.sizes.processors {
         return Err(Refusal::NoSuch);
     }
-    Ok(table)
+    Ok(layout)
 }
 
 // ---- what is found once in a call
 
-// Where each message stands in the part; how many messages there are.
-pub fn prepare(
-    table: &Table,
+// A layout's table, and how many messages there are.
+#[derive(Drop)]
+pub struct Prepared<'a> {
+    pub table: Table<'a>,
+    pub messages: usize,
+}
+
+// The table, in words that the caller lends for it, and where each message stands in the part.
+pub fn prepare<'a>(
+    layout: &Layout,
     b: usize,
+    lens: &'a mut [u16; TABLE_WORDS],
     ordinals: &mut [u32; MESSAGE_ENDS],
     starts: &mut [u32; MESSAGE_ENDS],
-) -> usize
-    requires low { b < processors table.now.layout.nest }
-    requires lengths { (length ordinals.old ≡ 7169) × (length starts.old ≡ 7169) }
-    ensures { Known table.now b ordinals.new starts.new × (result ≡ count (plan_of_table table.now)) }
+) -> Prepared<'a>
+    requires routed { Routed layout.now.nest layout.now.sizes }
+    requires low { b < processors layout.now.nest }
+    requires lengths { (length lens.old ≡ 9217) × ((length ordinals.old ≡ 7169) × (length starts.old ≡ 7169)) }
+    ensures table { result.table.layout ≡ layout.now }
+    ensures known { Known result.table b ordinals.new starts.new × (result.messages ≡ count (plan_of_table result.table)) }
 {
-    part::fill_handled(table, b, ordinals, starts);
-    table.totals().messages
+    let table = Table::of(*layout, lens);
+    part::fill_handled(&table, b, ordinals, starts);
+    let messages = table.totals().messages;
+    Prepared { table, messages }
 }
 
 // The cells that processor b keeps words of, marked, and their counts; how many they are.
@@ -66,6 +80,7 @@ pub fn keep_cells(table: &Table, b: usize, kept: &mut [u8], counts: &mut [u32; B
 
 // The cells of its tiles.
 pub fn own_cells(layout: &Layout, b: usize, owned: &mut [u8], counts: &mut [u32; BLOCKS]) -> usize
+    requires routed { Routed layout.now.nest layout.now.sizes }
     requires low { b < processors layout.now.nest }
     requires owned_len { (length owned.old ≡ cells layout.now.nest) × (length counts.old ≡ 257) }
     ensures { Cells layout.now.nest (owns (plan_of_layout layout.now) b) owned.new counts.new
@@ -89,7 +104,8 @@ pub fn kept_count(table: &Table, b: usize) -> usize
 
 // How many cells the processor's tiles have: the words of its source.
 pub fn own_count(layout: &Layout, b: usize) -> usize
-    requires { b < processors layout.now.nest }
+    requires routed { Routed layout.now.nest layout.now.sizes }
+    requires low { b < processors layout.now.nest }
     ensures { (result ≡ length (own_cells (plan_of_layout layout.now) b)) × (result ≤ 16384) }
 {
     let cells = layout.sizes.cells;

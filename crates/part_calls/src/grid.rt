@@ -6,6 +6,7 @@ ghost use Rattle.base.specs.Refusals.{number_of};
 ghost use Rattle.machine.specs.Machine.{state_of};
 ghost use Rattle.nest.specs.Nest.{cells, processors};
 ghost use Rattle.nest.specs.Spans.{within};
+ghost use Rattle.layout.specs.Sizes.{Routed};
 ghost use Rattle.layout.specs.Laid.{plan_of_layout};
 ghost use Rattle.tables.specs.Given.{plan_of_table};
 ghost use Rattle.records.specs.Records.{Flattens};
@@ -22,7 +23,7 @@ use nest::{Interval, MOST_CELLS};
 use part::mark_own;
 use rank_index::BLOCKS;
 use records::Flat;
-use tables::Table;
+use tables::{TABLE_WORDS, Table};
 
 // ---- outside the shape
 
@@ -97,6 +98,7 @@ fn put_own(
     b: usize,
     grid: &mut [u32],
 )
+    requires routed { Routed layout.now.nest layout.now.sizes }
     requires sized { (b < processors layout.now.nest)
         × Cells layout.now.nest (keeps (plan_of_layout layout.now) b) kept.now counts.now }
     requires memory_len { (length memory.now ≡ length (kept_cells (plan_of_layout layout.now) b)) × (length grid.old ≡ cells layout.now.nest) }
@@ -140,22 +142,25 @@ fn uncollected(
 
 // These lines, then the words.
 pub fn collect_part(
-    table: &Table,
+    layout: &Layout,
     memory: &[u32],
     progress: Flat,
     b: usize,
     grid: &mut [u32],
 ) -> Result<(), Refusal>
-    requires { (b < processors table.now.layout.nest) × (length progress.words ≡ 192) }
+    requires routed { Routed layout.now.nest layout.now.sizes }
+    requires low { (b < processors layout.now.nest) × (length progress.words ≡ 192) }
     ensures { (records : List ℕ) → Flattens progress records
         → answer (number_of result) grid.new
-        ≡ collected_or (plan_of_table table.now) b (state_of memory.now [] records []) grid.old }
+        ≡ collected_or (plan_of_layout layout.now) b (state_of memory.now [] records []) grid.old }
 {
-    let cells = table.layout.sizes.cells;
+    let cells = layout.sizes.cells;
+    let mut lens = [0; TABLE_WORDS];
     let mut kept = [0u8; MOST_CELLS];
     let mut counts = [0u32; BLOCKS];
-    let many = keep_cells(table, b, &mut kept[..cells], &mut counts);
-    uncollected(table, many, memory, progress, b, grid)?;
-    put_own(&table.layout, &kept[..cells], &counts, memory, b, grid);
+    let table = Table::of(*layout, &mut lens);
+    let many = keep_cells(&table, b, &mut kept[..cells], &mut counts);
+    uncollected(&table, many, memory, progress, b, grid)?;
+    put_own(layout, &kept[..cells], &counts, memory, b, grid);
     Ok(())
 }

@@ -6,6 +6,8 @@ ghost use Rattle.base.specs.Refusals.{number_of};
 ghost use Rattle.machine.specs.Plan.{count};
 ghost use Rattle.machine.specs.Machine.{state_of};
 ghost use Rattle.nest.specs.Nest.{processors};
+ghost use Rattle.layout.specs.Sizes.{Routed};
+ghost use Rattle.layout.specs.Laid.{plan_of_layout};
 ghost use Rattle.tables.specs.Given.{plan_of_table};
 ghost use Rattle.records.specs.Records.{Flattens};
 ghost use Rattle.engine.specs.Given.{zeros_after};
@@ -16,13 +18,15 @@ ghost use Rattle.part_calls.specs.front.Given.{Known, Many};
 ghost use Rattle.part_calls.specs.Given.{fresh_or, handed_over, posted_or, MayArrive, arrived_or, arrives_or};
 
 use crate::AreaLengths;
-use crate::front::{check_areas, kept_count, open, own_count, part_fits, prepare};
+use crate::front::{Prepared, check_areas, kept_count, open, own_count, part_fits, prepare};
 use crate::grid::collect_part;
+use base::copy_words;
 use base::refusal::{Refusal, number_of};
+use layout::Layout;
 use part::MESSAGE_ENDS;
 use part::sides::arrived;
 use records::Flat;
-use tables::Table;
+use tables::{TABLE_WORDS, Table};
 use transport::inner::as_long;
 
 // ---- how long the areas are
@@ -41,15 +45,17 @@ pub fn no_sizes(number: u32) -> AreaLengths
 }
 
 // The four lengths.
-pub fn sizes_of(table: &Table, b: usize) -> AreaLengths
-    requires { b < processors table.now.layout.nest }
-    ensures { result ≡ lengths_of (plan_of_table table.now) b }
+pub fn sizes_of(layout: &Layout, b: usize) -> AreaLengths
+    requires routed { Routed layout.now.nest layout.now.sizes }
+    requires low { b < processors layout.now.nest }
+    ensures { result ≡ lengths_of (plan_of_layout layout.now) b }
 {
+    let mut lens = [0; TABLE_WORDS];
     let mut ordinals = [0u32; MESSAGE_ENDS];
     let mut starts = [0u32; MESSAGE_ENDS];
-    let messages = prepare(table, b, &mut ordinals, &mut starts);
-    let own = own_count(&table.layout, b);
-    let kept = kept_count(table, b);
+    let Prepared { table, messages } = prepare(layout, b, &mut lens, &mut ordinals, &mut starts);
+    let own = own_count(layout, b);
+    let kept = kept_count(&table, b);
     AreaLengths {
         number: 0,
         cells: own as u32,
@@ -63,24 +69,26 @@ pub fn sizes_of(table: &Table, b: usize) -> AreaLengths
 
 // Line 9, then zeros.
 fn fresh_part(
-    table: &Table,
+    layout: &Layout,
     memory: &mut [u32],
     mail: &mut [u32],
     words: usize,
     marks: &mut [u8],
     b: usize,
 ) -> Result<(), Refusal>
-    requires { b < processors table.now.layout.nest }
+    requires routed { Routed layout.now.nest layout.now.sizes }
+    requires low { b < processors layout.now.nest }
     ensures { (records : List ℕ) → words ≡ length records
         → answer (number_of result) (state_of memory.new mail.new (zeros_after records (number_of result)) marks.new)
-        ≡ fresh_or (plan_of_table table.now) b (state_of memory.old mail.old records marks.old) }
+        ≡ fresh_or (plan_of_layout layout.now) b (state_of memory.old mail.old records marks.old) }
 {
+    let mut lens = [0; TABLE_WORDS];
     let mut ordinals = [0u32; MESSAGE_ENDS];
     let mut starts = [0u32; MESSAGE_ENDS];
-    let messages = prepare(table, b, &mut ordinals, &mut starts);
-    let many = kept_count(table, b);
+    let Prepared { table, messages } = prepare(layout, b, &mut lens, &mut ordinals, &mut starts);
+    let many = kept_count(&table, b);
     if !part_fits(
-        table, &ordinals, &starts, messages, many, memory, mail, words, marks, b,
+        &table, &ordinals, &starts, messages, many, memory, mail, words, marks, b,
     ) {
         return Err(Refusal::Area);
     }
@@ -105,7 +113,14 @@ pub fn fresh(
         ≡ part_fresh_call encoded.now route (state_of memory.old mail.old records marks.old) processor }
 {
     match open(encoded, route, processor) {
-        Ok(table) => number_of(&fresh_part(&table, memory, mail, words, marks, processor as usize)),
+        Ok(layout) => number_of(&fresh_part(
+            &layout,
+            memory,
+            mail,
+            words,
+            marks,
+            processor as usize,
+        )),
         Err(refusal) => refusal.number(),
     }
 }
@@ -144,7 +159,7 @@ fn hand_over(
 
 // Lines 9 and 10, then these.
 fn post_part(
-    table: &Table,
+    layout: &Layout,
     memory: &[u32],
     mail: &[u32],
     progress: Flat,
@@ -152,19 +167,21 @@ fn post_part(
     b: usize,
     m: usize,
 ) -> Result<(), Refusal>
-    requires { (b < processors table.now.layout.nest) × (length progress.words ≡ 192) }
+    requires routed { Routed layout.now.nest layout.now.sizes }
+    requires low { (b < processors layout.now.nest) × (length progress.words ≡ 192) }
     ensures { (records : List ℕ) → Flattens progress records
         → answer (number_of result) (state_of memory.now mail.now records marks.new)
-        ≡ posted_or (plan_of_table table.now) b (state_of memory.now mail.now records marks.old) m }
+        ≡ posted_or (plan_of_layout layout.now) b (state_of memory.now mail.now records marks.old) m }
 {
+    let mut lens = [0; TABLE_WORDS];
     let mut ordinals = [0u32; MESSAGE_ENDS];
     let mut starts = [0u32; MESSAGE_ENDS];
-    let messages = prepare(table, b, &mut ordinals, &mut starts);
-    let many = kept_count(table, b);
+    let Prepared { table, messages } = prepare(layout, b, &mut lens, &mut ordinals, &mut starts);
+    let many = kept_count(&table, b);
     check_areas(
-        table, &ordinals, &starts, messages, many, memory, mail, progress, marks, b,
+        &table, &ordinals, &starts, messages, many, memory, mail, progress, marks, b,
     )?;
-    hand_over(table, &ordinals, &starts, messages, marks, b, m)
+    hand_over(&table, &ordinals, &starts, messages, marks, b, m)
 }
 
 // A message is handed over to a transport; its words lie in the mail.
@@ -184,8 +201,8 @@ pub fn post(
         ≡ part_post_call encoded.now route (state_of memory.now mail.now records marks.old) processor message }
 {
     match open(encoded, route, processor) {
-        Ok(table) => number_of(&post_part(
-            &table,
+        Ok(layout) => number_of(&post_part(
+            &layout,
             memory,
             mail,
             progress,
@@ -205,7 +222,7 @@ fn store_words(mail: &mut [u32], from: usize, words: &[u32])
     ensures { mail.new ≡ put mail.old from words.now }
 {
     let end = from + words.len();
-    mail[from..end].copy_from_slice(words);
+    copy_words(&mut mail[from..end], words);
 }
 
 // Line 11, line 14, then the words into their place and the mark.
@@ -275,7 +292,7 @@ fn arrive_in(
 
 // The same, what is known of the part found first.
 fn arrive_part(
-    table: &Table,
+    layout: &Layout,
     memory: &[u32],
     mail: &mut [u32],
     progress: Flat,
@@ -284,18 +301,20 @@ fn arrive_part(
     m: usize,
     words: &[u32],
 ) -> Result<(), Refusal>
-    requires { (b < processors table.now.layout.nest) × (length progress.words ≡ 192) }
+    requires routed { Routed layout.now.nest layout.now.sizes }
+    requires low { (b < processors layout.now.nest) × (length progress.words ≡ 192) }
     ensures { (records : List ℕ) → Flattens progress records
         → answer (number_of result) (state_of memory.now mail.new records marks.new)
-        ≡ arrives_or (plan_of_table table.now) b (state_of memory.now mail.old records marks.old) m
+        ≡ arrives_or (plan_of_layout layout.now) b (state_of memory.now mail.old records marks.old) m
         words.now }
 {
+    let mut lens = [0; TABLE_WORDS];
     let mut ordinals = [0u32; MESSAGE_ENDS];
     let mut starts = [0u32; MESSAGE_ENDS];
-    let messages = prepare(table, b, &mut ordinals, &mut starts);
-    let many = kept_count(table, b);
+    let Prepared { table, messages } = prepare(layout, b, &mut lens, &mut ordinals, &mut starts);
+    let many = kept_count(&table, b);
     arrive_in(
-        table, &ordinals, &starts, messages, many, memory, mail, progress, marks, b, m, words,
+        &table, &ordinals, &starts, messages, many, memory, mail, progress, marks, b, m, words,
     )
 }
 
@@ -318,8 +337,8 @@ pub fn arrive(
         words.now }
 {
     match open(encoded, route, processor) {
-        Ok(table) => number_of(&arrive_part(
-            &table,
+        Ok(layout) => number_of(&arrive_part(
+            &layout,
             memory,
             mail,
             progress,
@@ -349,7 +368,7 @@ pub fn collect(
         ≡ part_collect_call encoded.now route (state_of memory.now [] records []) processor grid.old }
 {
     match open(encoded, route, processor) {
-        Ok(table) => number_of(&collect_part(&table, memory, progress, processor as usize, grid)),
+        Ok(layout) => number_of(&collect_part(&layout, memory, progress, processor as usize, grid)),
         Err(refusal) => refusal.number(),
     }
 }

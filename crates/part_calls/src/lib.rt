@@ -35,7 +35,7 @@ pub fn sizes(encoded: &[u8], route: u32, processor: u32) -> AreaLengths
     ensures { result ≡ part_sizes_call encoded.now route processor }
 {
     match front::open(encoded, route, processor) {
-        Ok(table) => inner::sizes_of(&table, processor as usize),
+        Ok(layout) => inner::sizes_of(&layout, processor as usize),
         Err(refusal) => inner::no_sizes(refusal.number()),
     }
 }
@@ -45,7 +45,7 @@ pub fn messages(encoded: &[u8], route: u32, processor: u32, out: &mut [u32]) -> 
     ensures { answer result out.new ≡ part_messages_call encoded.now route processor out.old }
 {
     match front::open(encoded, route, processor) {
-        Ok(table) => number_of(&listing::messages_part(&table, processor as usize, out)),
+        Ok(layout) => number_of(&listing::messages_part(&layout, processor as usize, out)),
         Err(refusal) => refusal.number(),
     }
 }

@@ -5,6 +5,8 @@ ghost use Rattle.base.specs.Lists.{put};
 ghost use Rattle.base.specs.Refusals.{number_of};
 ghost use Rattle.machine.specs.Plan.{count};
 ghost use Rattle.nest.specs.Nest.{processors};
+ghost use Rattle.layout.specs.Sizes.{Routed};
+ghost use Rattle.layout.specs.Laid.{plan_of_layout};
 ghost use Rattle.tables.specs.Given.{plan_of_table};
 ghost use Rattle.engine.specs.Calls.{answer};
 ghost use Rattle.network.specs.Own.{handles, handled};
@@ -13,11 +15,12 @@ ghost use Rattle.part_calls.specs.front.Calls.{part_row, part_rows};
 ghost use Rattle.part_calls.specs.front.Given.{Known};
 ghost use Rattle.part_calls.specs.Given.{rows_or};
 
-use crate::front::prepare;
+use crate::front::{Prepared, prepare};
 use base::refusal::Refusal;
+use layout::Layout;
 use part::MESSAGE_ENDS;
 use summary::MessageLine;
-use tables::Table;
+use tables::{TABLE_WORDS, Table};
 
 // A row's words: the message's number, its line, and where its words begin in the mail.
 fn store_row(row: &mut [u32], number: u32, line: MessageLine, at: u32)
@@ -78,16 +81,18 @@ fn put_rows(
 }
 
 // Line 9, then the rows.
-pub fn messages_part(table: &Table, b: usize, out: &mut [u32]) -> Result<(), Refusal>
-    requires { b < processors table.now.layout.nest }
-    ensures { answer (number_of result) out.new ≡ rows_or (plan_of_table table.now) b out.old }
+pub fn messages_part(layout: &Layout, b: usize, out: &mut [u32]) -> Result<(), Refusal>
+    requires routed { Routed layout.now.nest layout.now.sizes }
+    requires low { b < processors layout.now.nest }
+    ensures { answer (number_of result) out.new ≡ rows_or (plan_of_layout layout.now) b out.old }
 {
+    let mut lens = [0; TABLE_WORDS];
     let mut ordinals = [0u32; MESSAGE_ENDS];
     let mut starts = [0u32; MESSAGE_ENDS];
-    let messages = prepare(table, b, &mut ordinals, &mut starts);
+    let Prepared { table, messages } = prepare(layout, b, &mut lens, &mut ordinals, &mut starts);
     if out.len() != 7 * ordinals[messages] as usize {
         return Err(Refusal::Area);
     }
-    put_rows(table, &ordinals, &starts, messages, b, out);
+    put_rows(&table, &ordinals, &starts, messages, b, out);
     Ok(())
 }

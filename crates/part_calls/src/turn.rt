@@ -3,6 +3,8 @@ ghost use Rattle.std.specs.Prelude.{◌≡◌, ℕ, ◌<◌, ◌≢◌, List, le
 ghost use Rattle.base.specs.Refusals.{number_of};
 ghost use Rattle.machine.specs.Machine.{state_of};
 ghost use Rattle.nest.specs.Nest.{processors};
+ghost use Rattle.layout.specs.Sizes.{Routed};
+ghost use Rattle.layout.specs.Laid.{plan_of_layout};
 ghost use Rattle.tables.specs.Given.{plan_of_table};
 ghost use Rattle.records.specs.Records.{Flattens};
 ghost use Rattle.stages.specs.Progress.{set_record};
@@ -15,14 +17,15 @@ ghost use Rattle.part_calls.specs.turn.Step.{Tables, Stands, MayStep, stepped_or
 
 pub mod on_part; // on_part.rt: the stages
 
-use crate::front::{check_areas, keep_cells, open, own_count, prepare};
+use crate::front::{Prepared, check_areas, keep_cells, open, own_count, prepare};
 use base::refusal::Refusal;
+use layout::Layout;
 use nest::MOST_CELLS;
 use on_part::{calculate_stage, gather_stage, ready, send_stage};
 use part::MESSAGE_ENDS;
 use rank_index::BLOCKS;
 use records::{Flat, Progress};
-use tables::Table;
+use tables::{TABLE_WORDS, Table};
 
 // Stage 0: 12 where a message due is not delivered.
 fn first_stage(
@@ -179,7 +182,7 @@ fn turn_in(
 
 // Line 9 of its source; then what is found once, and the rest.
 fn take_turn(
-    table: &Table,
+    layout: &Layout,
     source: &[u32],
     memory: &mut [u32],
     mail: &mut [u32],
@@ -187,24 +190,26 @@ fn take_turn(
     marks: &mut [u8],
     b: usize,
 ) -> Result<Progress, Refusal>
-    requires low { b < processors table.now.layout.nest }
+    requires routed { Routed layout.now.nest layout.now.sizes }
+    requires low { b < processors layout.now.nest }
     requires words_len { length progress.words ≡ 192 }
     ensures { (records : List ℕ) → Flattens progress records
         → answer (number_of result) (state_of memory.new mail.new (records_after records 0 result) marks.new)
-        ≡ turned_or (plan_of_table table.now) source.now (state_of memory.old mail.old records marks.old) b }
+        ≡ turned_or (plan_of_layout layout.now) source.now (state_of memory.old mail.old records marks.old) b }
 {
-    if source.len() != own_count(&table.layout, b) {
+    if source.len() != own_count(layout, b) {
         return Err(Refusal::Area);
     }
-    let cells = table.layout.sizes.cells;
+    let cells = layout.sizes.cells;
+    let mut lens = [0; TABLE_WORDS];
     let mut kept = [0u8; MOST_CELLS];
     let mut counts = [0u32; BLOCKS];
     let mut ordinals = [0u32; MESSAGE_ENDS];
     let mut starts = [0u32; MESSAGE_ENDS];
-    let messages = prepare(table, b, &mut ordinals, &mut starts);
-    let many = keep_cells(table, b, &mut kept[..cells], &mut counts);
+    let Prepared { table, messages } = prepare(layout, b, &mut lens, &mut ordinals, &mut starts);
+    let many = keep_cells(&table, b, &mut kept[..cells], &mut counts);
     turn_in(
-        table,
+        &table,
         &kept[..cells],
         &counts,
         &ordinals,
@@ -237,9 +242,12 @@ pub fn turn(
         ≡ part_turn_call encoded.now route source.now
         (state_of memory.old mail.old records marks.old) processor }
 {
-    let table = open(encoded, route, processor)?;
+    let layout = match open(encoded, route, processor) {
+        Ok(layout) => layout,
+        Err(refusal) => return Err(refusal),
+    };
     take_turn(
-        &table,
+        &layout,
         source,
         memory,
         mail,

@@ -10,7 +10,7 @@ ghost use Rattle.plan_text.specs.PlanText.{number_then, field, figures_text, spa
 
 use std::io;
 use summary::MessageLine;
-use tables::Table;
+use tables::{TABLE_WORDS, Table};
 
 // A number of at most ten digits, and a byte behind it.
 fn put_number(space: &mut [u8], at: usize, number: u32, after: u8) -> usize
@@ -87,7 +87,8 @@ pub fn put_recipe(space: &mut [u8], encoded: &[u8], route: u32) -> usize
     if encoded.len() > 512 {
         return put_refused(space, 1);
     }
-    let table = match recipe::open(encoded, route) {
+    let mut lens = [0; TABLE_WORDS];
+    let table = match recipe::open(encoded, route, &mut lens) {
         Ok(table) => table,
         Err(refusal) => return put_refused(space, refusal.number()),
     };

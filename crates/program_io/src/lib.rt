@@ -2,6 +2,7 @@
 #![tactic(auto)]
 
 ghost use Rattle.std.specs.Prelude.{◌≡◌, ◌+◌, ◌<◌, ◌≤◌, length, IfOk};
+ghost use Rattle.program_io.specs.Bytes.{word_in};
 ghost use Rattle.program_io.specs.Counts.{IsPrefixLen};
 
 use base::refusal::Refusal;
@@ -9,6 +10,57 @@ use std::env::FillError;
 use std::io;
 use std::io::Read;
 use std::rt::Env;
+
+// ---- numbers and front parts
+
+// How many of the first n words there are: what `&words[..r]` asks.
+pub fn front(words: &[u32], n: usize) -> usize
+    ensures { IsPrefixLen result words.now }
+{
+    n.min(words.len())
+}
+
+// The same of bytes.
+pub fn front_bytes(bytes: &[u8], n: usize) -> usize
+    ensures { IsPrefixLen result bytes.now }
+{
+    n.min(bytes.len())
+}
+
+pub fn as_index(x: u32) -> usize
+    ensures { (result ≡ x) × (result < 4294967296) }
+{
+    x as usize
+}
+
+pub fn of_byte(x: u8) -> u32
+    ensures { result < 256 }
+{
+    u32::from(x)
+}
+
+// The number in two bytes, the low one first; 0 where there are fewer.
+pub fn half(bytes: &[u8]) -> usize
+    ensures { result < 65536 }
+{
+    if bytes.len() < 2 {
+        return 0;
+    }
+    base::half_at(bytes, 0)
+}
+
+// The number in four bytes of a record of 16, from byte at on; 0 where they are not in it.
+pub fn word(bytes: &[u8], at: usize) -> u32
+    ensures { result ≡ word_in bytes.now at }
+{
+    if at > 12 {
+        return 0;
+    }
+    if bytes.len() < 16 {
+        return 0;
+    }
+    base::word_at(bytes, at)
+}
 
 // ---- faults, told on standard error: what is written to standard output does not depend on them
 

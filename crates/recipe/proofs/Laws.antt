@@ -150,6 +150,7 @@ laid_out bytes word {x = x} is l n e =
           record {
             nest = n ∙ is.nest;
             route = e;
+            routed = rw n (λ h. e ∙ routed_for is h);
             opened =
                 record {
                   none = none_for is;

@@ -10,6 +10,7 @@ use Rattle.nest.specs.Reader.{nest_of}
 use Rattle.plan.specs.Shaped.{plan_of}
 use Rattle.layout.specs.declared.Layout.{Layout}
 use Rattle.layout.specs.Laid.{plan_of_layout}
+use Rattle.layout.specs.Sizes.{Routed}
 use Rattle.layout.specs.RouteWords.{route_of}
 use Rattle.tables.specs.declared.Table.{Table}
 use Rattle.recipe.specs.Routes.{lines_for}
@@ -19,10 +20,11 @@ pub record Opened (bytes : List ℕ) (word : ℕ) (p : Plan) : Type 0 where
   pub none : first_of (lines_for (route_of word) bytes) ≡ 0
   pub is : p ≡ plan_of (route_of word) (nest_of bytes)
 
--- the layout of the recipe's nest on that route
+-- the layout of the recipe's nest on that route, which is open to it
 pub record LaidOut (bytes : List ℕ) (word : ℕ) (l : Layout) : Type 0 where
   pub nest : l.nest ≡ nest_of bytes
   pub route : l.sizes.route ≡ route_of word
+  pub routed : Routed l.nest l.sizes
   pub opened : Opened bytes word (plan_of_layout l)
 
 -- a recipe read, with its counts

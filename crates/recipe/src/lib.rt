@@ -11,7 +11,7 @@ use base::refusal::Refusal;
 use layout::{Layout, route_of};
 use nest::Nest;
 use reader::read;
-use tables::Table;
+use tables::{TABLE_WORDS, Table};
 
 // The nest, or the first line that is true of the bytes and the route.
 pub fn read_for(encoded: &[u8], route: u32) -> Result<Nest, Refusal>
@@ -32,10 +32,15 @@ pub fn lay_out(encoded: &[u8], route: u32) -> Result<Layout, Refusal>
     Ok(Layout::of(nest, route_of(route)))
 }
 
-// The same, with its table.
-pub fn open(encoded: &[u8], route: u32) -> Result<Table, Refusal>
+// The same, with its table, in words that the caller lends for it.
+pub fn open<'a>(
+    encoded: &[u8],
+    route: u32,
+    lens: &'a mut [u16; TABLE_WORDS],
+) -> Result<Table<'a>, Refusal>
+    requires { length lens.old ≡ 9217 }
     ensures { Opens encoded.now route result }
 {
     let layout = lay_out(encoded, route)?;
-    Ok(Table::of(layout))
+    Ok(Table::of(layout, lens))
 }

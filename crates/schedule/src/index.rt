@@ -5,7 +5,7 @@ ghost use Rattle.std.specs.Prelude.{◌≡◌, ℕ, suc, ◌+◌, ◌<◌, ◌�
 ghost use Rattle.base.proofs.Select.{rank_in};
 ghost use Rattle.machine.specs.Plan.{Message, count};
 ghost use Rattle.plan.specs.Messages.{messages_of};
-ghost use Rattle.layout.specs.Laid.{plan_of_layout};
+ghost use Rattle.plan.specs.Shaped.{plan_of};
 ghost use Rattle.layout.specs.Sizes.{Stepped};
 ghost use Rattle.tables.specs.scans.Scans.{Sheet, Lengths, Found};
 ghost use Rattle.tables.specs.boxes.Table.{end_of, at_end};
@@ -14,8 +14,8 @@ ghost use Rattle.tables.specs.Tables.{FoundIn};
 ghost use Rattle.schedule.specs.Index.{spot_of, Listed, Chained};
 
 use crate::{CHAIN_WORDS, SPOT_WORDS};
-use layout::Layout;
-use nest::MOST_MESSAGES;
+use layout::Sizes;
+use nest::{MOST_MESSAGES, Nest};
 use tables::scans::MessageSlot;
 use tables::{TABLE_WORDS, Table};
 
@@ -43,15 +43,15 @@ fn list_spots(lens: &[u16; TABLE_WORDS], slots: usize, spots: &mut [u32; SPOT_WO
 // The same of the nest's messages.
 pub fn list(table: &Table, spots: &mut [u32; SPOT_WORDS]) -> usize
     requires { length spots.old ≡ 14336 }
-    ensures { (result ≡ count (plan_of_table table.now)) × Listed table.now.layout.sizes.route table.now.layout.nest table.now.lens spots.new }
+    ensures { (result ≡ count (plan_of_table table.now)) × Listed table.now.layout.sizes.route table.now.layout.nest table.now.lens.now spots.new }
 {
     let tiles = table.tiles_of();
-    list_spots(&table.lens, tiles * table.layout.sizes.ways, spots)
+    list_spots(table.lens, tiles * table.layout.sizes.ways, spots)
 }
 
 // Where message m is found.
 pub fn spot(table: &Table, spots: &[u32; SPOT_WORDS], m: usize) -> MessageSlot
-    requires { Listed table.now.layout.sizes.route table.now.layout.nest table.now.lens spots.now × (m < count (plan_of_table table.now)) }
+    requires { Listed table.now.layout.sizes.route table.now.layout.nest table.now.lens.now spots.now × (m < count (plan_of_table table.now)) }
     ensures { FoundIn table.now.layout.sizes.route table.now.layout.nest m result }
 {
     let slot = spots[m] as usize;
@@ -76,7 +76,7 @@ fn end_of(table: &Table, steps: [usize; 8], place: MessageSlot, side: usize) -> 
     if side == 0 {
         return sender;
     }
-    tables::shaped_table::taker_of(&table.layout, &table.lens, slot)
+    tables::shaped_table::taker_of(&table.layout, table.lens, slot)
 }
 
 // A chain with no message yet.
@@ -106,7 +106,7 @@ pub fn chain_ends(
     messages: usize,
     side: usize,
 )
-    requires planned { Listed table.now.layout.sizes.route table.now.layout.nest table.now.lens spots.now × (length chain.old ≡ 8192) }
+    requires planned { Listed table.now.layout.sizes.route table.now.layout.nest table.now.lens.now spots.now × (length chain.old ≡ 8192) }
     requires messages_value { messages ≡ count (plan_of_table table.now) }
     ensures { Chained (end_of side (plan_of_table table.now)) (count (plan_of_table table.now)) chain.new }
 {
@@ -119,26 +119,33 @@ pub fn chain_ends(
     }
 }
 
-// The first message with the tile at that end.
-pub fn first(layout: &Layout, chain: &[u16; CHAIN_WORDS], tile: usize, side: usize) -> usize
-    requires { Chained (end_of side (plan_of_layout layout.now)) (count (plan_of_layout layout.now)) chain.now × (tile < 1024) }
-    ensures { result ≡ slice_index_or (at_end side (plan_of_layout layout.now) tile) 0 (count (plan_of_layout layout.now)) }
+// The first message with the tile at that end; of the plan the chain is all that is read.
+pub fn first(
+    nest: &Nest,
+    sizes: &Sizes,
+    chain: &[u16; CHAIN_WORDS],
+    tile: usize,
+    side: usize,
+) -> usize
+    requires { Chained (end_of side (plan_of sizes.now.route nest.now)) (count (plan_of sizes.now.route nest.now)) chain.now × (tile < 1024) }
+    ensures { result ≡ slice_index_or (at_end side (plan_of sizes.now.route nest.now) tile) 0 (count (plan_of sizes.now.route nest.now)) }
 {
     usize::from(chain[MOST_MESSAGES + tile])
 }
 
 // The next one after message m with the tile there.
 pub fn next(
-    layout: &Layout,
+    nest: &Nest,
+    sizes: &Sizes,
     chain: &[u16; CHAIN_WORDS],
     tile: usize,
     side: usize,
     m: usize,
 ) -> usize
-    requires { Chained (end_of side (plan_of_layout layout.now)) (count (plan_of_layout layout.now)) chain.now
-        × ((m < count (plan_of_layout layout.now)) × ((m < 7168) × (end_of side (plan_of_layout layout.now) m ≡ tile))) }
-    ensures { result ≡ get_or (at_end side (plan_of_layout layout.now) tile) (suc (rank_in (end_of side (plan_of_layout layout.now)) m))
-        (count (plan_of_layout layout.now)) }
+    requires { Chained (end_of side (plan_of sizes.now.route nest.now)) (count (plan_of sizes.now.route nest.now)) chain.now
+        × ((m < count (plan_of sizes.now.route nest.now)) × ((m < 7168) × (end_of side (plan_of sizes.now.route nest.now) m ≡ tile))) }
+    ensures { result ≡ get_or (at_end side (plan_of sizes.now.route nest.now) tile) (suc (rank_in (end_of side (plan_of sizes.now.route nest.now)) m))
+        (count (plan_of sizes.now.route nest.now)) }
 {
     usize::from(chain[m])
 }

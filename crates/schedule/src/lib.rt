@@ -28,8 +28,8 @@ use layout::Layout;
 use recipe::open;
 use records::Progress;
 use stages::{calculate, put_message, take_message, tiles_left};
-use tables::Table;
 use tables::scans::MessageSlot;
+use tables::{TABLE_WORDS, Table};
 
 // Of each message the next one of its tile, 7,168 at most, and of each of 1,024 tiles its first.
 pub const CHAIN_WORDS: usize = 8192;
@@ -42,13 +42,13 @@ fn ready(layout: &Layout, dues: &[u16; CHAIN_WORDS], status: &[u8], t: usize) ->
     requires { Mailed layout.now.nest layout.now.sizes 1 dues.now status.now × (t < 1024) }
     ensures { result ≡ all_at status.now 2 (dues_of (plan_of_layout layout.now) t) }
 {
-    let mut m = first(layout, dues, t, 1);
+    let mut m = first(&layout.nest, &layout.sizes, dues, t, 1);
     // along the tile's chain, which ends beyond the last message
     while m < status.len() {
         if status[m] != 2 {
             return false;
         }
-        m = next(layout, dues, t, 1, m);
+        m = next(&layout.nest, &layout.sizes, dues, t, 1, m);
     }
     true
 }
@@ -63,20 +63,20 @@ fn gather(
     status: &mut [u8],
     t: usize,
 )
-    requires planned { Listed table.now.layout.sizes.route table.now.layout.nest table.now.lens spots.now }
+    requires planned { Listed table.now.layout.sizes.route table.now.layout.nest table.now.lens.now spots.now }
     requires mailed { Mailed table.now.layout.nest table.now.layout.sizes 1 dues.now status.old × (t < 1024) }
     requires memory_len { (length memory.old ≡ cells table.now.layout.nest) × (length buffer.now ≡ words (plan_of_table table.now)) }
     ensures { (memory.new
         ≡ unpack_all (plan_of_table table.now) buffer.now memory.old (dues_of (plan_of_table table.now) t))
         × (status.new ≡ set_all status.old (dues_of (plan_of_table table.now) t) 3) }
 {
-    let mut m = first(&table.layout, dues, t, 1);
+    let mut m = first(&table.layout.nest, &table.layout.sizes, dues, t, 1);
     // along the tile's chain, which ends beyond the last message
     while m < status.len() {
         let place = spot(table, spots, m);
         take_message(table, memory, buffer, place);
         status[m] = 3;
-        m = next(&table.layout, dues, t, 1, m);
+        m = next(&table.layout.nest, &table.layout.sizes, dues, t, 1, m);
     }
 }
 
@@ -90,20 +90,20 @@ fn send(
     status: &mut [u8],
     t: usize,
 )
-    requires planned { Listed table.now.layout.sizes.route table.now.layout.nest table.now.lens spots.now }
+    requires planned { Listed table.now.layout.sizes.route table.now.layout.nest table.now.lens.now spots.now }
     requires mailed { Mailed table.now.layout.nest table.now.layout.sizes 0 sends.now status.old × (t < 1024) }
     requires memory_len { (length memory.now ≡ cells table.now.layout.nest) × (length buffer.old ≡ words (plan_of_table table.now)) }
     ensures { (buffer.new
         ≡ put_all (plan_of_table table.now) memory.now buffer.old (sends_of (plan_of_table table.now) t))
         × (status.new ≡ set_all status.old (sends_of (plan_of_table table.now) t) 1) }
 {
-    let mut m = first(&table.layout, sends, t, 0);
+    let mut m = first(&table.layout.nest, &table.layout.sizes, sends, t, 0);
     // along the tile's chain, which ends beyond the last message
     while m < status.len() {
         let place = spot(table, spots, m);
         put_message(table, memory, buffer, place);
         status[m] = 1;
-        m = next(&table.layout, sends, t, 0, m);
+        m = next(&table.layout.nest, &table.layout.sizes, sends, t, 0, m);
     }
 }
 
@@ -119,7 +119,7 @@ fn whole_tile(
     status: &mut [u8],
     t: usize,
 )
-    requires indexed { Indexed table.now.layout.nest table.now.layout.sizes table.now.lens spots.now sends.now dues.now × (t < (plan_of_table table.now).tiles) }
+    requires indexed { Indexed table.now.layout.nest table.now.layout.sizes table.now.lens.now spots.now sends.now dues.now × (t < (plan_of_table table.now).tiles) }
     requires source_len { (length source.now ≡ cells table.now.layout.nest) × (length memory.old ≡ cells table.now.layout.nest) }
     requires buffer_len { (length buffer.old ≡ words (plan_of_table table.now)) × (length status.old ≡ count (plan_of_table table.now)) }
     ensures { (memory.new ≡ memory_then (plan_of_table table.now) source.now buffer.old memory.old t)
@@ -144,7 +144,7 @@ fn next_tile(
     status: &mut [u8],
     b: usize,
 )
-    requires indexed { Indexed table.now.layout.nest table.now.layout.sizes table.now.lens spots.now sends.now dues.now × ((length source.now ≡ cells table.now.layout.nest) × (b < processors table.now.layout.nest)) }
+    requires indexed { Indexed table.now.layout.nest table.now.layout.sizes table.now.lens.now spots.now sends.now dues.now × ((length source.now ≡ cells table.now.layout.nest) × (b < processors table.now.layout.nest)) }
     requires plan_areas { PlanAreas (plan_of_table table.now) (state_of memories.old buffer.old progress.old status.old) }
     ensures { state_of memories.new buffer.new progress.new status.new
         ≡ after_tile (plan_of_table table.now) source.now
@@ -210,7 +210,7 @@ fn round(
     progress: &mut [u32],
     status: &mut [u8],
 )
-    requires indexed { Indexed table.now.layout.nest table.now.layout.sizes table.now.lens spots.now sends.now dues.now × (length source.now ≡ cells table.now.layout.nest) }
+    requires indexed { Indexed table.now.layout.nest table.now.layout.sizes table.now.lens.now spots.now sends.now dues.now × (length source.now ≡ cells table.now.layout.nest) }
     requires plan_areas { PlanAreas (plan_of_table table.now) (state_of memories.old buffer.old progress.old status.old) }
     ensures { state_of memories.new buffer.new progress.new status.new
         ≡ after_round (plan_of_table table.now) source.now
@@ -236,7 +236,7 @@ fn rounds_by(
     progress: &mut [u32],
     status: &mut [u8],
 ) -> u32
-    requires indexed { Indexed table.now.layout.nest table.now.layout.sizes table.now.lens spots.now sends.now dues.now × (length source.now ≡ cells table.now.layout.nest) }
+    requires indexed { Indexed table.now.layout.nest table.now.layout.sizes table.now.lens.now spots.now sends.now dues.now × (length source.now ≡ cells table.now.layout.nest) }
     requires status_value { state_of memories.old buffer.old progress.old status.old ≡ fresh (plan_of_table table.now) }
     ensures { (result ≡ rounds (plan_of_table table.now))
         × (state_of memories.new buffer.new progress.new status.new
@@ -300,7 +300,8 @@ fn drive(
         ≡ rounds_call encoded.now source.now
         (state_of memories.old buffer.old progress.old status.old) }
 {
-    let table = open(encoded, 0)?;
+    let mut lens = [0; TABLE_WORDS];
+    let table = open(encoded, 0, &mut lens)?;
     if !areas_fit(&table, source, memories, buffer, progress.len(), status) {
         return Err(Refusal::Area);
     }
@@ -341,7 +342,7 @@ fn processor_at(table: &Table, tile: usize) -> usize
     if table.layout.nest.bounds == 0 {
         return table.layout.processor_of(tile);
     }
-    tables::shaped_table::owner_of(table.layout.nest, &table.lens, tile)
+    tables::shaped_table::owner_of(table.layout.nest, table.lens, tile)
 }
 
 // The tile that sends a message.
@@ -362,19 +363,19 @@ fn round_at(
     tile: usize,
     last: u32,
 ) -> u32
-    requires dued { Dued table.now.layout.nest table.now.layout.sizes table.now.lens spots.now dues.now messages × (tile < (plan_of_table table.now).tiles) }
+    requires dued { Dued table.now.layout.nest table.now.layout.sizes table.now.lens.now spots.now dues.now messages × (tile < (plan_of_table table.now).tiles) }
     requires tells_to { TellsTo (plan_of_table table.now) rounds.now tile
         × (last ≡ last_before (plan_of_table table.now) ((plan_of_table table.now).processor_of tile) tile) }
     ensures { result ≡ tile_round (plan_of_table table.now) tile }
 {
     let mut latest = last;
-    let mut m = first(&table.layout, dues, tile, 1);
+    let mut m = first(&table.layout.nest, &table.layout.sizes, dues, tile, 1);
     // along the tile's chain, which ends beyond the last message
     while m < messages {
         let place = spot(table, spots, m);
         let sender = sender_at(table, place);
         latest = latest.max(rounds[sender]);
-        m = next(&table.layout, dues, tile, 1, m);
+        m = next(&table.layout.nest, &table.layout.sizes, dues, tile, 1, m);
     }
     latest + 1
 }
@@ -387,7 +388,7 @@ fn tell_by(
     messages: usize,
     rounds: &mut [u32],
 )
-    requires { Dued table.now.layout.nest table.now.layout.sizes table.now.lens spots.now dues.now messages × (length rounds.old ≡ (plan_of_table table.now).tiles) }
+    requires { Dued table.now.layout.nest table.now.layout.sizes table.now.lens.now spots.now dues.now messages × (length rounds.old ≡ (plan_of_table table.now).tiles) }
     ensures { rounds.new ≡ rounds_to (plan_of_table table.now) (plan_of_table table.now).tiles }
 {
     let mut lasts = [0u32; 64];
@@ -415,7 +416,8 @@ fn tell_rounds(table: &Table, rounds: &mut [u32])
 fn tell(encoded: &[u8], rounds: &mut [u32]) -> Result<(), Refusal>
     ensures { answer (number_of result) rounds.new ≡ rounds_of_call encoded.now rounds.old }
 {
-    let direct = open(encoded, 0)?;
+    let mut lens = [0; TABLE_WORDS];
+    let direct = open(encoded, 0, &mut lens)?;
     if rounds.len() != direct.tiles_of() {
         return Err(Refusal::Area);
     }

@@ -18,7 +18,7 @@ use engine::inner::areas_fit;
 use recipe::open;
 use records::Flat;
 use stages::{fit_records, fit_status};
-use tables::Table;
+use tables::{TABLE_WORDS, Table};
 
 // The stage of the tenant that holds the processor is 1 or 2, any other's is 0.
 fn stage_agrees(holder: u32, tenant: u32, stage: u32) -> bool
@@ -206,7 +206,8 @@ pub fn check_both(
         (sharing_of (state_of memories0.now buffer0.now records status0.now)
         (state_of memories1.now buffer1.now others status1.now) engaged)) }
 {
-    let table = open(encoded, route)?;
+    let mut lens = [0; TABLE_WORDS];
+    let table = open(encoded, route, &mut lens)?;
     if !areas_fit(&table, source0, memories0, buffer0, words0, status0)
         || !areas_fit(&table, source1, memories1, buffer1, words1, status1)
         || shared != table.layout.sizes.processors

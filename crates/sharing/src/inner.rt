@@ -18,7 +18,7 @@ use engine::store_record;
 use recipe::open;
 use records::{Flat, Progress};
 use stages::{copy_cells, tiles_left};
-use tables::Table;
+use tables::{TABLE_WORDS, Table};
 
 // The word that agrees with the stage of the tenant whose turn it was.
 fn word_for(tenant: u32, stage: u32) -> u32
@@ -74,7 +74,8 @@ pub fn turn(
         (tenant_areas (state_of memories.old buffer.old records status.old)
         engaged.old) others processor }
 {
-    let table = open(encoded, route)?;
+    let mut lens = [0; TABLE_WORDS];
+    let table = open(encoded, route, &mut lens)?;
     let b = processor as usize;
     check_turn(
         &table, source, memories, buffer, progress, status, engaged, theirs, tenant, b,
@@ -129,7 +130,8 @@ pub fn deliver(
         (tenant_areas (state_of memories.now buffer.now records status.old)
         engaged.now) others message }
 {
-    let table = open(encoded, route)?;
+    let mut lens = [0; TABLE_WORDS];
+    let table = open(encoded, route, &mut lens)?;
     check_areas(
         &table, source, memories, buffer, progress, status, engaged, theirs, tenant,
     )?;
@@ -157,7 +159,8 @@ pub fn collect(
         (tenant_areas (state_of memories.now buffer.now records status.now)
         engaged.now) others grid.old }
 {
-    let table = open(encoded, route)?;
+    let mut lens = [0; TABLE_WORDS];
+    let table = open(encoded, route, &mut lens)?;
     if grid.len() != table.layout.sizes.cells {
         return Err(Refusal::Area);
     }

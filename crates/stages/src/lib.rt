@@ -9,10 +9,12 @@ ghost use Rattle.machine.specs.Machine.{state_of, place_of, set_progress, fit_re
 ghost use Rattle.nest.specs.Nest.{cells, processors};
 ghost use Rattle.plan.specs.Messages.{box_plan};
 ghost use Rattle.layout.specs.Laid.{plan_of_layout};
+ghost use Rattle.layout.specs.Sizes.{Routed};
 ghost use Rattle.tables.specs.Tables.{FoundIn};
 ghost use Rattle.tables.specs.Given.{plan_of_table};
 ghost use Rattle.stages.specs.Progress.{progress_only, set_record};
 
+use base::copy_words;
 use layout::Layout;
 use records::Progress;
 use tables::Table;
@@ -122,7 +124,7 @@ pub fn calculate(table: &Table, source: &[u32], memory: &mut [u32], tile: usize)
         values::calculate(&table.layout, source, memory, tile);
         return;
     }
-    let number = tables::shaped_table::box_of(table.layout.nest, &table.lens, tile);
+    let number = tables::shaped_table::box_of(table.layout.nest, table.lens, tile);
     values::shaped_values::calculate(&table.layout, source, memory, number);
 }
 
@@ -259,12 +261,13 @@ fn copy_box(layout: &Layout, memories: &[u32], grid: &mut [u32])
         let from = b * cells + c;
         let to = from + width;
         let end = c + width;
-        grid[c..end].copy_from_slice(&memories[from..to]);
+        copy_words(&mut grid[c..end], &memories[from..to]);
     }
 }
 
 // Each cell of the shape from the memory of its tile's processor; the others are the boundary.
 pub fn copy_cells(layout: &Layout, memories: &[u32], grid: &mut [u32])
+    requires routed { Routed layout.now.nest layout.now.sizes }
     requires memories_len { (length memories.now ≡ processors layout.now.nest * cells layout.now.nest) × (length grid.old ≡ cells layout.now.nest) }
     ensures { grid.new ≡ collected (plan_of_layout layout.now) (state_of memories.now [] [] []) }
 {

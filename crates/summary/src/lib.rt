@@ -19,8 +19,8 @@ ghost use Rattle.summary.specs.Summary.{as_figures, figures_of, summary_of, line
 use base::refusal::Refusal;
 use layout::Layout;
 use nest::Nest;
-use tables::Table;
 use tables::scans::MessageSlot;
+use tables::{TABLE_WORDS, Table};
 
 // What is said of a plan as a whole; number is 0, or why the recipe is refused.
 #[repr(C)]
@@ -96,9 +96,9 @@ fn shape_line(table: &Table, place: MessageSlot) -> MessageLine
 {
     let slot = place.slot;
     let sender = slot / table.layout.sizes.ways;
-    let taker = tables::shaped_table::taker_of(&table.layout, &table.lens, slot);
-    let from = tables::shaped_table::owner_of(table.layout.nest, &table.lens, sender);
-    let to = tables::shaped_table::owner_of(table.layout.nest, &table.lens, taker);
+    let taker = tables::shaped_table::taker_of(&table.layout, table.lens, slot);
+    let from = tables::shaped_table::owner_of(table.layout.nest, table.lens, sender);
+    let to = tables::shaped_table::owner_of(table.layout.nest, table.lens, taker);
     MessageLine {
         number: 0,
         sender: sender as u32,
@@ -168,7 +168,8 @@ fn no_hops(refusal: Refusal) -> HopCount
 pub fn summary(encoded: &[u8], route: u32) -> Figures
     ensures { result ≡ summary_of (route_of route) encoded.now }
 {
-    match recipe::open(encoded, route) {
+    let mut lens = [0; TABLE_WORDS];
+    match recipe::open(encoded, route, &mut lens) {
         Ok(table) => figures_of(&table),
         Err(refusal) => no_figures(refusal),
     }
@@ -178,7 +179,8 @@ pub fn summary(encoded: &[u8], route: u32) -> Figures
 pub fn message(encoded: &[u8], route: u32, m: u32) -> MessageLine
     ensures { result ≡ message_line_of (route_of route) encoded.now m }
 {
-    let table = match recipe::open(encoded, route) {
+    let mut lens = [0; TABLE_WORDS];
+    let table = match recipe::open(encoded, route, &mut lens) {
         Ok(table) => table,
         Err(refusal) => return no_line(refusal),
     };
@@ -229,7 +231,8 @@ fn hops_at(table: &Table, m: usize) -> u32
 pub fn hops(encoded: &[u8], m: u32) -> HopCount
     ensures { result ≡ hops_of encoded.now m }
 {
-    let table = match recipe::open(encoded, 0) {
+    let mut lens = [0; TABLE_WORDS];
+    let table = match recipe::open(encoded, 0, &mut lens) {
         Ok(table) => table,
         Err(refusal) => return no_hops(refusal),
     };

@@ -6,6 +6,7 @@ ghost use Rattle.std.specs.Prelude.{◌≡◌, ◌≤◌, ◌<◌, length, get_o
 ghost use Rattle.base.specs.Lists.{pack, unpack};
 ghost use Rattle.machine.specs.Plan.{count, words, held_by, tiles_of};
 ghost use Rattle.nest.specs.Nest.{cells};
+ghost use Rattle.layout.specs.Sizes.{Routed};
 ghost use Rattle.tables.specs.boxes.Table.{at_end};
 ghost use Rattle.tables.specs.Tables.{Tabled, FoundIn};
 
@@ -27,17 +28,19 @@ pub const OWNERS_AT: usize = 8192;
 // Where the table says how many tiles there are.
 pub const COUNT_AT: usize = 9216;
 
-// A layout with its table: what is told of messages and tiles, without bounds or with them.
+// A layout with its table: what is told of messages and tiles, without bounds or with them. The table's words are lent: a caller has them in an array
+// of its own, since 18 kilobytes handed back by value are copied at every call.
 #[derive(Drop)]
-pub struct Table {
+pub struct Table<'a> {
     pub layout: Layout,
-    pub lens: [u16; TABLE_WORDS],
-    ghost tabled: { Tabled layout.nest layout.sizes lens },
+    pub lens: &'a [u16; TABLE_WORDS],
+    ghost tabled: { Tabled layout.nest layout.sizes lens.now },
 }
 
 // The length of each slot's parcel and, with bounds, what else is found once.
-fn fill(layout: &Layout, lens: &mut [u16; TABLE_WORDS])
-    requires { length lens.old ≡ 9217 }
+pub fn fill(layout: &Layout, lens: &mut [u16; TABLE_WORDS])
+    requires routed { Routed layout.now.nest layout.now.sizes }
+    requires lens_len { length lens.old ≡ 9217 }
     ensures { Tabled layout.now.nest layout.now.sizes lens.new }
 {
     if layout.nest.bounds == 0 {
@@ -47,15 +50,16 @@ fn fill(layout: &Layout, lens: &mut [u16; TABLE_WORDS])
     shaped_table::fill(layout, lens);
 }
 
-impl Table {
+impl<'a> Table<'a> {
     ghost use Rattle.tables.specs.Given.{plan_of_table};
 
-    // The table of a layout, found once in a call.
-    pub fn of(layout: Layout) -> Self
+    // The table of a layout, found once in a call, in words that the caller lends for it.
+    pub fn of(layout: Layout, lens: &'a mut [u16; TABLE_WORDS]) -> Table<'a>
+        requires routed { Routed layout.nest layout.sizes }
+        requires lens_len { length lens.old ≡ 9217 }
         ensures { result.layout ≡ layout }
     {
-        let mut lens = [0; TABLE_WORDS];
-        fill(&layout, &mut lens);
+        fill(&layout, lens);
         Table { layout, lens }
     }
 
@@ -64,7 +68,7 @@ impl Table {
         ensures { (result.messages ≡ count (plan_of_table self.now)) × ((result.words ≡ words (plan_of_table self.now))
             × ((result.messages ≤ 7168) × (result.words ≤ 117440512))) }
     {
-        scans::sums_to(&self.lens, self.tiles_of() * self.layout.sizes.ways)
+        scans::sums_to(self.lens, self.tiles_of() * self.layout.sizes.ways)
     }
 
     // How many tiles the processor has.
@@ -74,7 +78,7 @@ impl Table {
         if self.layout.nest.bounds == 0 {
             return self.layout.tile_count(processor);
         }
-        shaped_table::tile_count(self.layout.nest, &self.lens, processor)
+        shaped_table::tile_count(self.layout.nest, self.lens, processor)
     }
 
     // Its tile after so many finished ones.
@@ -85,7 +89,7 @@ impl Table {
         if self.layout.nest.bounds == 0 {
             return self.layout.tile_at(processor, finished);
         }
-        shaped_table::tile_at(self.layout.nest, &self.lens, processor, finished)
+        shaped_table::tile_at(self.layout.nest, self.lens, processor, finished)
     }
 
     // How many messages have the tile at this end: 0 the sender, else the taker.
@@ -94,9 +98,9 @@ impl Table {
         ensures { (result ≡ length (at_end side (plan_of_table self.now) tile)) × (result ≤ 7168) }
     {
         if self.layout.nest.bounds == 0 {
-            return boxes::count_at(&self.layout, &self.lens, tile, side);
+            return boxes::count_at(&self.layout, self.lens, tile, side);
         }
-        shaped_table::count_at(&self.layout, &self.lens, tile, side)
+        shaped_table::count_at(&self.layout, self.lens, tile, side)
     }
 
     // The j-th of them.
@@ -106,9 +110,9 @@ impl Table {
         ensures { FoundIn self.now.layout.sizes.route self.now.layout.nest (get_or (at_end side (plan_of_table self.now) tile) j 0) result }
     {
         if self.layout.nest.bounds == 0 {
-            return boxes::nth_at(&self.layout, &self.lens, tile, side, j);
+            return boxes::nth_at(&self.layout, self.lens, tile, side, j);
         }
-        shaped_table::nth_at(&self.layout, &self.lens, tile, side, j)
+        shaped_table::nth_at(&self.layout, self.lens, tile, side, j)
     }
 
     // Message m.
@@ -116,7 +120,7 @@ impl Table {
         requires { m < count (plan_of_table self.now) }
         ensures { FoundIn self.now.layout.sizes.route self.now.layout.nest m result }
     {
-        scans::nth(&self.lens, self.tiles_of() * self.layout.sizes.ways, m).unwrap()
+        scans::nth(self.lens, self.tiles_of() * self.layout.sizes.ways, m)
     }
 
     // How many tiles there are.
@@ -126,7 +130,7 @@ impl Table {
         if self.layout.nest.bounds == 0 {
             return self.layout.sizes.tiles;
         }
-        shaped_table::tiles_of(self.layout.nest, &self.lens)
+        shaped_table::tiles_of(self.layout.nest, self.lens)
     }
 
     // The words of a message, from a memory.
@@ -140,11 +144,7 @@ impl Table {
             parcels::pack(&self.layout, slot, words, memory);
             return;
         }
-        let tile = shaped_table::box_of(
-            self.layout.nest,
-            &self.lens,
-            slot / self.layout.sizes.ways,
-        );
+        let tile = shaped_table::box_of(self.layout.nest, self.lens, slot / self.layout.sizes.ways);
         parcels::shaped::pack(
             &self.layout,
             tile,
@@ -166,11 +166,7 @@ impl Table {
             parcels::unpack(&self.layout, slot, memory, words);
             return;
         }
-        let tile = shaped_table::box_of(
-            self.layout.nest,
-            &self.lens,
-            slot / self.layout.sizes.ways,
-        );
+        let tile = shaped_table::box_of(self.layout.nest, self.lens, slot / self.layout.sizes.ways);
         parcels::shaped::unpack(
             &self.layout,
             tile,

@@ -54,7 +54,7 @@ pub fn message_of(lens: &[u16; TABLE_WORDS], slot: usize) -> MessageSlot
 }
 
 // Message m of so many slots, if there are so many messages.
-pub fn nth(lens: &[u16; TABLE_WORDS], slots: usize, m: usize) -> Option<MessageSlot>
+pub fn find(lens: &[u16; TABLE_WORDS], slots: usize, m: usize) -> Option<MessageSlot>
     requires { Sheet lens.now slots }
     ensures { (f : ℕ → Message) → Lengths f slots lens.now → m < length (messages_of f slots) → IsSomeAnd result (Found f slots m) }
 {
@@ -76,4 +76,20 @@ pub fn nth(lens: &[u16; TABLE_WORDS], slots: usize, m: usize) -> Option<MessageS
         offset += words;
     }
     None
+}
+
+// Message m of so many slots; zeros where there are not so many messages.
+pub fn nth(lens: &[u16; TABLE_WORDS], slots: usize, m: usize) -> MessageSlot
+    requires { Sheet lens.now slots }
+    ensures { (f : ℕ → Message) → Lengths f slots lens.now → m < length (messages_of f slots) → Found f slots m result }
+{
+    match find(lens, slots, m) {
+        Some(place) => place,
+        None => MessageSlot {
+            slot: 0,
+            number: 0,
+            offset: 0,
+            words: 0,
+        },
+    }
 }

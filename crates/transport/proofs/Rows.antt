@@ -118,8 +118,8 @@ module _ (p : Plan) (old : List ℕ) where
 
 -- ---- the pass over the slots of the table
 
-pub slots_of : (t : Table) (k : ℕ) → k ≡ (plan_of_table t).tiles → Slotted t.layout.sizes.route t.layout.nest t.lens (k * t.layout.sizes.ways)
-slots_of t k is = slotted t.layout.nest t.layout.sizes t.layout.sized t.lens t.tabled k is
+pub slots_of : (t : Table) (k : ℕ) → k ≡ (plan_of_table t).tiles → Slotted t.layout.sizes.route t.layout.nest t.lens.now (k * t.layout.sizes.ways)
+slots_of t k is = slotted t.layout.nest t.layout.sizes t.layout.sized t.lens.now t.tabled k is
 
 -- the slots before `slot` are passed: so many messages with so many words, and their rows are told
 pub record Passing (r : Route) (x : Nest) (lens : List ℕ) (n : ℕ) (old new : List ℕ) (s m o : ℕ) : Type 0 where

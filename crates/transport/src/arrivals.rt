@@ -6,6 +6,7 @@ ghost use Rattle.tables.specs.Given.{plan_of_table};
 ghost use Rattle.engine.specs.Calls.{answer};
 ghost use Rattle.transport.specs.arrivals.Taking.{MayTake, received_or};
 
+use base::copy_words;
 use base::refusal::Refusal;
 use tables::Table;
 
@@ -36,7 +37,7 @@ pub fn receive(
     }
     let offset = place.offset;
     let end = offset + place.words;
-    buffer[offset..end].copy_from_slice(words);
+    copy_words(&mut buffer[offset..end], words);
     status[m] = 2;
     Ok(())
 }

@@ -28,8 +28,8 @@ use recipe::open;
 use records::Flat;
 use stages::{fit_records, fit_status};
 use summary::MessageLine;
-use tables::Table;
 use tables::scans::MessageSlot;
+use tables::{TABLE_WORDS, Table};
 
 // ---- all messages
 
@@ -210,7 +210,8 @@ fn ask(
         ≡ awaited_call encoded.now route (state_of [] [] records status.now) processor
         marks.old }
 {
-    let table = open(encoded, route)?;
+    let mut lens = [0; TABLE_WORDS];
+    let table = open(encoded, route, &mut lens)?;
     let b = processor as usize;
     check_asking(&table, progress, status, marks.len())?;
     if b >= table.layout.sizes.processors {
@@ -284,7 +285,8 @@ pub fn take_in(
         ≡ take_in_call encoded.now route source.now
         (state_of memories.now buffer.old records status.old) processor message words.now }
 {
-    let table = open(encoded, route)?;
+    let mut lens = [0; TABLE_WORDS];
+    let table = open(encoded, route, &mut lens)?;
     let m = message as usize;
     if !as_long(&table, m, words.len()) {
         return Err(Refusal::Area);

@@ -17,12 +17,14 @@ use plan::Route;
 use reader::read;
 use recipe::open;
 use records::flat_of;
+use tables::TABLE_WORDS;
 
 // The rows of all messages, where `out` has room for them and no more.
 fn list_messages(encoded: &[u8], route: u32, out: &mut [u32]) -> Result<(), Refusal>
     ensures { answer (number_of result) out.new ≡ messages_call encoded.now route out.old }
 {
-    let table = open(encoded, route)?;
+    let mut lens = [0; TABLE_WORDS];
+    let table = open(encoded, route, &mut lens)?;
     let total = table.totals();
     if out.len() != 6 * total.messages {
         return Err(Refusal::Area);

@@ -270,7 +270,7 @@ pub fn box_rows(
     let last = n - 1;
     let width = lengths[last];
     for r in first..end {
-        let number = layout::rank(*grid, *at, n);
+        let number = layout::rank_of(grid, at, n);
         row(
             body, source, memory, components, lasts, back, weights, margin, at, number, width,
         );
@@ -328,7 +328,7 @@ fn four_rows(
         return;
     }
     let stride = grid[last];
-    let a = layout::rank(*grid, *at, n);
+    let a = layout::rank_of(grid, at, n);
     let b = a + stride;
     let c = b + stride;
     side_by_side(

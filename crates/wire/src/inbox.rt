@@ -22,7 +22,7 @@ use packets::{Header, Reading};
 use recipe::lay_out;
 use records::Flat;
 use summary::line_at;
-use tables::Table;
+use tables::{TABLE_WORDS, Table};
 use transport::arrivals::receive as receive_whole;
 
 // What became of bytes: a number, 1 where a message is whole with them and was taken in, and the message. An answer to C, and so no Result.
@@ -189,7 +189,8 @@ fn take_in(
     let layout = lay_out(encoded, route)?;
     let mut words = [0u32; 285];
     let reading = open_packet(encoded, route, run, packet, &mut words)?;
-    let table = Table::of(layout);
+    let mut lens = [0; TABLE_WORDS];
+    let table = Table::of(layout, &mut lens);
     if !inbox_fits(&table, parts.len(), masks.len()) {
         return Err(Refusal::Area);
     }

@@ -19,7 +19,7 @@ use packets::chunks::{MOST_AREA, chunk_length, chunks_of};
 use packets::{Header, LONGEST, MOST_WORDS};
 use recipe::open;
 use summary::line_at;
-use tables::Table;
+use tables::{TABLE_WORDS, Table};
 
 pub const MESSAGE: u32 = 1; // a packet's kind
 
@@ -274,7 +274,8 @@ fn send_posted(
     ensures { told result space.new
         ≡ send_call encoded.now route run life buffer.now status.now processor message chunk space.old }
 {
-    let table = open(encoded, route)?;
+    let mut lens = [0; TABLE_WORDS];
+    let table = open(encoded, route, &mut lens)?;
     let fingerprint = packets::fingerprint(encoded, route);
     send_message(
         &table,

@@ -146,7 +146,10 @@ pub fn write_nest(nest: Nest, space: &mut [u8]) -> Result<(), Refusal>
     }
     let length = 16 * (nest.dimensions + nest.bounds + nest.distances + 1);
     let bytes = bytes_of(nest);
-    reader::read(&bytes[..length])?;
+    let _read = match reader::read(&bytes[..length]) {
+        Ok(nest) => nest,
+        Err(refusal) => return Err(refusal),
+    };
     if space.len() != length {
         return Err(Refusal::Area);
     }

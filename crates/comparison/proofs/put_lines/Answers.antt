@@ -25,7 +25,7 @@ returns-in-Err c =
     }
 
 pub of-layout-requires : goal.of-layout-requires
-of-layout-requires c = record { accepted = accepted_read c.in-Ok.ensures; routed = λ k. refl }
+of-layout-requires c = accepted_read c.in-Ok.ensures
 
 pub returns-then-is_beyond : goal.returns-then-is_beyond
 returns-then-is_beyond c =

@@ -14,8 +14,8 @@ returns-in-Err c =
     rw c.number.ensures
     (lines.sweep_read A.encoded.now A.source.now A.grid.now (code c.in-Err.refusal) c.in-Err.ensures.number (code_some c.in-Err.refusal))
 
-pub of-layout-requires-clause-accepted : goal.of-layout-requires-clause-accepted
-of-layout-requires-clause-accepted c = accepted_read c.in-Ok.ensures
+pub of-layout-requires : goal.of-layout-requires
+of-layout-requires c = accepted_read c.in-Ok.ensures
 
 pub returns-then-source-layout : goal.returns-then-source-layout
 returns-then-source-layout c =

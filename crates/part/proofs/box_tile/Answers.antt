@@ -10,6 +10,6 @@ box_of-requires c = (
   c.args.table.now.layout.sized.accepted,
   (
     (c.args.table.now.tabled.shape c.if-table-eq0.false).owned.tiled,
-    chains.shape_number c.args.table.now.layout.nest c.args.table.now.layout.sizes c.args.table.now.layout.sized.accepted c.args.tile c.requires c.args.table.now.layout.routed c.if-table-eq0.false,
+    chains.shape_number c.args.table.now.layout.nest c.args.table.now.layout.sizes c.args.table.now.layout.sized.accepted c.args.tile c.requires c.args.table.now.tabled.routed c.if-table-eq0.false,
   ),
 )

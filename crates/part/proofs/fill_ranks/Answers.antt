@@ -14,12 +14,12 @@ pub overflow_mul-slots : goal.overflow_mul-slots
 overflow_mul-slots c =
     omega (
       arith,
-      (rows.slotted c.args.table.now.layout.nest c.args.table.now.layout.sizes c.args.table.now.layout.sized c.args.table.now.lens c.args.table.now.tabled c.tiles_of.result c.tiles_of.ensures.0).sheet.few,
+      (rows.slotted c.args.table.now.layout.nest c.args.table.now.layout.sizes c.args.table.now.layout.sized c.args.table.now.lens.now c.args.table.now.tabled c.tiles_of.result c.tiles_of.ensures.0).sheet.few,
     )
 
 pub loop-slot-init : goal.loop-slot-init
 loop-slot-init c = (
-  pass.past_start c.args.table.now.lens (c.tiles_of.result * c.args.table.now.layout.sizes.ways),
+  pass.past_start c.args.table.now.lens.now (c.tiles_of.result * c.args.table.now.layout.sizes.ways),
   handling.rank_start (plan_of c.args.table.now.layout.sizes.route c.args.table.now.layout.nest) c.args.b c.args.ordinals.now c.args.starts.now c.requires.ordinals_len.0
       c.requires.ordinals_len.1,
 )
@@ -30,8 +30,8 @@ offset_bounds-table-slot c =
     omega (
       arith,
       test,
-      (rows.slotted c.args.table.now.layout.nest c.args.table.now.layout.sizes c.args.table.now.layout.sized c.args.table.now.lens c.args.table.now.tabled c.tiles_of.result c.tiles_of.ensures.0).sheet.few,
-      (rows.slotted c.args.table.now.layout.nest c.args.table.now.layout.sizes c.args.table.now.layout.sized c.args.table.now.lens c.args.table.now.tabled c.tiles_of.result c.tiles_of.ensures.0).sheet.long,
+      (rows.slotted c.args.table.now.layout.nest c.args.table.now.layout.sizes c.args.table.now.layout.sized c.args.table.now.lens.now c.args.table.now.tabled c.tiles_of.result c.tiles_of.ensures.0).sheet.few,
+      (rows.slotted c.args.table.now.layout.nest c.args.table.now.layout.sizes c.args.table.now.layout.sized c.args.table.now.lens.now c.args.table.now.tabled c.tiles_of.result c.tiles_of.ensures.0).sheet.long,
     )
 
 pub bounds-table-slot : goal.bounds-table-slot
@@ -40,8 +40,8 @@ bounds-table-slot c =
     omega (
       arith,
       test,
-      (rows.slotted c.args.table.now.layout.nest c.args.table.now.layout.sizes c.args.table.now.layout.sized c.args.table.now.lens c.args.table.now.tabled c.tiles_of.result c.tiles_of.ensures.0).sheet.few,
-      (rows.slotted c.args.table.now.layout.nest c.args.table.now.layout.sizes c.args.table.now.layout.sized c.args.table.now.lens c.args.table.now.tabled c.tiles_of.result c.tiles_of.ensures.0).sheet.long,
+      (rows.slotted c.args.table.now.layout.nest c.args.table.now.layout.sizes c.args.table.now.layout.sized c.args.table.now.lens.now c.args.table.now.tabled c.tiles_of.result c.tiles_of.ensures.0).sheet.few,
+      (rows.slotted c.args.table.now.layout.nest c.args.table.now.layout.sizes c.args.table.now.layout.sized c.args.table.now.lens.now c.args.table.now.tabled c.tiles_of.result c.tiles_of.ensures.0).sheet.long,
     )
 
 pub offset_bounds-ordinals-number : goal.offset_bounds-ordinals-number
@@ -52,7 +52,7 @@ offset_bounds-ordinals-number c =
       arith,
       test,
       loop.invariant.0.few,
-      (rows.slotted c.args.table.now.layout.nest c.args.table.now.layout.sizes c.args.table.now.layout.sized c.args.table.now.lens c.args.table.now.tabled c.tiles_of.result c.tiles_of.ensures.0).sheet.few,
+      (rows.slotted c.args.table.now.layout.nest c.args.table.now.layout.sizes c.args.table.now.layout.sized c.args.table.now.lens.now c.args.table.now.tabled c.tiles_of.result c.tiles_of.ensures.0).sheet.few,
     )
 
 pub bounds-ordinals-number : goal.bounds-ordinals-number
@@ -63,7 +63,7 @@ bounds-ordinals-number c =
       arith,
       test,
       loop.invariant.0.few,
-      (rows.slotted c.args.table.now.layout.nest c.args.table.now.layout.sizes c.args.table.now.layout.sized c.args.table.now.lens c.args.table.now.tabled c.tiles_of.result c.tiles_of.ensures.0).sheet.few,
+      (rows.slotted c.args.table.now.layout.nest c.args.table.now.layout.sizes c.args.table.now.layout.sized c.args.table.now.lens.now c.args.table.now.tabled c.tiles_of.result c.tiles_of.ensures.0).sheet.few,
     )
 
 pub offset_bounds-starts-number : goal.offset_bounds-starts-number
@@ -74,7 +74,7 @@ offset_bounds-starts-number c =
       arith,
       test,
       loop.invariant.0.few,
-      (rows.slotted c.args.table.now.layout.nest c.args.table.now.layout.sizes c.args.table.now.layout.sized c.args.table.now.lens c.args.table.now.tabled c.tiles_of.result c.tiles_of.ensures.0).sheet.few,
+      (rows.slotted c.args.table.now.layout.nest c.args.table.now.layout.sizes c.args.table.now.layout.sized c.args.table.now.lens.now c.args.table.now.tabled c.tiles_of.result c.tiles_of.ensures.0).sheet.few,
     )
 
 pub bounds-starts-number : goal.bounds-starts-number
@@ -85,7 +85,7 @@ bounds-starts-number c =
       arith,
       test,
       loop.invariant.0.few,
-      (rows.slotted c.args.table.now.layout.nest c.args.table.now.layout.sizes c.args.table.now.layout.sized c.args.table.now.lens c.args.table.now.tabled c.tiles_of.result c.tiles_of.ensures.0).sheet.few,
+      (rows.slotted c.args.table.now.layout.nest c.args.table.now.layout.sizes c.args.table.now.layout.sized c.args.table.now.lens.now c.args.table.now.tabled c.tiles_of.result c.tiles_of.ensures.0).sheet.few,
     )
 
 pub bounds-sides-slot : goal.bounds-sides-slot
@@ -95,7 +95,7 @@ bounds-sides-slot c =
     omega (
       arith,
       test,
-      (rows.slotted c.args.table.now.layout.nest c.args.table.now.layout.sizes c.args.table.now.layout.sized c.args.table.now.lens c.args.table.now.tabled c.tiles_of.result c.tiles_of.ensures.0).sheet.few,
+      (rows.slotted c.args.table.now.layout.nest c.args.table.now.layout.sizes c.args.table.now.layout.sized c.args.table.now.lens.now c.args.table.now.tabled c.tiles_of.result c.tiles_of.ensures.0).sheet.few,
       S.requires.sides_len.0,
     )
 
@@ -105,8 +105,8 @@ handled_one-own-requires c =
     let loop = c.loop-slot in
     let test = c.loop-slot-test.true in
     let words = c.from-words in
-    let here = pass.here S.args.table.now.layout.sizes.route S.args.table.now.layout.nest S.args.table.now.lens _ loop.slot loop.number loop.offset loop.invariant.0 (rows.slotted c.args.table.now.layout.nest c.args.table.now.layout.sizes c.args.table.now.layout.sized c.args.table.now.lens c.args.table.now.tabled c.tiles_of.result c.tiles_of.ensures.0)
-    test words.result words.ensures in record { sized = here c.if-words-ne0.true; side_value = S.requires.sides_len.1.each loop.slot (omega (arith, test, ap (λ (i : ℕ). i * S.args.table.now.layout.sizes.ways) c.tiles_of.ensures.0)) }
+    let here = pass.here S.args.table.now.layout.sizes.route S.args.table.now.layout.nest S.args.table.now.lens.now _ loop.slot loop.number loop.offset loop.invariant.0 (rows.slotted c.args.table.now.layout.nest c.args.table.now.layout.sizes c.args.table.now.layout.sized c.args.table.now.lens.now c.args.table.now.tabled c.tiles_of.result c.tiles_of.ensures.0)
+    test words.result words.ensures in record { routed = c.args.table.now.tabled.routed; sized = here c.if-words-ne0.true; side_value = S.requires.sides_len.1.each loop.slot (omega (arith, test, ap (λ (i : ℕ). i * S.args.table.now.layout.sizes.ways) c.tiles_of.ensures.0)) }
 
 pub overflow_add-number : goal.overflow_add-number
 overflow_add-number c =
@@ -116,7 +116,7 @@ overflow_add-number c =
       arith,
       test,
       loop.invariant.0.few,
-      (rows.slotted c.args.table.now.layout.nest c.args.table.now.layout.sizes c.args.table.now.layout.sized c.args.table.now.lens c.args.table.now.tabled c.tiles_of.result c.tiles_of.ensures.0).sheet.few,
+      (rows.slotted c.args.table.now.layout.nest c.args.table.now.layout.sizes c.args.table.now.layout.sized c.args.table.now.lens.now c.args.table.now.tabled c.tiles_of.result c.tiles_of.ensures.0).sheet.few,
     )
 
 pub overflow_add-rank : goal.overflow_add-rank
@@ -128,7 +128,7 @@ overflow_add-rank c =
       arith,
       test,
       loop.invariant.0.few,
-      (rows.slotted c.args.table.now.layout.nest c.args.table.now.layout.sizes c.args.table.now.layout.sized c.args.table.now.lens c.args.table.now.tabled c.tiles_of.result c.tiles_of.ensures.0).sheet.few,
+      (rows.slotted c.args.table.now.layout.nest c.args.table.now.layout.sizes c.args.table.now.layout.sized c.args.table.now.lens.now c.args.table.now.tabled c.tiles_of.result c.tiles_of.ensures.0).sheet.few,
       handling.few (plan_of S.args.table.now.layout.sizes.route S.args.table.now.layout.nest) S.args.b loop.ordinals loop.starts loop.number loop.offset
           loop.rank loop.at loop.invariant.1,
       handling.at_most _ c.handled_one-own.result c.handled_one-own.ensures,
@@ -140,7 +140,7 @@ overflow_cast-at c =
     let loop = c.loop-slot in
     let test = c.loop-slot-test.true in
     let words = c.from-words in
-    let short = pass.short S.args.table.now.layout.sizes.route S.args.table.now.layout.nest S.args.table.now.lens _ loop.slot loop.number loop.offset loop.invariant.0 (rows.slotted c.args.table.now.layout.nest c.args.table.now.layout.sizes c.args.table.now.layout.sized c.args.table.now.lens c.args.table.now.tabled c.tiles_of.result c.tiles_of.ensures.0)
+    let short = pass.short S.args.table.now.layout.sizes.route S.args.table.now.layout.nest S.args.table.now.lens.now _ loop.slot loop.number loop.offset loop.invariant.0 (rows.slotted c.args.table.now.layout.nest c.args.table.now.layout.sizes c.args.table.now.layout.sized c.args.table.now.lens.now c.args.table.now.tabled c.tiles_of.result c.tiles_of.ensures.0)
     test words.result words.ensures in
     omega (arith, short)
 
@@ -150,7 +150,7 @@ overflow_mul-at c =
     let loop = c.loop-slot in
     let test = c.loop-slot-test.true in
     let words = c.from-words in
-    let short = pass.short S.args.table.now.layout.sizes.route S.args.table.now.layout.nest S.args.table.now.lens _ loop.slot loop.number loop.offset loop.invariant.0 (rows.slotted c.args.table.now.layout.nest c.args.table.now.layout.sizes c.args.table.now.layout.sized c.args.table.now.lens c.args.table.now.tabled c.tiles_of.result c.tiles_of.ensures.0)
+    let short = pass.short S.args.table.now.layout.sizes.route S.args.table.now.layout.nest S.args.table.now.lens.now _ loop.slot loop.number loop.offset loop.invariant.0 (rows.slotted c.args.table.now.layout.nest c.args.table.now.layout.sizes c.args.table.now.layout.sized c.args.table.now.lens.now c.args.table.now.tabled c.tiles_of.result c.tiles_of.ensures.0)
     test words.result words.ensures in
     let own = handling.at_most_words _ c.handled_one-own.result words.result c.handled_one-own.ensures in
     omega (arith, short, own)
@@ -161,7 +161,7 @@ overflow_add-at c =
     let loop = c.loop-slot in
     let test = c.loop-slot-test.true in
     let words = c.from-words in
-    let short = pass.short S.args.table.now.layout.sizes.route S.args.table.now.layout.nest S.args.table.now.lens _ loop.slot loop.number loop.offset loop.invariant.0 (rows.slotted c.args.table.now.layout.nest c.args.table.now.layout.sizes c.args.table.now.layout.sized c.args.table.now.lens c.args.table.now.tabled c.tiles_of.result c.tiles_of.ensures.0)
+    let short = pass.short S.args.table.now.layout.sizes.route S.args.table.now.layout.nest S.args.table.now.lens.now _ loop.slot loop.number loop.offset loop.invariant.0 (rows.slotted c.args.table.now.layout.nest c.args.table.now.layout.sizes c.args.table.now.layout.sized c.args.table.now.lens.now c.args.table.now.tabled c.tiles_of.result c.tiles_of.ensures.0)
     test words.result words.ensures in
     let own = handling.at_most_words _ c.handled_one-own.result words.result c.handled_one-own.ensures in
     omega (
@@ -171,7 +171,7 @@ overflow_add-at c =
       loop.invariant.1.small,
       loop.invariant.0.small,
       test,
-      (rows.slotted c.args.table.now.layout.nest c.args.table.now.layout.sizes c.args.table.now.layout.sized c.args.table.now.lens c.args.table.now.tabled c.tiles_of.result c.tiles_of.ensures.0).sheet.few,
+      (rows.slotted c.args.table.now.layout.nest c.args.table.now.layout.sizes c.args.table.now.layout.sized c.args.table.now.lens.now c.args.table.now.tabled c.tiles_of.result c.tiles_of.ensures.0).sheet.few,
     )
 
 pub overflow_add-offset : goal.overflow_add-offset
@@ -180,14 +180,14 @@ overflow_add-offset c =
     let loop = c.loop-slot in
     let test = c.loop-slot-test.true in
     let words = c.from-words in
-    let short = pass.short S.args.table.now.layout.sizes.route S.args.table.now.layout.nest S.args.table.now.lens _ loop.slot loop.number loop.offset loop.invariant.0 (rows.slotted c.args.table.now.layout.nest c.args.table.now.layout.sizes c.args.table.now.layout.sized c.args.table.now.lens c.args.table.now.tabled c.tiles_of.result c.tiles_of.ensures.0)
+    let short = pass.short S.args.table.now.layout.sizes.route S.args.table.now.layout.nest S.args.table.now.lens.now _ loop.slot loop.number loop.offset loop.invariant.0 (rows.slotted c.args.table.now.layout.nest c.args.table.now.layout.sizes c.args.table.now.layout.sized c.args.table.now.lens.now c.args.table.now.tabled c.tiles_of.result c.tiles_of.ensures.0)
     test words.result words.ensures in
     omega (
       arith,
       short,
       loop.invariant.0.small,
       test,
-      (rows.slotted c.args.table.now.layout.nest c.args.table.now.layout.sizes c.args.table.now.layout.sized c.args.table.now.lens c.args.table.now.tabled c.tiles_of.result c.tiles_of.ensures.0).sheet.few,
+      (rows.slotted c.args.table.now.layout.nest c.args.table.now.layout.sizes c.args.table.now.layout.sized c.args.table.now.lens.now c.args.table.now.tabled c.tiles_of.result c.tiles_of.ensures.0).sheet.few,
     )
 
 pub loop-slot-preserved : goal.loop-slot-preserved
@@ -196,9 +196,9 @@ loop-slot-preserved c =
     let loop = c.loop-slot in
     let test = c.loop-slot-test.true in
     let words = c.from-words in
-    let here = pass.here S.args.table.now.layout.sizes.route S.args.table.now.layout.nest S.args.table.now.lens _ loop.slot loop.number loop.offset loop.invariant.0 (rows.slotted c.args.table.now.layout.nest c.args.table.now.layout.sizes c.args.table.now.layout.sized c.args.table.now.lens c.args.table.now.tabled c.tiles_of.result c.tiles_of.ensures.0)
+    let here = pass.here S.args.table.now.layout.sizes.route S.args.table.now.layout.nest S.args.table.now.lens.now _ loop.slot loop.number loop.offset loop.invariant.0 (rows.slotted c.args.table.now.layout.nest c.args.table.now.layout.sizes c.args.table.now.layout.sized c.args.table.now.lens.now c.args.table.now.tabled c.tiles_of.result c.tiles_of.ensures.0)
     test words.result words.ensures in (
-      pass.past_next S.args.table.now.layout.sizes.route S.args.table.now.layout.nest S.args.table.now.lens _ loop.slot loop.number loop.offset loop.invariant.0 (rows.slotted c.args.table.now.layout.nest c.args.table.now.layout.sizes c.args.table.now.layout.sized c.args.table.now.lens c.args.table.now.tabled c.tiles_of.result c.tiles_of.ensures.0)
+      pass.past_next S.args.table.now.layout.sizes.route S.args.table.now.layout.nest S.args.table.now.lens.now _ loop.slot loop.number loop.offset loop.invariant.0 (rows.slotted c.args.table.now.layout.nest c.args.table.now.layout.sizes c.args.table.now.layout.sized c.args.table.now.lens.now c.args.table.now.tabled c.tiles_of.result c.tiles_of.ensures.0)
           test words.result words.ensures c.if-words-ne0.number
           (elim c.if-words-ne0.branch [ then-words-ne0 w ↦ inl (w.if-words-ne0.true, w.number-is) | else-words-ne0 w ↦ inr (w.if-words-ne0.false, w.number-is) ]),
       handling.rank_turn (plan_of S.args.table.now.layout.sizes.route S.args.table.now.layout.nest) S.args.b loop.ordinals loop.starts loop.number loop.offset
@@ -207,7 +207,7 @@ loop-slot-preserved c =
             arith,
             test,
             loop.invariant.0.few,
-            (rows.slotted c.args.table.now.layout.nest c.args.table.now.layout.sizes c.args.table.now.layout.sized c.args.table.now.lens c.args.table.now.tabled c.tiles_of.result c.tiles_of.ensures.0).sheet.few,
+            (rows.slotted c.args.table.now.layout.nest c.args.table.now.layout.sizes c.args.table.now.layout.sized c.args.table.now.lens.now c.args.table.now.tabled c.tiles_of.result c.tiles_of.ensures.0).sheet.few,
           ))
           (elim c.if-words-ne0.branch [ then-words-ne0 w ↦ inl (w.handled_one-own.result, w.handled_one-own.ensures, (here w.if-words-ne0.true).words, w.number-is, w.rank-is, w.at-is) | else-words-ne0 w ↦ inr (w.number-is, w.rank-is, w.at-is) ]),
     )
@@ -219,7 +219,7 @@ offset_bounds-ordinals-number-2 c =
       arith,
       loop.invariant.0.few,
       loop.invariant.0.low,
-      (rows.slotted c.args.table.now.layout.nest c.args.table.now.layout.sizes c.args.table.now.layout.sized c.args.table.now.lens c.args.table.now.tabled c.tiles_of.result c.tiles_of.ensures.0).sheet.few,
+      (rows.slotted c.args.table.now.layout.nest c.args.table.now.layout.sizes c.args.table.now.layout.sized c.args.table.now.lens.now c.args.table.now.tabled c.tiles_of.result c.tiles_of.ensures.0).sheet.few,
     )
 
 pub bounds-ordinals-number-2 : goal.bounds-ordinals-number-2
@@ -229,7 +229,7 @@ bounds-ordinals-number-2 c =
       arith,
       loop.invariant.0.few,
       loop.invariant.0.low,
-      (rows.slotted c.args.table.now.layout.nest c.args.table.now.layout.sizes c.args.table.now.layout.sized c.args.table.now.lens c.args.table.now.tabled c.tiles_of.result c.tiles_of.ensures.0).sheet.few,
+      (rows.slotted c.args.table.now.layout.nest c.args.table.now.layout.sizes c.args.table.now.layout.sized c.args.table.now.lens.now c.args.table.now.tabled c.tiles_of.result c.tiles_of.ensures.0).sheet.few,
     )
 
 pub offset_bounds-starts-number-2 : goal.offset_bounds-starts-number-2
@@ -239,7 +239,7 @@ offset_bounds-starts-number-2 c =
       arith,
       loop.invariant.0.few,
       loop.invariant.0.low,
-      (rows.slotted c.args.table.now.layout.nest c.args.table.now.layout.sizes c.args.table.now.layout.sized c.args.table.now.lens c.args.table.now.tabled c.tiles_of.result c.tiles_of.ensures.0).sheet.few,
+      (rows.slotted c.args.table.now.layout.nest c.args.table.now.layout.sizes c.args.table.now.layout.sized c.args.table.now.lens.now c.args.table.now.tabled c.tiles_of.result c.tiles_of.ensures.0).sheet.few,
     )
 
 pub bounds-starts-number-2 : goal.bounds-starts-number-2
@@ -249,14 +249,14 @@ bounds-starts-number-2 c =
       arith,
       loop.invariant.0.few,
       loop.invariant.0.low,
-      (rows.slotted c.args.table.now.layout.nest c.args.table.now.layout.sizes c.args.table.now.layout.sized c.args.table.now.lens c.args.table.now.tabled c.tiles_of.result c.tiles_of.ensures.0).sheet.few,
+      (rows.slotted c.args.table.now.layout.nest c.args.table.now.layout.sizes c.args.table.now.layout.sized c.args.table.now.lens.now c.args.table.now.tabled c.tiles_of.result c.tiles_of.ensures.0).sheet.few,
     )
 
 pub returns : goal.returns
 returns c =
     let S = c in
     let loop = c.loop-slot in
-    let all = pass.past_all S.args.table.now.layout.sizes.route S.args.table.now.layout.nest S.args.table.now.lens _ loop.slot loop.number loop.offset loop.invariant.0 (rows.slotted c.args.table.now.layout.nest c.args.table.now.layout.sizes c.args.table.now.layout.sized c.args.table.now.lens c.args.table.now.tabled c.tiles_of.result c.tiles_of.ensures.0)
+    let all = pass.past_all S.args.table.now.layout.sizes.route S.args.table.now.layout.nest S.args.table.now.lens.now _ loop.slot loop.number loop.offset loop.invariant.0 (rows.slotted c.args.table.now.layout.nest c.args.table.now.layout.sizes c.args.table.now.layout.sized c.args.table.now.lens.now c.args.table.now.tabled c.tiles_of.result c.tiles_of.ensures.0)
     c.loop-slot-test.false in
     λ m h. handling.told (plan_of S.args.table.now.layout.sizes.route S.args.table.now.layout.nest) S.args.b loop.ordinals loop.starts loop.number loop.offset
     loop.rank loop.at loop.invariant.1
@@ -264,5 +264,5 @@ returns c =
       arith,
       loop.invariant.0.few,
       loop.invariant.0.low,
-      (rows.slotted c.args.table.now.layout.nest c.args.table.now.layout.sizes c.args.table.now.layout.sized c.args.table.now.lens c.args.table.now.tabled c.tiles_of.result c.tiles_of.ensures.0).sheet.few,
+      (rows.slotted c.args.table.now.layout.nest c.args.table.now.layout.sizes c.args.table.now.layout.sized c.args.table.now.lens.now c.args.table.now.tabled c.tiles_of.result c.tiles_of.ensures.0).sheet.few,
     )) m (omega (arith, h, all))

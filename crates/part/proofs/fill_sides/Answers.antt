@@ -44,26 +44,26 @@ nonzero_div-chain c = chains.across_some c.args.table.now.layout.nest c.args.tab
 
 pub overflow_mul-from : goal.overflow_mul-from
 overflow_mul-from c =
-    omega (arith, (room c.args.table.now.layout.nest c.args.table.now.layout.sizes c.args.table.now.layout.sized c.args.table.now.lens c.args.table.now.tabled _ c.tiles_of-tiles.ensures.0 _ c.loop-tile-test.true), c.loop-tile.invariant.1.long)
+    omega (arith, (room c.args.table.now.layout.nest c.args.table.now.layout.sizes c.args.table.now.layout.sized c.args.table.now.lens.now c.args.table.now.tabled _ c.tiles_of-tiles.ensures.0 _ c.loop-tile-test.true), c.loop-tile.invariant.1.long)
 
 pub overflow_sub-from : goal.overflow_sub-from
 overflow_sub-from c = chains.row_before c.args.table.now.layout.sizes.ways c.loop-tile.tile (c.loop-tile.invariant.1.behind _ (chains.known_is c.loop-tile.known _ (sym c.eq.ensures ∙ c.if-eq.true))).0
 
 pub copy_within-requires-clause-in_bounds : goal.copy_within-requires-clause-in_bounds
-copy_within-requires-clause-in_bounds c = omega (arith, (room c.args.table.now.layout.nest c.args.table.now.layout.sizes c.args.table.now.layout.sized c.args.table.now.lens c.args.table.now.tabled _ c.tiles_of-tiles.ensures.0 _ c.loop-tile-test.true), c.loop-tile.invariant.1.long)
+copy_within-requires-clause-in_bounds c = omega (arith, (room c.args.table.now.layout.nest c.args.table.now.layout.sizes c.args.table.now.layout.sized c.args.table.now.lens.now c.args.table.now.tabled _ c.tiles_of-tiles.ensures.0 _ c.loop-tile-test.true), c.loop-tile.invariant.1.long)
 
 pub copy_within-requires-clause-dest_in_bounds : goal.copy_within-requires-clause-dest_in_bounds
 copy_within-requires-clause-dest_in_bounds c =
     let from : ℕ = c.loop-tile.tile * c.args.table.now.layout.sizes.ways in
-    let it : from + (from - (from - c.args.table.now.layout.sizes.ways)) ≤ length c.loop-tile.sides = omega (arith, (room c.args.table.now.layout.nest c.args.table.now.layout.sizes c.args.table.now.layout.sized c.args.table.now.lens c.args.table.now.tabled _ c.tiles_of-tiles.ensures.0 _ c.loop-tile-test.true), c.loop-tile.invariant.1.long) in it
+    let it : from + (from - (from - c.args.table.now.layout.sizes.ways)) ≤ length c.loop-tile.sides = omega (arith, (room c.args.table.now.layout.nest c.args.table.now.layout.sizes c.args.table.now.layout.sized c.args.table.now.lens.now c.args.table.now.tabled _ c.tiles_of-tiles.ensures.0 _ c.loop-tile-test.true), c.loop-tile.invariant.1.long) in it
 
 pub overflow_add-end : goal.overflow_add-end
 overflow_add-end c =
-    omega (arith, (room c.args.table.now.layout.nest c.args.table.now.layout.sizes c.args.table.now.layout.sized c.args.table.now.lens c.args.table.now.tabled _ c.tiles_of-tiles.ensures.0 _ c.loop-tile-test.true), c.loop-tile.invariant.1.long)
+    omega (arith, (room c.args.table.now.layout.nest c.args.table.now.layout.sizes c.args.table.now.layout.sized c.args.table.now.lens.now c.args.table.now.tabled _ c.tiles_of-tiles.ensures.0 _ c.loop-tile-test.true), c.loop-tile.invariant.1.long)
 
 pub slice_bounds-put_sides-end : goal.slice_bounds-put_sides-end
 slice_bounds-put_sides-end c =
-    omega (arith, (room c.args.table.now.layout.nest c.args.table.now.layout.sizes c.args.table.now.layout.sized c.args.table.now.lens c.args.table.now.tabled _ c.tiles_of-tiles.ensures.0 _ c.loop-tile-test.true), c.loop-tile.invariant.1.long)
+    omega (arith, (room c.args.table.now.layout.nest c.args.table.now.layout.sizes c.args.table.now.layout.sized c.args.table.now.lens.now c.args.table.now.tabled _ c.tiles_of-tiles.ensures.0 _ c.loop-tile-test.true), c.loop-tile.invariant.1.long)
 
 pub put_sides-requires : goal.put_sides-requires
 put_sides-requires c =
@@ -71,7 +71,7 @@ put_sides-requires c =
     let loop = c.loop-tile in
     let z = S.args.table.now.layout.sizes in (
       c.box_tile-number.ensures.1,
-      mid_length loop.sides (loop.tile * z.ways) z.ways (omega (arith, (room c.args.table.now.layout.nest c.args.table.now.layout.sizes c.args.table.now.layout.sized c.args.table.now.lens c.args.table.now.tabled _ c.tiles_of-tiles.ensures.0 _ c.loop-tile-test.true), loop.invariant.1.long)) ∙ S.args.table.now.layout.sized.ways,
+      mid_length loop.sides (loop.tile * z.ways) z.ways (omega (arith, (room c.args.table.now.layout.nest c.args.table.now.layout.sizes c.args.table.now.layout.sized c.args.table.now.lens.now c.args.table.now.tabled _ c.tiles_of-tiles.ensures.0 _ c.loop-tile-test.true), loop.invariant.1.long)) ∙ S.args.table.now.layout.sized.ways,
     )
 
 pub loop-tile-preserved : goal.loop-tile-preserved
@@ -90,11 +90,11 @@ loop-tile-preserved c =
         | then-eq w ↦
             subst (λ l. chains.SidesTo z.route x S.args.b l (loop.tile + 1) (Some chain)) (sym w.sides-is)
             (chains.sides_copied z.route x S.args.b S.args.table.now.layout.sized.accepted loop.sides loop.tile loop.known g chain is z.ways
-            S.args.table.now.layout.sized.ways (room c.args.table.now.layout.nest c.args.table.now.layout.sizes c.args.table.now.layout.sized c.args.table.now.lens c.args.table.now.tabled _ c.tiles_of-tiles.ensures.0 _ c.loop-tile-test.true) _ (chains.known_is loop.known chain (sym c.eq.ensures ∙ w.if-eq.true)) w.copy_within.ensures.len w.copy_within.ensures.by_index.0 w.copy_within.ensures.by_index.1)
+            S.args.table.now.layout.sized.ways (room c.args.table.now.layout.nest c.args.table.now.layout.sizes c.args.table.now.layout.sized c.args.table.now.lens.now c.args.table.now.tabled _ c.tiles_of-tiles.ensures.0 _ c.loop-tile-test.true) _ (chains.known_is loop.known chain (sym c.eq.ensures ∙ w.if-eq.true)) w.copy_within.ensures.len w.copy_within.ensures.by_index.0 w.copy_within.ensures.by_index.1)
         | else-eq w ↦
             subst (λ l. chains.SidesTo z.route x S.args.b l (loop.tile + 1) (Some chain)) (sym w.sides-is)
             (chains.sides_put z.route x S.args.b S.args.table.now.layout.sized.accepted loop.sides loop.tile loop.known g chain is z.ways
-            S.args.table.now.layout.sized.ways (room c.args.table.now.layout.nest c.args.table.now.layout.sizes c.args.table.now.layout.sized c.args.table.now.lens c.args.table.now.tabled _ c.tiles_of-tiles.ensures.0 _ c.loop-tile-test.true) w.put_sides.new.row box_tile_lem.result box_tile_lem.ensures.0 w.put_sides.auto.row w.put_sides.ensures)
+            S.args.table.now.layout.sized.ways (room c.args.table.now.layout.nest c.args.table.now.layout.sizes c.args.table.now.layout.sized c.args.table.now.lens.now c.args.table.now.tabled _ c.tiles_of-tiles.ensures.0 _ c.loop-tile-test.true) w.put_sides.new.row box_tile_lem.result box_tile_lem.ensures.0 w.put_sides.auto.row w.put_sides.ensures)
       ],
     )
 

@@ -18,13 +18,13 @@ pub overflow_mul-slots : goal.overflow_mul-slots
 overflow_mul-slots c =
     omega (
       arith,
-      (rows.slotted c.args.table.now.layout.nest c.args.table.now.layout.sizes c.args.table.now.layout.sized c.args.table.now.lens c.args.table.now.tabled c.tiles_of.result c.tiles_of.ensures.0).sheet.few,
+      (rows.slotted c.args.table.now.layout.nest c.args.table.now.layout.sizes c.args.table.now.layout.sized c.args.table.now.lens.now c.args.table.now.tabled c.tiles_of.result c.tiles_of.ensures.0).sheet.few,
     )
 
 pub loop-slot-init : goal.loop-slot-init
 loop-slot-init c = (
   (
-    pass.past_start c.args.table.now.lens (c.tiles_of.result * c.args.table.now.layout.sizes.ways),
+    pass.past_start c.args.table.now.lens.now (c.tiles_of.result * c.args.table.now.layout.sizes.ways),
     brings.keep_start (plan_of c.args.table.now.layout.sizes.route c.args.table.now.layout.nest) c.args.b c.args.marks.now c.requires.marks_value,
   ),
   c.requires.list_len,
@@ -36,8 +36,8 @@ offset_bounds-table-slot c =
     omega (
       arith,
       test,
-      (rows.slotted c.args.table.now.layout.nest c.args.table.now.layout.sizes c.args.table.now.layout.sized c.args.table.now.lens c.args.table.now.tabled c.tiles_of.result c.tiles_of.ensures.0).sheet.few,
-      (rows.slotted c.args.table.now.layout.nest c.args.table.now.layout.sizes c.args.table.now.layout.sized c.args.table.now.lens c.args.table.now.tabled c.tiles_of.result c.tiles_of.ensures.0).sheet.long,
+      (rows.slotted c.args.table.now.layout.nest c.args.table.now.layout.sizes c.args.table.now.layout.sized c.args.table.now.lens.now c.args.table.now.tabled c.tiles_of.result c.tiles_of.ensures.0).sheet.few,
+      (rows.slotted c.args.table.now.layout.nest c.args.table.now.layout.sizes c.args.table.now.layout.sized c.args.table.now.lens.now c.args.table.now.tabled c.tiles_of.result c.tiles_of.ensures.0).sheet.long,
     )
 
 pub bounds-table-slot : goal.bounds-table-slot
@@ -46,8 +46,8 @@ bounds-table-slot c =
     omega (
       arith,
       test,
-      (rows.slotted c.args.table.now.layout.nest c.args.table.now.layout.sizes c.args.table.now.layout.sized c.args.table.now.lens c.args.table.now.tabled c.tiles_of.result c.tiles_of.ensures.0).sheet.few,
-      (rows.slotted c.args.table.now.layout.nest c.args.table.now.layout.sizes c.args.table.now.layout.sized c.args.table.now.lens c.args.table.now.tabled c.tiles_of.result c.tiles_of.ensures.0).sheet.long,
+      (rows.slotted c.args.table.now.layout.nest c.args.table.now.layout.sizes c.args.table.now.layout.sized c.args.table.now.lens.now c.args.table.now.tabled c.tiles_of.result c.tiles_of.ensures.0).sheet.few,
+      (rows.slotted c.args.table.now.layout.nest c.args.table.now.layout.sizes c.args.table.now.layout.sized c.args.table.now.lens.now c.args.table.now.tabled c.tiles_of.result c.tiles_of.ensures.0).sheet.long,
     )
 
 pub bounds-sides-slot : goal.bounds-sides-slot
@@ -57,7 +57,7 @@ bounds-sides-slot c =
     omega (
       arith,
       test,
-      (rows.slotted c.args.table.now.layout.nest c.args.table.now.layout.sizes c.args.table.now.layout.sized c.args.table.now.lens c.args.table.now.tabled c.tiles_of.result c.tiles_of.ensures.0).sheet.few,
+      (rows.slotted c.args.table.now.layout.nest c.args.table.now.layout.sizes c.args.table.now.layout.sized c.args.table.now.lens.now c.args.table.now.tabled c.tiles_of.result c.tiles_of.ensures.0).sheet.few,
       S.requires.sides_len.0,
     )
 
@@ -67,9 +67,9 @@ mark_brought-requires c =
     let loop = c.loop-slot in
     let test = c.loop-slot-test.true in
     let words = c.from-words in
-    let here = pass.here S.args.table.now.layout.sizes.route S.args.table.now.layout.nest S.args.table.now.lens _ loop.slot loop.number loop.offset loop.invariant.0.0 (rows.slotted c.args.table.now.layout.nest c.args.table.now.layout.sizes c.args.table.now.layout.sized c.args.table.now.lens c.args.table.now.tabled c.tiles_of.result c.tiles_of.ensures.0)
+    let here = pass.here S.args.table.now.layout.sizes.route S.args.table.now.layout.nest S.args.table.now.lens.now _ loop.slot loop.number loop.offset loop.invariant.0.0 (rows.slotted c.args.table.now.layout.nest c.args.table.now.layout.sizes c.args.table.now.layout.sized c.args.table.now.lens.now c.args.table.now.tabled c.tiles_of.result c.tiles_of.ensures.0)
     test words.result words.ensures in
-    let short = pass.short S.args.table.now.layout.sizes.route S.args.table.now.layout.nest S.args.table.now.lens _ loop.slot loop.number loop.offset loop.invariant.0.0 (rows.slotted c.args.table.now.layout.nest c.args.table.now.layout.sizes c.args.table.now.layout.sized c.args.table.now.lens c.args.table.now.tabled c.tiles_of.result c.tiles_of.ensures.0)
+    let short = pass.short S.args.table.now.layout.sizes.route S.args.table.now.layout.nest S.args.table.now.lens.now _ loop.slot loop.number loop.offset loop.invariant.0.0 (rows.slotted c.args.table.now.layout.nest c.args.table.now.layout.sizes c.args.table.now.layout.sized c.args.table.now.lens.now c.args.table.now.tabled c.tiles_of.result c.tiles_of.ensures.0)
     test words.result words.ensures in record { sized = here c.if-words-ne0.true; side_value = S.requires.sides_len.1.each loop.slot (omega (arith, test, ap (λ (i : ℕ). i * S.args.table.now.layout.sizes.ways) c.tiles_of.ensures.0)); words_in_bounds = (omega (arith, short, loop.invariant.1), loop.invariant.0.1.long) }
 
 pub overflow_add-number : goal.overflow_add-number
@@ -80,7 +80,7 @@ overflow_add-number c =
       arith,
       test,
       loop.invariant.0.0.few,
-      (rows.slotted c.args.table.now.layout.nest c.args.table.now.layout.sizes c.args.table.now.layout.sized c.args.table.now.lens c.args.table.now.tabled c.tiles_of.result c.tiles_of.ensures.0).sheet.few,
+      (rows.slotted c.args.table.now.layout.nest c.args.table.now.layout.sizes c.args.table.now.layout.sized c.args.table.now.lens.now c.args.table.now.tabled c.tiles_of.result c.tiles_of.ensures.0).sheet.few,
     )
 
 pub overflow_add-offset : goal.overflow_add-offset
@@ -89,14 +89,14 @@ overflow_add-offset c =
     let loop = c.loop-slot in
     let test = c.loop-slot-test.true in
     let words = c.from-words in
-    let short = pass.short S.args.table.now.layout.sizes.route S.args.table.now.layout.nest S.args.table.now.lens _ loop.slot loop.number loop.offset loop.invariant.0.0 (rows.slotted c.args.table.now.layout.nest c.args.table.now.layout.sizes c.args.table.now.layout.sized c.args.table.now.lens c.args.table.now.tabled c.tiles_of.result c.tiles_of.ensures.0)
+    let short = pass.short S.args.table.now.layout.sizes.route S.args.table.now.layout.nest S.args.table.now.lens.now _ loop.slot loop.number loop.offset loop.invariant.0.0 (rows.slotted c.args.table.now.layout.nest c.args.table.now.layout.sizes c.args.table.now.layout.sized c.args.table.now.lens.now c.args.table.now.tabled c.tiles_of.result c.tiles_of.ensures.0)
     test words.result words.ensures in
     omega (
       arith,
       short,
       loop.invariant.0.0.small,
       test,
-      (rows.slotted c.args.table.now.layout.nest c.args.table.now.layout.sizes c.args.table.now.layout.sized c.args.table.now.lens c.args.table.now.tabled c.tiles_of.result c.tiles_of.ensures.0).sheet.few,
+      (rows.slotted c.args.table.now.layout.nest c.args.table.now.layout.sizes c.args.table.now.layout.sized c.args.table.now.lens.now c.args.table.now.tabled c.tiles_of.result c.tiles_of.ensures.0).sheet.few,
     )
 
 pub loop-slot-preserved : goal.loop-slot-preserved
@@ -105,10 +105,10 @@ loop-slot-preserved c =
     let loop = c.loop-slot in
     let test = c.loop-slot-test.true in
     let words = c.from-words in
-    let here = pass.here S.args.table.now.layout.sizes.route S.args.table.now.layout.nest S.args.table.now.lens _ loop.slot loop.number loop.offset loop.invariant.0.0 (rows.slotted c.args.table.now.layout.nest c.args.table.now.layout.sizes c.args.table.now.layout.sized c.args.table.now.lens c.args.table.now.tabled c.tiles_of.result c.tiles_of.ensures.0)
+    let here = pass.here S.args.table.now.layout.sizes.route S.args.table.now.layout.nest S.args.table.now.lens.now _ loop.slot loop.number loop.offset loop.invariant.0.0 (rows.slotted c.args.table.now.layout.nest c.args.table.now.layout.sizes c.args.table.now.layout.sized c.args.table.now.lens.now c.args.table.now.tabled c.tiles_of.result c.tiles_of.ensures.0)
     test words.result words.ensures in (
       (
-        pass.past_next S.args.table.now.layout.sizes.route S.args.table.now.layout.nest S.args.table.now.lens _ loop.slot loop.number loop.offset loop.invariant.0.0 (rows.slotted c.args.table.now.layout.nest c.args.table.now.layout.sizes c.args.table.now.layout.sized c.args.table.now.lens c.args.table.now.tabled c.tiles_of.result c.tiles_of.ensures.0)
+        pass.past_next S.args.table.now.layout.sizes.route S.args.table.now.layout.nest S.args.table.now.lens.now _ loop.slot loop.number loop.offset loop.invariant.0.0 (rows.slotted c.args.table.now.layout.nest c.args.table.now.layout.sizes c.args.table.now.layout.sized c.args.table.now.lens.now c.args.table.now.tabled c.tiles_of.result c.tiles_of.ensures.0)
             test words.result words.ensures c.if-words-ne0.number
             (elim c.if-words-ne0.branch [ then-words-ne0 w ↦ inl (w.if-words-ne0.true, w.number-is) | else-words-ne0 w ↦ inr (w.if-words-ne0.false, w.number-is) ]),
         brings.keep_turn (plan_of S.args.table.now.layout.sizes.route S.args.table.now.layout.nest) S.args.b
@@ -131,5 +131,5 @@ returns c =
     let loop = c.loop-slot in
     brings.keep_done (plan_of S.args.table.now.layout.sizes.route S.args.table.now.layout.nest) S.args.b
     (sound S.args.table.now.layout.sizes.route S.args.table.now.layout.nest S.args.table.now.layout.sized.accepted) loop.marks loop.number loop.invariant.0.1
-    (pass.past_all S.args.table.now.layout.sizes.route S.args.table.now.layout.nest S.args.table.now.lens _ loop.slot loop.number loop.offset loop.invariant.0.0 (rows.slotted c.args.table.now.layout.nest c.args.table.now.layout.sizes c.args.table.now.layout.sized c.args.table.now.lens c.args.table.now.tabled c.tiles_of.result c.tiles_of.ensures.0)
+    (pass.past_all S.args.table.now.layout.sizes.route S.args.table.now.layout.nest S.args.table.now.lens.now _ loop.slot loop.number loop.offset loop.invariant.0.0 (rows.slotted c.args.table.now.layout.nest c.args.table.now.layout.sizes c.args.table.now.layout.sized c.args.table.now.lens.now c.args.table.now.tabled c.tiles_of.result c.tiles_of.ensures.0)
     c.loop-slot-test.false)

@@ -28,7 +28,7 @@ row_count-rows-requires c = framed _ c.args.layout.now.sized.accepted
 pub loop-q-init : goal.loop-q-init
 loop-q-init c = (
   omega arith,
-  owned.own_start (plan_of c.args.layout.now.sizes.route c.args.layout.now.nest) c.args.b _ _ c.requires.1 (c.fill.ensures.after (λ y h. h))
+  owned.own_start (plan_of c.args.layout.now.sizes.route c.args.layout.now.nest) c.args.b _ _ c.requires.low.1 (c.fill.ensures.after (λ y h. h))
       (row_cells c.args.layout.now.nest),
 )
 
@@ -72,7 +72,7 @@ loop-q-preserved-then-processor-b c =
     let tile-of = c.tile_of-tile in
     let processor-of = c.processor_of-processor in (
       (let it : c.loop-q.q + c.rows_alike.result ≤ c.row_count-rows.result = omega (arith, c.loop-q-test.true, c.rows_alike.ensures.1) in it),
-      owned.own_next S.args.layout.now.nest S.args.layout.now.sizes S.args.layout.now.sized S.args.layout.now.routed S.args.b loop.q c.rows_alike.result c.rows_alike.ensures.0
+      owned.own_next S.args.layout.now.nest S.args.layout.now.sizes S.args.layout.now.sized S.requires.routed S.args.b loop.q c.rows_alike.result c.rows_alike.ensures.0
           tile-of.result processor-of.result tile-of.ensures.0 processor-of.ensures.0 loop.marks loop.invariant.1
           ((let it : (c.loop-q.q + c.rows_alike.result) * row_cells c.args.layout.now.nest ≤ cells c.args.layout.now.nest = omega (arith, mul-le-mul_right (row_cells c.args.layout.now.nest) ((let it : c.loop-q.q + c.rows_alike.result ≤ c.row_count-rows.result = omega (arith, c.loop-q-test.true, c.rows_alike.ensures.1) in it)), c.row_count-rows.ensures) in it)) _ (inl (c.if-processor-b.true, c.mark_rows.ensures)),
     )
@@ -87,17 +87,17 @@ loop-q-preserved c =
     let tile-of = c.tile_of-tile in
     let processor-of = c.processor_of-processor in (
       (let it : c.loop-q.q + c.rows_alike.result ≤ c.row_count-rows.result = omega (arith, c.loop-q-test.true, c.rows_alike.ensures.1) in it),
-      owned.own_next S.args.layout.now.nest S.args.layout.now.sizes S.args.layout.now.sized S.args.layout.now.routed S.args.b loop.q c.rows_alike.result c.rows_alike.ensures.0
+      owned.own_next S.args.layout.now.nest S.args.layout.now.sizes S.args.layout.now.sized S.requires.routed S.args.b loop.q c.rows_alike.result c.rows_alike.ensures.0
           tile-of.result processor-of.result tile-of.ensures.0 processor-of.ensures.0 loop.marks loop.invariant.1
           ((let it : (c.loop-q.q + c.rows_alike.result) * row_cells c.args.layout.now.nest ≤ cells c.args.layout.now.nest = omega (arith, mul-le-mul_right (row_cells c.args.layout.now.nest) ((let it : c.loop-q.q + c.rows_alike.result ≤ c.row_count-rows.result = omega (arith, c.loop-q-test.true, c.rows_alike.ensures.1) in it)), c.row_count-rows.ensures) in it)) _ (inr (c.if-processor-b.false, refl)),
     )
 
 pub shape_of-marks : goal.shape_of-marks
-shape_of-marks c = c.loop-q.invariant.1.long ∙ sym c.requires.1
+shape_of-marks c = c.loop-q.invariant.1.long ∙ sym c.requires.low.1
 
 pub returns : goal.returns
 returns c =
     let row_count = c.row_count-rows in
     let loop = c.loop-q in
-    owned.own_done c.args.layout.now.nest c.args.layout.now.sizes c.args.layout.now.sized c.args.layout.now.routed c.args.b row_count.result loop.q loop.marks row_count.ensures
+    owned.own_done c.args.layout.now.nest c.args.layout.now.sizes c.args.layout.now.sized c.requires.routed c.args.b row_count.result loop.q loop.marks row_count.ensures
     loop.invariant.0 c.loop-q-test.false loop.invariant.1

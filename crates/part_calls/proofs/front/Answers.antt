@@ -10,14 +10,14 @@ use Rattle.base.proofs.Codes.{code_some}
 use Rattle.base.proofs.Numbers.{Numbered, none_behind, first_behind}
 use Rattle.machine.specs.Plan.{Plan}
 use Rattle.machine.specs.Machine.{Answered, answered}
+use Rattle.layout.specs.declared.Layout.{Layout}
+use Rattle.layout.specs.Laid.{plan_of_layout}
 use Rattle.layout.specs.RouteWords.{route_of}
 use Rattle.recipe.specs.Routes.{lines_for}
 use Rattle.recipe.proofs.Laws.{numbered_for}
 use Rattle.engine.specs.Calls.{answer, recipe}
 use Rattle.engine.proofs.Lines.{call_read}
 use Rattle.part_calls.specs.front.Calls.{board_lines}
-use Rattle.tables.specs.declared.Table.{Table}
-use Rattle.tables.specs.Given.{plan_of_table}
 use Rattle.part_calls.specs.front.Given.{OpensFor}
 
 -- ---- past the first lines
@@ -46,10 +46,10 @@ module _ (bytes : List ℕ) (route b : ℕ) where
         call_read (board_lines bytes route b) (numbered_board bytes route b) (lines (recipe bytes route)) (code r) (new (recipe bytes route)) old
         o.number (code_some r)
 
-    pub opened : (t : Table) → OpensFor bytes route b (Ok t) → (a : Answered A)
-        → a ≡ answered (first_of (lines (plan_of_table t))) (new (plan_of_table t)) old → a ≡ called
-    opened t o a e =
+    pub opened : (l : Layout) → OpensFor bytes route b (Ok l) → (a : Answered A)
+        → a ≡ answered (first_of (lines (plan_of_layout l))) (new (plan_of_layout l)) old → a ≡ called
+    opened l o a e =
         e
-        ∙ ap (λ (n : ℕ). answered n (new (plan_of_table t)) old)
-        (sym (first_behind (board_lines bytes route b) (lines (plan_of_table t)) (numbered_board bytes route b) (sym o.number)))
+        ∙ ap (λ (n : ℕ). answered n (new (plan_of_layout l)) old)
+        (sym (first_behind (board_lines bytes route b) (lines (plan_of_layout l)) (numbered_board bytes route b) (sym o.number)))
         ∙ ap (λ (q : Plan). answered (first_of (board_lines bytes route b ++ lines q)) (new q) old) o.board.plan

@@ -17,7 +17,9 @@ use Rattle.machine.specs.Plan.{Plan, count}
 use Rattle.machine.specs.Machine.{State, state_of, finished_of, stage_of, sent_of, progress_only, fit_record, tiles_left, fit}
 use Rattle.nest.specs.declared.Nest.{Nest}
 use Rattle.nest.specs.Nest.{cells, processors}
+use Rattle.layout.specs.declared.Layout.{Layout}
 use Rattle.layout.specs.declared.Sizes.{Sizes}
+use Rattle.layout.specs.Laid.{plan_of_layout}
 use Rattle.layout.specs.Sizes.{Sized}
 use Rattle.layout.specs.RouteWords.{route_of}
 use Rattle.recipe.specs.Routes.{lines_for}
@@ -25,7 +27,7 @@ use Rattle.tables.specs.declared.Table.{Table}
 use Rattle.tables.specs.Given.{plan_of_table}
 use Rattle.records.specs.declared.Flat.{Flat}
 use Rattle.records.specs.Records.{Flattens}
-use Rattle.recipe.specs.Given.{Opens}
+use Rattle.recipe.specs.Given.{LaysOut}
 use Rattle.recipe.proofs.Laws.{numbered_for}
 use Rattle.engine.specs.Calls.{recipe}
 use Rattle.network.specs.Own.{own_cells, kept_cells, handled}
@@ -41,13 +43,13 @@ use Rattle.part_calls.proofs.front.Wide.{fits_are, wide_finished, wide_stage, wi
 -- ---- the first lines
 
 module _ (bytes : List ℕ) (route b : ℕ) where
-  pub closed_read : (r : Refusal) → Opens bytes route (Err r) → OpensFor bytes route b (Err r)
+  pub closed_read : (r : Refusal) → LaysOut bytes route (Err r) → OpensFor bytes route b (Err r)
   closed_read r read =
       record { number = read.number ∙ sym (first_some (lines_for (route_of route) bytes) _ (λ z. code_some r (read.number ∙ z))); board = tt }
 
-  module _ (t : Table) (read : Opens bytes route (Ok t)) where
+  module _ (l : Layout) (read : LaysOut bytes route (Ok l)) where
     abbrev p : Plan
-    p = plan_of_table t
+    p = plan_of_layout l
 
     board_is : first_of (board_lines bytes route b) ≡ first_of (line 11 (not (ltb b p.processors)) ∷ [])
     board_is =
@@ -55,19 +57,19 @@ module _ (bytes : List ℕ) (route b : ℕ) where
         read.layout.opened.none
         ∙ ap (λ (q : Plan). first_of (line 11 (not (ltb b q.processors)) ∷ [])) (sym read.layout.opened.is)
 
-    pub closed_beyond : t.layout.sizes.processors ≤ b → OpensFor bytes route b (Err refusal.NoSuch)
+    pub closed_beyond : l.sizes.processors ≤ b → OpensFor bytes route b (Err refusal.NoSuch)
     closed_beyond h =
         record {
-          number = sym (board_is ∙ first_true 11 _ _ (not-false (le-ltb b p.processors (omega (arith, h, t.layout.sized.processors)))));
+          number = sym (board_is ∙ first_true 11 _ _ (not-false (le-ltb b p.processors (omega (arith, h, l.sized.processors)))));
           board = tt;
         }
 
-    pub opens : b < t.layout.sizes.processors → OpensFor bytes route b (Ok t)
+    pub opens : b < l.sizes.processors → OpensFor bytes route b (Ok l)
     unfolding first_of
     opens h =
         record {
-          number = sym (board_is ∙ first_false 11 _ [] (not-true (lt-ltb b p.processors (omega (arith, h, t.layout.sized.processors)))));
-          board = record { plan = read.layout.opened.is; low = omega (arith, h, t.layout.sized.processors) };
+          number = sym (board_is ∙ first_false 11 _ [] (not-true (lt-ltb b p.processors (omega (arith, h, l.sized.processors)))));
+          board = record { routed = read.layout.routed; plan = read.layout.opened.is; low = omega (arith, h, l.sized.processors) };
         }
 
 -- ---- the front of a lent area

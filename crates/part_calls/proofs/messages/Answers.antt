@@ -3,7 +3,7 @@ use Rattle.part_calls.proofs.Answers as answers
 use Rattle.part_calls.proofs.messages.Goals as goal
 
 pub messages_part-requires : goal.messages_part-requires
-messages_part-requires c = c.in-Ok.ensures.board.low
+messages_part-requires c = record { routed = c.in-Ok.ensures.board.routed; low = c.in-Ok.ensures.board.low }
 
 pub returns-in-Ok : goal.returns-in-Ok
 returns-in-Ok c =

@@ -3,7 +3,7 @@ use Rattle.part_calls.proofs.Answers as answers
 use Rattle.part_calls.proofs.sizes.Goals as goal
 
 pub sizes_of-requires : goal.sizes_of-requires
-sizes_of-requires c = c.in-Ok.ensures.board.low
+sizes_of-requires c = record { routed = c.in-Ok.ensures.board.routed; low = c.in-Ok.ensures.board.low }
 
 pub returns-in-Ok : goal.returns-in-Ok
 returns-in-Ok c =

@@ -139,10 +139,10 @@ given_box t kept counts owned tally sources words b tile u g e =
     let x = t.layout.nest in
     let r = t.layout.sizes.route in
     let ok = t.layout.sized.accepted in record {
-      low = number_low x r ok t.layout.routed tile u g.low e;
+      low = number_low x r ok t.tabled.routed tile u g.low e;
       kept_marks = record { long = marks_long kept _ (cells x) g.kept_are; counted = g.counted };
       own_marks = record { long = marks_long owned _ (cells x) g.own_are; counted = g.own_counted };
       source = g.source ∙ ap length (sym (marked_are owned _ (cells x) g.own_are));
       memory = g.memory ∙ ap length (sym (marked_are kept _ (cells x) g.kept_are));
-      worked = λ c i. tile_worked x r ok t.layout.routed b tile g.low g.mine kept owned g.kept_are g.own_are c (rw e at i);
+      worked = λ c i. tile_worked x r ok t.tabled.routed b tile g.low g.mine kept owned g.kept_are g.own_are c (rw e at i);
     }

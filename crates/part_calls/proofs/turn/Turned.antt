@@ -17,8 +17,8 @@ use Rattle.machine.specs.Machine.{State, finished_of, stage_of, sent_of, current
 use Rattle.machine.specs.Machine.{Answered, answered, waiting, tiles_left, turn_lines, turn}
 use Rattle.records.specs.declared.Flat.{Flat}
 use Rattle.records.specs.Records.{Flattens}
-use Rattle.tables.specs.declared.Table.{Table}
-use Rattle.tables.specs.Given.{plan_of_table}
+use Rattle.layout.specs.declared.Layout.{Layout}
+use Rattle.layout.specs.Laid.{plan_of_layout}
 use Rattle.engine.specs.Calls.{answer}
 use Rattle.engine.proofs.Turns as turns
 use Rattle.engine.proofs.Turns.{answered_no, answered_yes}
@@ -171,7 +171,7 @@ module _ (bytes : List ℕ) (route b : ℕ) (source : List ℕ) (s : State) wher
   unfolding part_turn_call
   turn_read = closed bytes route b lines (λ p. to_part p b (stepped p b source s)) s
 
-  pub turn_past : (t : Table) → OpensFor bytes route b (Ok t) → (a : Answered State) → a ≡ turned_or (plan_of_table t) source s b
+  pub turn_past : (l : Layout) → OpensFor bytes route b (Ok l) → (a : Answered State) → a ≡ turned_or (plan_of_layout l) source s b
       → a ≡ part_turn_call bytes route source s b
   unfolding part_turn_call
   turn_past = opened bytes route b lines (λ p. to_part p b (stepped p b source s)) s

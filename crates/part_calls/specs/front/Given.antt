@@ -1,5 +1,5 @@
 -- For contracts below the calls: no reader needs it.
--- What the calls for one processor share: the table of an accepted recipe, the processor's cells and messages found once, lines 9 and 10.
+-- What the calls for one processor share: the layout of an accepted recipe, the processor's cells and messages found once, lines 9 and 10.
 -- No sentence of document 01.
 use Rattle.std.specs.Prelude.{◌≡◌, ℕ, ◌<◌, ◌≤◌, Bool, List, [], ◌∷◌, length, slice_index, Result, IfOk}
 use Rattle.base.specs.Tests.{not, one, tabulate}
@@ -10,6 +10,9 @@ use Rattle.machine.specs.Plan.{Plan, count}
 use Rattle.machine.specs.Machine.{State, fit}
 use Rattle.nest.specs.declared.Nest.{Nest}
 use Rattle.nest.specs.Nest.{cells, processors}
+use Rattle.layout.specs.declared.Layout.{Layout}
+use Rattle.layout.specs.Sizes.{Routed}
+use Rattle.layout.specs.Laid.{plan_of_layout}
 use Rattle.tables.specs.declared.Table.{Table}
 use Rattle.tables.specs.Given.{plan_of_table}
 use Rattle.engine.specs.Calls.{recipe}
@@ -18,13 +21,14 @@ use Rattle.rank_index.specs.Ranks.{Counted}
 use Rattle.part.specs.Part.{words_of, rank_of, mail_at, part_fits}
 use Rattle.part_calls.specs.front.Calls.{from_part, board_lines}
 
--- the recipe's table, and the processor is one of its
-pub record BoardOf (bytes : List ℕ) (route b : ℕ) (t : Table) : Type 0 where
-  pub plan : plan_of_table t ≡ recipe bytes route
-  pub low : b < processors t.layout.nest
+-- the recipe's layout on a route that is open to it, and the processor is one of its
+pub record BoardOf (bytes : List ℕ) (route b : ℕ) (l : Layout) : Type 0 where
+  pub routed : Routed l.nest l.sizes
+  pub plan : plan_of_layout l ≡ recipe bytes route
+  pub low : b < processors l.nest
 
--- the first lines of a call; where none is true, that table
-pub record OpensFor (bytes : List ℕ) (route b : ℕ) (answer : Result Table Refusal) : Type 0 where
+-- the first lines of a call; where none is true, that layout
+pub record OpensFor (bytes : List ℕ) (route b : ℕ) (answer : Result Layout Refusal) : Type 0 where
   pub number : number_of answer ≡ first_of (board_lines bytes route b)
   pub board : IfOk answer (BoardOf bytes route b)
 

@@ -66,7 +66,7 @@ fn take_from(
     let words = place.words;
     let end = at + words;
     let mut cells = [0u16; MOST_CELLS];
-    cells_of(&table.layout, &table.lens, place, &mut cells[..words]);
+    cells_of(&table.layout, table.lens, place, &mut cells[..words]);
     take(kept, counts, &cells[..words], memory, &mail[at..end]);
 }
 
@@ -123,7 +123,7 @@ fn put_in(
     let words = place.words;
     let end = at + words;
     let mut cells = [0u16; MOST_CELLS];
-    cells_of(&table.layout, &table.lens, place, &mut cells[..words]);
+    cells_of(&table.layout, table.lens, place, &mut cells[..words]);
     give(kept, counts, &cells[..words], memory, &mut mail[at..end]);
 }
 

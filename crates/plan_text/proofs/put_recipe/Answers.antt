@@ -33,7 +33,7 @@ put_lines-requires c =
     record {
       messages_bound = omega (
         arith,
-        L.messages_most layout.sizes.route layout.nest layout.sized.accepted layout.routed,
+        L.messages_most layout.sizes.route layout.nest layout.sized.accepted c.in-Ok.table.tabled.routed,
         messages,
         c.put_figures-next.ensures.upper_bound,
       );
@@ -51,7 +51,7 @@ returns c =
           c.put_lines.ensures.space_after;
       upper_bound = omega (
         arith,
-        L.messages_most layout.sizes.route layout.nest layout.sized.accepted layout.routed,
+        L.messages_most layout.sizes.route layout.nest layout.sized.accepted c.in-Ok.table.tabled.routed,
         ap (λ (x : Figures). x.messages) c.figures_of-figures.ensures,
         c.put_figures-next.ensures.upper_bound,
         c.put_lines.ensures.upper_bound,

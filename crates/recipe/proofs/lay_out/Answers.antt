@@ -9,11 +9,8 @@ returns-in_err-nest c =
     let p = err_from_is_err_and c.from_residual.result c.from_residual.ensures.1 in
     rw (p.1, p.2) (laws.refused_layout _ _ c.in_err-nest.ensures)
 
-pub of-requires-clause-accepted : goal.of-requires-clause-accepted
-of-requires-clause-accepted c = laws.accepted_for c.in_ok-nest.ensures
-
-pub of-requires-clause-routed : goal.of-requires-clause-routed
-of-requires-clause-routed c = λ k. c.route_of.ensures ∙ laws.routed_for c.in_ok-nest.ensures k
+pub of-requires : goal.of-requires
+of-requires c = laws.accepted_for c.in_ok-nest.ensures
 
 pub returns : goal.returns
 returns c = laws.laid_out _ _ c.in_ok-nest.ensures c.of.result c.of.ensures.0 (c.of.ensures.1 ∙ c.route_of.ensures)

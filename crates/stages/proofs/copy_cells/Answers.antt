@@ -17,5 +17,5 @@ copy_cells-requires c = c.requires.memories_len
 pub returns : goal.returns
 returns c =
     let A = c.args in
-    shapes.shape_collected A.layout.now.nest A.layout.now.sizes.route (c.args.layout.now.routed c.if-layout-eq0.false) _ _
+    shapes.shape_collected A.layout.now.nest A.layout.now.sizes.route (c.requires.routed c.if-layout-eq0.false) _ _
     c.copy_cells.ensures

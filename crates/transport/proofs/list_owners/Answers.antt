@@ -15,8 +15,8 @@ returns-in_err-nest c =
     let e = err_from_is_err_and c.from_residual.result c.from_residual.ensures.1 in
     rw (e.1, e.2) (answers.owners_read c.args.encoded.now c.args.out.now _ c.in_err-nest.ensures.number (code_some _))
 
-pub of-layout-requires-clause-accepted : goal.of-layout-requires-clause-accepted
-of-layout-requires-clause-accepted c = accepted_read c.in_ok-nest.ensures
+pub of-layout-requires : goal.of-layout-requires
+of-layout-requires c = accepted_read c.in_ok-nest.ensures
 
 pub returns-then-out-layout : goal.returns-then-out-layout
 returns-then-out-layout c =

@@ -1,7 +1,6 @@
 -- `writer::write_nest` meets its contract: one law for each return.
 use mathlib.Core.Path.{refl, sym, ◌∙◌}
 use native.Mathlib.Omega.{arith}
-use Rattle.std.proofs.lemmas.Result.{err_from_is_err_and}
 use Rattle.nest.proofs.Answers.{refused_read}
 use Rattle.writer.proofs.Calls as W
 use Rattle.writer.proofs.write_nest.Goals as goal
@@ -36,16 +35,14 @@ slice_bounds-copy_from_slice-end c = omega (arith, W.part_long _ c.args.space.no
 pub bytes_of-bytes-requires : goal.bytes_of-bytes-requires
 bytes_of-bytes-requires c = let f = W.writable_few _ (sym c.is_writable.ensures ∙ c.if-not-is_writable.false) in ((f.0, f.2), f.1)
 
-pub returns-in_err-read : goal.returns-in_err-read
-returns-in_err-read c =
-    let p = err_from_is_err_and c.from_residual.result c.from_residual.ensures.1 in
-    rw (p.1, p.2)
-    (W.refused_by _ _ (sym c.is_writable.ensures ∙ c.if-not-is_writable.false) _ _ refl c.bytes_of-bytes.ensures _ c.in_err-read.ensures.number
-    (λ z. refused_read c.in_err-read.ensures (sym c.in_err-read.ensures.number ∙ z)))
+pub returns-in-Err : goal.returns-in-Err
+returns-in-Err c =
+    W.refused_by _ _ (sym c.is_writable.ensures ∙ c.if-not-is_writable.false) _ _ refl c.bytes_of-bytes.ensures _ c.in-Err.ensures.number
+    (λ z. refused_read c.in-Err.ensures (sym c.in-Err.ensures.number ∙ z))
 
 pub returns-then-space-length : goal.returns-then-space-length
 returns-then-space-length c =
-    W.no_room _ _ (sym c.is_writable.ensures ∙ c.if-not-is_writable.false) _ _ refl c.bytes_of-bytes.ensures _ c.in_ok-read.ensures.number refl c.if-space-length.true
+    W.no_room _ _ (sym c.is_writable.ensures ∙ c.if-not-is_writable.false) _ _ refl c.bytes_of-bytes.ensures _ c.in-Ok.ensures.number refl c.if-space-length.true
 
 pub copy_from_slice-requires : goal.copy_from_slice-requires
 copy_from_slice-requires c =
@@ -53,5 +50,5 @@ copy_from_slice-requires c =
 
 pub returns : goal.returns
 returns c =
-    W.recipe_written _ _ (sym c.is_writable.ensures ∙ c.if-not-is_writable.false) _ _ refl c.bytes_of-bytes.ensures _ c.in_ok-read.ensures.number refl c.if-space-length.false _
+    W.recipe_written _ _ (sym c.is_writable.ensures ∙ c.if-not-is_writable.false) _ _ refl c.bytes_of-bytes.ensures _ c.in-Ok.ensures.number refl c.if-space-length.false _
     c.copy_from_slice.ensures.after

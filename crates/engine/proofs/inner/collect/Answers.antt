@@ -64,6 +64,7 @@ copy_cells-requires c =
     let few = reading.few_words _ _ x.sized A.progress.count c.in_ok-check_areas.ensures.1 in
     let l = take (A.progress.count - 0) (drop 0 A.progress.words) in
     record {
+      routed = c.in_ok-table.table.tabled.routed;
       memories_len = (
         (lines.areas_are p A.source.now (state_of A.memories.now A.buffer.now l A.status.now)
             (lines.unfit_none p A.source.now (state_of A.memories.now A.buffer.now l A.status.now) 0

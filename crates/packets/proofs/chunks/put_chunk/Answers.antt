@@ -10,4 +10,4 @@ returns-then-is_there c = placed_same c.args.chunk c.args.words.now c.args.area.
 pub returns : goal.returns
 returns c =
     placed_new c.args.chunk _ c.args.words.now _ c.args.area.now c.args.mask c.with_chunk.result (sym c.is_there.ensures ∙ c.if-is_there.false)
-    (omega arith) c.copy_from_slice.ensures.after c.with_chunk.ensures
+    (omega arith) c.copy_words.ensures c.with_chunk.ensures

@@ -6,7 +6,7 @@ use Rattle.part_calls.proofs.front.Front as front
 use Rattle.part_calls.proofs.front.own_cells.Goals as goal
 
 pub mark_own-requires : goal.mark_own-requires
-mark_own-requires c = (c.requires.low, c.requires.owned_len.0)
+mark_own-requires c = record { routed = c.requires.routed; low = (c.requires.low, c.requires.owned_len.0) }
 
 pub fill_counts-requires : goal.fill_counts-requires
 fill_counts-requires c =

@@ -18,7 +18,7 @@ slice_bounds-own_cells-end c =
     front.lent_cells A.layout.now.nest A.layout.now.sizes A.b c.args.layout.now.sized (replicate {A = ℕ} 16384 0) (length-replicate {A = ℕ} 16384 0)
 
 pub own_cells-requires : goal.own_cells-requires
-own_cells-requires c = let A = c.args in record { low = c.requires; owned_len = (front.lent_long A.layout.now.nest A.layout.now.sizes A.b c.args.layout.now.sized (replicate {A = ℕ} 16384 0) (length-replicate {A = ℕ} 16384 0), refl) }
+own_cells-requires c = let A = c.args in record { routed = c.requires.routed; low = c.requires.low; owned_len = (front.lent_long A.layout.now.nest A.layout.now.sizes A.b c.args.layout.now.sized (replicate {A = ℕ} 16384 0) (length-replicate {A = ℕ} 16384 0), refl) }
 
 pub returns : goal.returns
 returns c =

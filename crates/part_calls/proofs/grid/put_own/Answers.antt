@@ -18,10 +18,13 @@ slice_bounds-mark_own-end c =
 
 pub mark_own-requires : goal.mark_own-requires
 mark_own-requires c =
-    let A = c.args in (
-      c.requires.sized.0,
-      front.lent_long A.layout.now.nest A.layout.now.sizes A.b c.args.layout.now.sized (replicate {A = ℕ} 16384 0) (length-replicate {A = ℕ} 16384 0),
-    )
+    let A = c.args in record {
+      routed = c.requires.routed;
+      low = (
+        c.requires.sized.0,
+        front.lent_long A.layout.now.nest A.layout.now.sizes A.b c.args.layout.now.sized (replicate {A = ℕ} 16384 0) (length-replicate {A = ℕ} 16384 0),
+      );
+    }
 
 pub put_outside-requires : goal.put_outside-requires
 put_outside-requires c = c.requires.memory_len.1
@@ -47,7 +50,7 @@ put_cells-requires c =
     let put-outside = c.put_outside in
     let is = front.back_is A.layout.now.nest A.layout.now.sizes A.b c.args.layout.now.sized (replicate {A = ℕ} 16384 0) mark_own.new.marks
     (length-replicate {A = ℕ} 16384 0) mark_own.auto.marks ∙ mark_own.ensures in
-    collecting.within_marks A.layout.now.nest A.layout.now.sizes A.b c.args.layout.now.sized c.args.layout.now.routed c.requires.sized.0 _ A.kept.now A.memory.now
+    collecting.within_marks A.layout.now.nest A.layout.now.sizes A.b c.args.layout.now.sized c.requires.routed c.requires.sized.0 _ A.kept.now A.memory.now
     put-outside.new.grid is
     c.requires.sized.1.are c.requires.memory_len.0 (put-outside.auto.grid ∙ c.requires.memory_len.1)
 
@@ -59,6 +62,6 @@ returns c =
     let put-cells = c.put_cells in
     let is = front.back_is A.layout.now.nest A.layout.now.sizes A.b c.args.layout.now.sized (replicate {A = ℕ} 16384 0) mark_own.new.marks
     (length-replicate {A = ℕ} 16384 0) mark_own.auto.marks ∙ mark_own.ensures in
-    λ l. collecting.own_grid A.layout.now.nest A.layout.now.sizes A.b c.args.layout.now.sized c.args.layout.now.routed c.requires.sized.0 _ A.kept.now A.memory.now
+    λ l. collecting.own_grid A.layout.now.nest A.layout.now.sizes A.b c.args.layout.now.sized c.requires.routed c.requires.sized.0 _ A.kept.now A.memory.now
     A.grid.now is
     c.requires.sized.1.are c.requires.memory_len.0 c.requires.memory_len.1 put-outside.new.grid _ l put-outside.ensures put-cells.ensures

@@ -4,7 +4,7 @@ use Rattle.part_calls.proofs.Answers as answers
 use Rattle.part_calls.proofs.inner.arrive.Goals as goal
 
 pub arrive_part-requires : goal.arrive_part-requires
-arrive_part-requires c = (c.in-Ok.ensures.board.low, c.requires)
+arrive_part-requires c = record { routed = c.in-Ok.ensures.board.routed; low = (c.in-Ok.ensures.board.low, c.requires) }
 
 pub returns-in-Ok : goal.returns-in-Ok
 returns-in-Ok c =

@@ -5,7 +5,7 @@ use Rattle.part_calls.proofs.Answers as answers
 use Rattle.part_calls.proofs.inner.collect.Goals as goal
 
 pub collect_part-requires : goal.collect_part-requires
-collect_part-requires c = (c.in-Ok.ensures.board.low, c.requires)
+collect_part-requires c = record { routed = c.in-Ok.ensures.board.routed; low = (c.in-Ok.ensures.board.low, c.requires) }
 
 pub returns-in-Ok : goal.returns-in-Ok
 returns-in-Ok c =

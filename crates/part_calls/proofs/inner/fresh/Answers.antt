@@ -10,7 +10,7 @@ use Rattle.part_calls.proofs.Answers as answers
 use Rattle.part_calls.proofs.inner.fresh.Goals as goal
 
 pub fresh_part-requires : goal.fresh_part-requires
-fresh_part-requires c = c.in-Ok.ensures.board.low
+fresh_part-requires c = record { routed = c.in-Ok.ensures.board.routed; low = c.in-Ok.ensures.board.low }
 
 pub returns-in-Ok : goal.returns-in-Ok
 returns-in-Ok c =

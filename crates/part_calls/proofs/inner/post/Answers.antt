@@ -4,7 +4,7 @@ use Rattle.part_calls.proofs.Answers as answers
 use Rattle.part_calls.proofs.inner.post.Goals as goal
 
 pub post_part-requires : goal.post_part-requires
-post_part-requires c = (c.in-Ok.ensures.board.low, c.requires)
+post_part-requires c = record { routed = c.in-Ok.ensures.board.routed; low = (c.in-Ok.ensures.board.low, c.requires) }
 
 pub returns-in-Ok : goal.returns-in-Ok
 returns-in-Ok c =

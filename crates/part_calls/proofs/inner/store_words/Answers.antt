@@ -2,13 +2,13 @@
 use Rattle.stages.proofs.Parts as parts
 use Rattle.part_calls.proofs.inner.store_words.Goals as goal
 
-pub copy_from_slice-requires : goal.copy_from_slice-requires
-copy_from_slice-requires c =
+pub copy_words-requires : goal.copy_words-requires
+copy_words-requires c =
     let A = c.args in
     parts.mid_length A.mail.now A.from _ c.requires
 
 pub returns : goal.returns
 returns c =
     let A = c.args in
-    let copied = c.copy_from_slice in
-    parts.back A.mail.now copied.new.self (λ _. A.words.now) A.from _ c.requires copied.ensures.len copied.ensures.after
+    let copied = c.copy_words in
+    parts.back A.mail.now copied.new.to (λ _. A.words.now) A.from _ c.requires copied.auto.to copied.ensures

@@ -9,5 +9,5 @@ pub returns : goal.returns
 returns c =
     let layout = c.args.table.now.layout in
     let g = c.requires in
-    calculated _ _ layout.sized.accepted layout.routed _ _ g.low g.mine _ _ g.kept_are g.own_are _ _ _ _ c.box_tile-number.ensures.0
+    calculated _ _ layout.sized.accepted c.args.table.now.tabled.routed _ _ g.low g.mine _ _ g.kept_are g.own_are _ _ _ _ c.box_tile-number.ensures.0
     g.memory c.calculate_box.ensures

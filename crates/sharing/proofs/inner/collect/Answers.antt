@@ -91,7 +91,7 @@ copy_cells-requires c =
     (reading.part_carries A.theirs c.requires.1 few2)) refl in
     let lengths = lines.lengths_are p A.source.now (tenant_areas (state_of A.memories.now A.buffer.now own A.status.now) A.engaged.now) other
     none.0 in
-    record { memories_len = (lengths.own.memories, c.if-grid-table.false ∙ table.layout.sized.cells) }
+    record { routed = table.tabled.routed; memories_len = (lengths.own.memories, c.if-grid-table.false ∙ table.layout.sized.cells) }
 
 pub returns : goal.returns
 returns c =

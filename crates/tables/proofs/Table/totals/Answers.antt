@@ -9,14 +9,14 @@ use Rattle.tables.proofs.Table.totals.Goals as goal
 
 pub overflow_mul-tiles_of : goal.overflow_mul-tiles_of
 overflow_mul-tiles_of c =
-    omega (arith, (slotted c.args.self.now.layout.nest c.args.self.now.layout.sizes c.args.self.now.layout.sized c.args.self.now.lens c.args.self.now.tabled c.tiles_of.result c.tiles_of.ensures.0).sheet.few)
+    omega (arith, (slotted c.args.self.now.layout.nest c.args.self.now.layout.sizes c.args.self.now.layout.sized c.args.self.now.lens.now c.args.self.now.tabled c.tiles_of.result c.tiles_of.ensures.0).sheet.few)
 
 pub sums_to-requires : goal.sums_to-requires
-sums_to-requires c = (slotted c.args.self.now.layout.nest c.args.self.now.layout.sizes c.args.self.now.layout.sized c.args.self.now.lens c.args.self.now.tabled c.tiles_of.result c.tiles_of.ensures.0).sheet
+sums_to-requires c = (slotted c.args.self.now.layout.nest c.args.self.now.layout.sizes c.args.self.now.layout.sized c.args.self.now.lens.now c.args.self.now.tabled c.tiles_of.result c.tiles_of.ensures.0).sheet
 
 pub returns : goal.returns
 returns c =
-    let s = slotted c.args.self.now.layout.nest c.args.self.now.layout.sizes c.args.self.now.layout.sized c.args.self.now.lens c.args.self.now.tabled c.tiles_of.result c.tiles_of.ensures.0 in
+    let s = slotted c.args.self.now.layout.nest c.args.self.now.layout.sizes c.args.self.now.layout.sized c.args.self.now.lens.now c.args.self.now.tabled c.tiles_of.result c.tiles_of.ensures.0 in
     let z = c.sums_to.ensures.1.1 s.slot s.lengths in
     let all = sym s.all in (
       z.number ∙ ap length all,

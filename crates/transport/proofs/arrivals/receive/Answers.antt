@@ -56,16 +56,16 @@ offset_bounds-buffer-offset c =
       taking.room c.args.table.now.layout.sizes.route c.args.table.now.layout.nest c.args.m nth.result nth.ensures c.args.buffer.now c.requires.buffer,
     )
 
-pub slice_bounds-copy_from_slice-start : goal.slice_bounds-copy_from_slice-start
-slice_bounds-copy_from_slice-start c = omega arith
+pub slice_bounds-copy_words-start : goal.slice_bounds-copy_words-start
+slice_bounds-copy_words-start c = omega arith
 
-pub slice_bounds-copy_from_slice-end : goal.slice_bounds-copy_from_slice-end
-slice_bounds-copy_from_slice-end c =
+pub slice_bounds-copy_words-end : goal.slice_bounds-copy_words-end
+slice_bounds-copy_words-end c =
     let nth = c.nth-place in
     taking.room c.args.table.now.layout.sizes.route c.args.table.now.layout.nest c.args.m nth.result nth.ensures c.args.buffer.now c.requires.buffer
 
-pub copy_from_slice-requires : goal.copy_from_slice-requires
-copy_from_slice-requires c =
+pub copy_words-requires : goal.copy_words-requires
+copy_words-requires c =
     let nth = c.nth-place in
     taking.place_long c.args.table.now.layout.sizes.route c.args.table.now.layout.nest c.args.m nth.result nth.ensures c.args.buffer.now c.requires.buffer
     ∙ sym (taking.long_here (plan_of c.args.table.now.layout.sizes.route c.args.table.now.layout.nest) c.args.m c.args.words.now
@@ -78,10 +78,10 @@ pub returns : goal.returns
 returns c =
     let line_at_lem = c.line_at-line in
     let nth = c.nth-place in
-    let copy = c.copy_from_slice in
+    let copy = c.copy_words in
     λ ms l. taking.taken_in (plan_of c.args.table.now.layout.sizes.route c.args.table.now.layout.nest) (state_of ms c.args.buffer.now l c.args.status.now)
     c.args.processor c.args.m c.args.words.now line_at_lem.result
     (line_at_lem.ensures ∙ ap (line_of (plan_of c.args.table.now.layout.sizes.route c.args.table.now.layout.nest)) nth.ensures.number)
     (omega (arith, c.if-m-status.false, c.requires.status)) c.if-line-processor.false c.if-status-m-ne0.false _ (taking.put_in c.args.table.now.layout.sizes.route c.args.table.now.layout.nest
-    c.args.m nth.result nth.ensures c.args.buffer.now c.requires.buffer c.args.words.now copy.new.self copy.auto.self
-    copy.ensures.after)
+    c.args.m nth.result nth.ensures c.args.buffer.now c.requires.buffer c.args.words.now copy.new.to copy.auto.to
+    copy.ensures)

@@ -17,7 +17,7 @@ overflow_mul-slots c =
 
 pub loop-slot-init : goal.loop-slot-init
 loop-slot-init c =
-    rows.pass_start c.args.table.now.layout.sizes.route c.args.table.now.layout.nest c.args.table.now.lens (c.tiles_of.result * c.args.table.now.layout.sizes.ways)
+    rows.pass_start c.args.table.now.layout.sizes.route c.args.table.now.layout.nest c.args.table.now.lens.now (c.tiles_of.result * c.args.table.now.layout.sizes.ways)
     c.args.out.now
 
 pub offset_bounds-table-slot : goal.offset_bounds-table-slot
@@ -45,7 +45,7 @@ put_row-requires c =
     let loop = c.loop-slot in
     let tiles-of = c.tiles_of in
     let from-words = c.from-words in record {
-      planned = rows.here c.args.table.now.layout.sizes.route c.args.table.now.layout.nest c.args.table.now.lens _ c.args.out.now loop.out loop.slot loop.number
+      planned = rows.here c.args.table.now.layout.sizes.route c.args.table.now.layout.nest c.args.table.now.lens.now _ c.args.out.now loop.out loop.slot loop.number
           loop.offset loop.invariant (rows.slots_of c.args.table.now tiles-of.result tiles-of.ensures.0) c.loop-slot-test.true from-words.result from-words.ensures c.if-words-ne0.true;
       out_len = (
         loop.invariant.told.long ∙ c.requires,
@@ -95,7 +95,7 @@ loop-slot-preserved c =
     let loop = c.loop-slot in
     let tiles-of = c.tiles_of in
     let from-words = c.from-words in
-    rows.pass_next c.args.table.now.layout.sizes.route c.args.table.now.layout.nest c.args.table.now.lens _ c.args.out.now loop.out loop.slot loop.number loop.offset
+    rows.pass_next c.args.table.now.layout.sizes.route c.args.table.now.layout.nest c.args.table.now.lens.now _ c.args.out.now loop.out loop.slot loop.number loop.offset
     loop.invariant (rows.slots_of c.args.table.now tiles-of.result tiles-of.ensures.0)
     c.loop-slot-test.true from-words.result from-words.ensures c.if-words-ne0.out c.if-words-ne0.number c.requires
     (elim c.if-words-ne0.branch [ then-words-ne0 w ↦ inl (w.if-words-ne0.true, (w.out-is ∙ w.put_row.ensures, w.number-is)) | else-words-ne0 w ↦ inr (w.if-words-ne0.false, (w.out-is, w.number-is)) ])
@@ -107,7 +107,7 @@ pub returns : goal.returns
 returns c =
     let loop = c.loop-slot in
     let tiles-of = c.tiles_of in
-    rows.pass_done c.args.table.now.layout.sizes.route c.args.table.now.layout.nest c.args.table.now.lens _ c.args.out.now loop.out loop.slot loop.number
+    rows.pass_done c.args.table.now.layout.sizes.route c.args.table.now.layout.nest c.args.table.now.lens.now _ c.args.out.now loop.out loop.slot loop.number
     loop.offset loop.invariant
     (rows.slots_of c.args.table.now tiles-of.result tiles-of.ensures.0)
     c.requires c.loop-slot-test.false

@@ -13,8 +13,8 @@ loop-r-init c = (
   ),
 )
 
-pub rank-number-requires : goal.rank-number-requires
-rank-number-requires c =
+pub rank_of-number-requires : goal.rank_of-number-requires
+rank_of-number-requires c =
     let p = c.requires in
     let g = given_next _ _ _ _ _ _ c.args.source.now c.args.memory.now _ _ _ _ _ p.1.0 _ _ _
     (c.loop-r.invariant.1.1 p.0 p.1.0) c.loop-r.r (omega (arith, c.loop-r.invariant.0)) in
@@ -25,7 +25,7 @@ row-requires c =
     let p = c.requires in
     let g = given_next _ _ _ _ _ _ c.args.source.now c.args.memory.now _ _ _ _ _ p.1.0 _ _ _
     (c.loop-r.invariant.1.1 p.0 p.1.0) c.loop-r.r (omega (arith, c.loop-r.invariant.0)) in
-    (p.0, given_row _ _ _ _ _ _ c.args.source.now c.loop-r.memory _ _ _ _ _ g _ c.rank-number.ensures)
+    (p.0, given_row _ _ _ _ _ _ c.args.source.now c.loop-r.memory _ _ _ _ _ g _ c.rank_of-number.ensures)
 
 pub advance-requires : goal.advance-requires
 advance-requires c =
@@ -42,10 +42,10 @@ loop-r-preserved c = (
     λ x p. let s = c.loop-r.invariant.1.1 x p in
         let g = given_next _ _ _ _ _ _ c.args.source.now c.args.memory.now _ _ _ _ _ p _ _ _ s c.loop-r.r
         (omega (arith, c.loop-r.invariant.0)) in let h = given_row _ _ _ _ _ _ c.args.source.now c.loop-r.memory _ _ _ _ _ g _
-        c.rank-number.ensures in given_more _ _ _ _ _ _ c.args.source.now c.args.memory.now _ _ _ _ _ p _ _ _ s
+        c.rank_of-number.ensures in given_more _ _ _ _ _ _ c.args.source.now c.args.memory.now _ _ _ _ _ p _ _ _ s
         c.loop-r.r 1 _
         (omega (arith, c.loop-r.invariant.0)) (omega (arith, c.loop-r.invariant.0)) _ _ (given_one _ _ _ _ _ _ c.args.source.now
-        c.loop-r.memory _ _ _ _ _ g _ c.rank-number.ensures _ _ (c.row.ensures x h) c.advance.ensures),
+        c.loop-r.memory _ _ _ _ _ g _ c.rank_of-number.ensures _ _ (c.row.ensures x h) c.advance.ensures),
   ),
 )
 

@@ -19,6 +19,7 @@ slice_bounds-own_cells-end c =
 pub own_cells-requires : goal.own_cells-requires
 own_cells-requires c =
     let A = c.args in record {
+      routed = c.args.table.now.tabled.routed;
       low = c.requires.planned.0;
       owned_len = (
         front.lent_long A.table.now.layout.nest A.table.now.layout.sizes A.b c.args.table.now.layout.sized (replicate {A = ℕ}

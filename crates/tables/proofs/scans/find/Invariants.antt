@@ -1,8 +1,8 @@
--- `tables::scans::nth` meets its contract: the message is not among the slots before.
+-- `tables::scans::find` meets its contract: the message is not among the slots before.
 use Prim.Native.Nat.{ℕ, ◌*◌, ◌≤◌}
 use Rattle.machine.specs.Plan.{Message}
 use Rattle.tables.specs.scans.Scans.{Lengths, Summing}
-use Rattle.tables.proofs.scans.nth.Given as goal
+use Rattle.tables.proofs.scans.find.Given as goal
 
 abbrev pub invariant-loop-slot : goal.invariant-loop-slot
 invariant-loop-slot l =

@@ -1,7 +1,0 @@
--- `layout::cell_of` meets its contract.
-use mathlib.Core.Path.{refl}
-use Rattle.layout.proofs.Cells.{lengths_places, placed_cell}
-use Rattle.layout.proofs.Layout.cell_of.Goals as goal
-
-pub returns : goal.returns
-returns c = record { low = c.requires; number = refl; place = placed_cell _ c.args.self.now.sized.accepted _ _ c.place.ensures }
