@@ -126,9 +126,9 @@ fn met(lower: bool, level: usize, raised: usize) -> bool
 }
 
 // What a bound leaves of a row: of the last dimension its part below or above, of another dimension all or nothing.
-fn cut(nest: Nest, at: &[usize; 4], k: usize, s: Interval) -> Interval
-    requires { Framed nest × ((k < nest.bounds) × Narrow nest at.now) }
-    ensures { Cuts nest at.now k s result }
+fn cut(nest: &Nest, at: &[usize; 4], k: usize, s: Interval) -> Interval
+    requires { Framed nest.now × ((k < nest.now.bounds) × Narrow nest.now at.now) }
+    ensures { Cuts nest.now at.now k s result }
 {
     let sides = nest.sides;
     let bounded = nest.bounded;
@@ -149,19 +149,28 @@ fn cut(nest: Nest, at: &[usize; 4], k: usize, s: Interval) -> Interval
     below(s, level, base)
 }
 
-// The cells of a row that are in the shape: one span.
-pub fn span(nest: Nest, at: [usize; 4]) -> Interval
-    requires { Framed nest × Narrow nest at }
-    ensures { Spans nest at result }
+// The cells of a row that are in the shape: one span. The nest goes by reference, since a row of a shape asks for several spans, and a nest by value
+// is copied for each.
+pub fn span_of(nest: &Nest, at: &[usize; 4]) -> Interval
+    requires { Framed nest.now × Narrow nest.now at.now }
+    ensures { Spans nest.now at.now result }
 {
     let mut left = Interval {
         from: 0,
         to: nest.lengths[nest.dimensions - 1],
     };
     for k in 0..nest.bounds {
-        left = cut(nest, &at, k, left);
+        left = cut(nest, at, k, left);
     }
     left
+}
+
+// The same of a nest and a place by value.
+pub fn span(nest: Nest, at: [usize; 4]) -> Interval
+    requires { Framed nest × Narrow nest at }
+    ensures { Spans nest at result }
+{
+    span_of(&nest, &at)
 }
 
 // Writes the place of number n over the first `left` dimensions: the inverse of a rank, by the same recursion.
@@ -236,7 +245,7 @@ pub fn mark_row(nest: Nest, q: usize, marks: &mut [u8])
     ensures { RowMarked nest q marks.old marks.new }
 {
     let at = row_place(nest, q);
-    let s = span(nest, at);
+    let s = span_of(&nest, &at);
     if s.from < s.to {
         let first = tile_at(nest, &at);
         let length = nest.tiling[nest.dimensions - 1];

@@ -62,7 +62,7 @@ fn reach_of(
         return Interval { from: 0, to: 0 };
     }
     let to = ahead_of(nest, components, at, e);
-    let far = nest::span(nest, to);
+    let far = nest::span_of(&nest, &to);
     let last = nest.dimensions - 1;
     let d = components[4 * e + last];
     Interval {
@@ -112,7 +112,7 @@ pub fn row_of(nest: Nest, components: &[usize; 32], rows: Sending, r: usize) -> 
 {
     let block = rows.block;
     let at = layout::place(block.lengths, block.corner, r, nest.dimensions - 1);
-    let own = nest::span(nest, at);
+    let own = nest::span_of(&nest, &at);
     runs_of(nest, components, rows.window, at, own)
 }
 

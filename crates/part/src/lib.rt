@@ -43,7 +43,7 @@ fn mark_row(nest: Nest, q: usize, marks: &mut [u8])
     ensures { Shown nest (q * row_cells nest) (q * row_cells nest + row_cells nest) marks.old marks.new }
 {
     let at = nest::row_place(nest, q);
-    let s = nest::span(nest, at);
+    let s = nest::span_of(&nest, &at);
     if s.from < s.to {
         let c = q * nest.lengths[nest.dimensions - 1];
         nest::mark(marks, c + s.from, c + s.to);

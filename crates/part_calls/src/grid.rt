@@ -59,7 +59,7 @@ fn put_outside(layout: &Layout, grid: &mut [u32])
     for q in 0..rows {
         let c = q * width;
         let at = nest::row_place(layout.nest, q);
-        let own = nest::span(layout.nest, at);
+        let own = nest::span_of(&layout.nest, &at);
         let end = c + width;
         outside_row(&mut grid[c..end], own, boundary);
     }

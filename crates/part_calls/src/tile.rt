@@ -167,7 +167,7 @@ fn row_in(
 {
     let at = cell.place;
     let component = at[nest.dimensions - 1];
-    let own = nest::span(nest, at);
+    let own = nest::span_of(&nest, &at);
     let cut = overlap(own, component, width);
     let few = cut.to - cut.from;
     if few == 0 {

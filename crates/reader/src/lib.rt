@@ -21,7 +21,8 @@ use crate::fields::{
 use base::refusal::Refusal;
 use nest::division::tiles_along;
 use nest::{
-    MOST_CELLS, MOST_PROCESSORS, MOST_TILES, Nest, mark_row, product_of, row_count, row_place, span,
+    MOST_CELLS, MOST_PROCESSORS, MOST_TILES, Nest, mark_row, product_of, row_count, row_place,
+    span_of,
 };
 
 pub mod distance_fields; // distance_fields.rt: a distance's record of either kind, and line 18
@@ -114,7 +115,7 @@ fn has_cell(nest: Nest) -> bool
     let rows = row_count(nest);
     for q in 0..rows {
         let at = row_place(nest, q);
-        let s = span(nest, at);
+        let s = span_of(&nest, &at);
         if s.from < s.to {
             return true;
         }

@@ -152,7 +152,7 @@ fn read_of(nest: Nest, components: &[usize; 32], at: [usize; 4], e: usize) -> In
         return Interval { from: 0, to: 0 };
     }
     let to = behind_of(nest, components, at, e);
-    let far = nest::span(nest, to);
+    let far = nest::span_of(&nest, &to);
     if far.to <= far.from {
         return Interval { from: 0, to: 0 };
     }
@@ -227,7 +227,7 @@ fn row(
 {
     let at = cell.place;
     let component = at[nest.dimensions - 1];
-    let own = nest::span(nest, at);
+    let own = nest::span_of(&nest, &at);
     let kept = overlap(own, component, width);
     let from = kept.from;
     let few = kept.to - from;
@@ -342,7 +342,7 @@ fn copy_row(layout: &Layout, memories: &[u32], grid: &mut [u32], cell: Cell, wid
         (row_of cell.number width) }
 {
     let at = cell.place;
-    let own = nest::span(layout.nest, at);
+    let own = nest::span_of(&layout.nest, &at);
     let kept = overlap(own, 0, width);
     let tile = layout.tile_of(cell.number);
     let processor = layout.processor_of(tile);

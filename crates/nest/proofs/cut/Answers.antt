@@ -15,13 +15,13 @@ pub bounds-earlier-k : goal.bounds-earlier-k
 bounds-earlier-k c = omega (arith, c.requires.1.0, c.requires.0.bounds_most)
 
 pub overflow_cast-before : goal.overflow_cast-before
-overflow_cast-before c = omega (arith, C.before_four c.args.nest c.requires.0 c.args.at.now c.args.k c.requires.1.0)
+overflow_cast-before c = omega (arith, C.before_four c.args.nest.now c.requires.0 c.args.at.now c.args.k c.requires.1.0)
 
 pub offset_bounds-at-earlier : goal.offset_bounds-at-earlier
-offset_bounds-at-earlier c = omega (arith, C.before_four c.args.nest c.requires.0 c.args.at.now c.args.k c.requires.1.0)
+offset_bounds-at-earlier c = omega (arith, C.before_four c.args.nest.now c.requires.0 c.args.at.now c.args.k c.requires.1.0)
 
 pub bounds-at-earlier : goal.bounds-at-earlier
-bounds-at-earlier c = omega (arith, C.before_four c.args.nest c.requires.0 c.args.at.now c.args.k c.requires.1.0)
+bounds-at-earlier c = omega (arith, C.before_four c.args.nest.now c.requires.0 c.args.at.now c.args.k c.requires.1.0)
 
 pub bounds-slopes-k : goal.bounds-slopes-k
 bounds-slopes-k c = omega (arith, c.requires.1.0, c.requires.0.bounds_most)
@@ -30,7 +30,7 @@ pub overflow_cast-level : goal.overflow_cast-level
 overflow_cast-level c = omega (arith, c.requires.0.slope_most c.args.k)
 
 pub overflow_mul-level : goal.overflow_mul-level
-overflow_mul-level c = omega (arith, C.line_room c.args.nest c.requires.0 c.args.at.now c.args.k c.requires.1.0 c.requires.1.1)
+overflow_mul-level c = omega (arith, C.line_room c.args.nest.now c.requires.0 c.args.at.now c.args.k c.requires.1.0 c.requires.1.1)
 
 pub offset_bounds-offsets-k : goal.offset_bounds-offsets-k
 offset_bounds-offsets-k c = omega (arith, c.requires.1.0, c.requires.0.bounds_most)
@@ -45,12 +45,12 @@ pub overflow_add-level : goal.overflow_add-level
 overflow_add-level c =
     omega (
       arith,
-      C.line_room c.args.nest c.requires.0 c.args.at.now c.args.k c.requires.1.0 c.requires.1.1,
+      C.line_room c.args.nest.now c.requires.0 c.args.at.now c.args.k c.requires.1.0 c.requires.1.1,
       c.requires.0.offset_most c.args.k,
     )
 
 pub overflow_add-base : goal.overflow_add-base
-overflow_add-base c = omega (arith, C.base_room c.args.nest c.requires.0 c.args.at.now c.args.k c.requires.1.0 c.requires.1.1)
+overflow_add-base c = omega (arith, C.base_room c.args.nest.now c.requires.0 c.args.at.now c.args.k c.requires.1.0 c.requires.1.1)
 
 pub bounds-sides-k : goal.bounds-sides-k
 bounds-sides-k c = omega (arith, c.requires.1.0, c.requires.0.bounds_most)
@@ -68,21 +68,21 @@ pub overflow_add-at : goal.overflow_add-at
 overflow_add-at c =
     omega (
       arith,
-      C.base_room c.args.nest c.requires.0 c.args.at.now c.args.k c.requires.1.0 c.requires.1.1,
+      C.base_room c.args.nest.now c.requires.0 c.args.at.now c.args.k c.requires.1.0 c.requires.1.1,
       c.requires.1.1 _ (c.requires.0.bounded_low _ c.requires.1.0),
     )
 
 pub returns-then-j-nest : goal.returns-then-j-nest
 returns-then-j-nest c =
-    C.cut_other c.args.nest c.requires.0 c.args.at.now c.args.k c.requires.1.0 _ _ _ _
+    C.cut_other c.args.nest.now c.requires.0 c.args.at.now c.args.k c.requires.1.0 _ _ _ _
     c.if-j-nest.true refl c.met.ensures c.kept.ensures
 
 pub returns-then-lower : goal.returns-then-lower
 returns-then-lower c =
-    C.cut_lower c.args.nest c.requires.0 c.args.at.now c.args.k c.requires.1.0 _ _ _
+    C.cut_lower c.args.nest.now c.requires.0 c.args.at.now c.args.k c.requires.1.0 _ _ _
     c.if-j-nest.false refl (eq-eqb _ _ c.if-lower.true) c.above.ensures
 
 pub returns : goal.returns
 returns c =
-    C.cut_upper c.args.nest c.requires.0 c.args.at.now c.args.k c.requires.1.0 _ _ _
+    C.cut_upper c.args.nest.now c.requires.0 c.args.at.now c.args.k c.requires.1.0 _ _ _
     c.if-j-nest.false refl (ne_eqb _ _ c.if-lower.false) c.below.ensures

@@ -9,13 +9,13 @@ tile_at-first-requires c = (c.requires.0, S.row_inside c.args.nest c.requires.0.
 pub tile_along-from-requires : goal.tile_along-from-requires
 tile_along-from-requires c =
     let ends = S.row_ends c.args.nest c.requires.0.0 c.requires.0.1 c.args.q _ _ c.row_place-at.ensures
-    c.span-s.ensures c.if-s.true in
+    c.span_of-s.ensures c.if-s.true in
     (ends.0, (c.requires.0.1 _ (omega (arith, c.requires.0.0.dimensions_least)), c.requires.0.0.tile_wide _))
 
 pub tile_along-to-requires : goal.tile_along-to-requires
 tile_along-to-requires c =
     let ends = S.row_ends c.args.nest c.requires.0.0 c.requires.0.1 c.args.q _ _ c.row_place-at.ensures
-    c.span-s.ensures c.if-s.true in
+    c.span_of-s.ensures c.if-s.true in
     (ends.1, (c.requires.0.1 _ (omega (arith, c.requires.0.0.dimensions_least)), c.requires.0.0.tile_wide _))
 
 pub overflow_add-first : goal.overflow_add-first
@@ -26,9 +26,9 @@ overflow_add-first c =
       fits = omega (
         arith,
         S.told_order c.args.nest c.requires.0.0 c.requires.0.1 c.args.q _ _ c.row_place-at.ensures
-            c.span-s.ensures _ _ _ c.tile_at-first.ensures from.ensures to.ensures c.if-s.true,
+            c.span_of-s.ensures _ _ _ c.tile_at-first.ensures from.ensures to.ensures c.if-s.true,
         S.told_fits c.args.nest c.requires.0.0 c.requires.0.1 c.args.q _ _ c.row_place-at.ensures
-            c.span-s.ensures _ _ _ c.tile_at-first.ensures from.ensures to.ensures c.if-s.true,
+            c.span_of-s.ensures _ _ _ c.tile_at-first.ensures from.ensures to.ensures c.if-s.true,
       );
     }
 
@@ -40,7 +40,7 @@ overflow_add-first-then-s c =
       fits = omega (
         arith,
         S.told_fits c.args.nest c.requires.0.0 c.requires.0.1 c.args.q _ _ c.row_place-at.ensures
-            c.span-s.ensures _ _ _ c.tile_at-first.ensures from.ensures to.ensures c.if-s.true,
+            c.span_of-s.ensures _ _ _ c.tile_at-first.ensures from.ensures to.ensures c.if-s.true,
       );
     }
 
@@ -52,7 +52,7 @@ overflow_add-first-then-s-2 c =
       fits = omega (
         arith,
         S.told_fits c.args.nest c.requires.0.0 c.requires.0.1 c.args.q _ _ c.row_place-at.ensures
-            c.span-s.ensures _ _ _ c.tile_at-first.ensures from.ensures to.ensures c.if-s.true,
+            c.span_of-s.ensures _ _ _ c.tile_at-first.ensures from.ensures to.ensures c.if-s.true,
       );
     }
 
@@ -63,12 +63,12 @@ mark-requires c =
       omega (
         arith,
         S.told_order c.args.nest c.requires.0.0 c.requires.0.1 c.args.q _ _ c.row_place-at.ensures
-            c.span-s.ensures _ _ _ c.tile_at-first.ensures from.ensures to.ensures c.if-s.true,
+            c.span_of-s.ensures _ _ _ c.tile_at-first.ensures from.ensures to.ensures c.if-s.true,
       ),
       omega (
         arith,
         S.told_room c.args.nest c.requires.0.0 c.requires.0.1 c.args.q _ _ c.row_place-at.ensures
-            c.span-s.ensures _ _ _ c.tile_at-first.ensures from.ensures to.ensures c.if-s.true,
+            c.span_of-s.ensures _ _ _ c.tile_at-first.ensures from.ensures to.ensures c.if-s.true,
         c.requires.1.1,
       ),
     )
@@ -78,9 +78,9 @@ returns-then-s c =
     let to = c.tile_along-to in
     let from = c.tile_along-from in
     S.marked_row_by c.args.nest c.requires.0.0 c.requires.0.1 c.args.q _ _ c.row_place-at.ensures
-    c.span-s.ensures _ _ _ c.tile_at-first.ensures from.ensures to.ensures c.if-s.true _ _ c.mark.ensures
+    c.span_of-s.ensures _ _ _ c.tile_at-first.ensures from.ensures to.ensures c.if-s.true _ _ c.mark.ensures
 
 pub returns-else-s : goal.returns-else-s
 returns-else-s c =
     S.marked_none c.args.nest c.requires.0.0 c.requires.0.1 c.args.q _ _ c.row_place-at.ensures
-    c.span-s.ensures _ c.if-s.false
+    c.span_of-s.ensures _ c.if-s.false

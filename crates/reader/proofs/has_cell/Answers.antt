@@ -17,12 +17,12 @@ loop-q-init c = (omega arith, S.no_row _ c.requires)
 pub row_place-at-requires : goal.row_place-at-requires
 row_place-at-requires c = c.requires
 
-pub span-s-requires : goal.span-s-requires
-span-s-requires c = (c.requires, c.row_place-at.ensures.narrow)
+pub span_of-s-requires : goal.span_of-s-requires
+span_of-s-requires c = (c.requires, c.row_place-at.ensures.narrow)
 
 pub returns-then-s : goal.returns-then-s
 returns-then-s c =
-    sym (S.rows_some _ c.requires c.loop-q.q _ _ _ c.row_place-at.ensures c.span-s.ensures c.if-s.true
+    sym (S.rows_some _ c.requires c.loop-q.q _ _ _ c.row_place-at.ensures c.span_of-s.ensures c.if-s.true
     c.loop-q-test.true c.row_count-rows.ensures)
 
 pub overflow_step-q : goal.overflow_step-q
@@ -34,7 +34,7 @@ loop-q-smaller c = omega (arith, c.loop-q-test.true)
 pub loop-q-preserved : goal.loop-q-preserved
 loop-q-preserved c = (
   omega (arith, c.loop-q-test.true),
-  S.rows_none _ c.requires _ _ _ c.row_place-at.ensures c.span-s.ensures
+  S.rows_none _ c.requires _ _ _ c.row_place-at.ensures c.span_of-s.ensures
       c.if-s.false c.loop-q.invariant.1,
 )
 

@@ -44,8 +44,8 @@ overflow_mul-c c =
 pub row_place-at-requires : goal.row_place-at-requires
 row_place-at-requires c = framed _ c.args.layout.now.sized.accepted
 
-pub span-own-requires : goal.span-own-requires
-span-own-requires c =
+pub span_of-own-requires : goal.span_of-own-requires
+span_of-own-requires c =
     let row_place = c.row_place-at in
     (framed _ c.args.layout.now.sized.accepted, row_place.ensures.narrow)
 
@@ -127,7 +127,7 @@ loop-q-preserved c =
     let A = c.args in
     let loop = c.loop-q in
     let row_place = c.row_place-at in
-    let span = c.span-own in
+    let span = c.span_of-own in
     let outside_row = c.outside_row in
     let row_count = c.row_count-rows in (
       omega (arith, loop-test.true),

@@ -23,21 +23,21 @@ behind_of-to-requires c =
       );
     }
 
-pub span-far-requires : goal.span-far-requires
-span-far-requires c = (framed _ c.requires.0, c.behind_of-to.ensures.1)
+pub span_of-far-requires : goal.span_of-far-requires
+span_of-far-requires c = (framed _ c.requires.0, c.behind_of-to.ensures.1)
 
 pub returns-then-far : goal.returns-then-far
 returns-then-far c =
     read_empty _ c.requires.0 _ _ _ _ (read_some _ c.requires.0 _ _ (λ z. c.if-d-eq1024.false
     ((c.first_of-d.ensures c.args.nest (c.requires.0, (c.requires.1.0, c.requires.1.1.0))) ∙ z))).0 c.behind_of-to.ensures.0
-    c.span-far.ensures c.if-far.true
+    c.span_of-far.ensures c.if-far.true
 
 pub overflow_add-result : goal.overflow_add-result
 overflow_add-result c =
     omega (
       arith,
       c.if-far.false,
-      c.span-far.ensures.most,
+      c.span_of-far.ensures.most,
       c.requires.0.length_most (c.args.nest.dimensions - 1),
       first_most _ c.requires.0 _ _ _
           (c.first_of-d.ensures c.args.nest (c.requires.0, (c.requires.1.0, c.requires.1.1.0))),
@@ -47,7 +47,7 @@ pub overflow_add-result-2 : goal.overflow_add-result-2
 overflow_add-result-2 c =
     omega (
       arith,
-      c.span-far.ensures.most,
+      c.span_of-far.ensures.most,
       c.requires.0.length_most (c.args.nest.dimensions - 1),
       first_most _ c.requires.0 _ _ _
           (c.first_of-d.ensures c.args.nest (c.requires.0, (c.requires.1.0, c.requires.1.1.0))),
@@ -56,5 +56,5 @@ overflow_add-result-2 c =
 pub returns : goal.returns
 returns c =
     let r = read_some _ c.requires.0 _ _ (λ z. c.if-d-eq1024.false ((c.first_of-d.ensures c.args.nest (c.requires.0, (c.requires.1.0, c.requires.1.1.0)))
-    ∙ z)) in read_made _ c.requires.0 _ _ _ _ r.0 c.behind_of-to.ensures.0 c.span-far.ensures _ r.1
+    ∙ z)) in read_made _ c.requires.0 _ _ _ _ r.0 c.behind_of-to.ensures.0 c.span_of-far.ensures _ r.1
     (c.first_of-d.ensures c.args.nest (c.requires.0, (c.requires.1.0, c.requires.1.1.0)))

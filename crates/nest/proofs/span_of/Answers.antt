@@ -1,6 +1,6 @@
--- `nest::span` meets its contract: each bound cuts what those before it left.
+-- `nest::span_of` meets its contract: each bound cuts what those before it left.
 use Rattle.nest.proofs.Cuts as C
-use Rattle.nest.proofs.span.Goals as goal
+use Rattle.nest.proofs.span_of.Goals as goal
 
 pub loop-k-init : goal.loop-k-init
 loop-k-init c = C.cutting_start _ _
